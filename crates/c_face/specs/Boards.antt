@@ -6,6 +6,7 @@ use lib.ListN.{getD, length}
 use Rattle.ground.specs.Flags.{oneIf}
 use Rattle.ground.specs.Plain.{if_then_else_, _==_, _<?_}
 use Rattle.ground.specs.Table.{tabulate}
+use Rattle.ground.specs.Types.{Bytes}
 use Rattle.sender.specs.Board.{boardOf}
 use Rattle.sender.specs.declared.board.Board.{Board}
 use Rattle.sender.specs.declared.ranks.Ranks.{Ranks}
@@ -34,21 +35,21 @@ ranksBytes = 68
 unfoldable pub ranksBytesOf : Ranks → List ℕ
 ranksBytesOf r = tabulate ranksBytes (rankByte r)
 
-abbrev pub bothSized : (n : ℕ) (state out : List ℕ) → Bool
+abbrev pub bothSized : (n : ℕ) (state out : Bytes) → Bool
 bothSized n state out = isState state && length out == n
 
-unfoldable pub shownAnswerC : (n : ℕ) (state out : List ℕ) → ℕ
+unfoldable pub shownAnswerC : (n : ℕ) (state out : Bytes) → ℕ
 shownAnswerC n state out = if bothSized n state out then 0 else 9
 
 -- under 9 the buffer stays
-unfoldable pub shownBytes : (n : ℕ) (state new out : List ℕ) → List ℕ
+unfoldable pub shownBytes : (n : ℕ) (state new out : Bytes) → Bytes
 shownBytes n state new out = if bothSized n state out then new else out
 
-abbrev pub boardBytesC : List ℕ → List ℕ → List ℕ
+abbrev pub boardBytesC : Bytes → Bytes → Bytes
 boardBytesC state out = shownBytes boardBytes state (boardBytesOf (boardOf (senderOf state .table))) out
 
-abbrev pub outgoingBytesC : List ℕ → List ℕ → List ℕ
+abbrev pub outgoingBytesC : Bytes → Bytes → Bytes
 outgoingBytesC state out = shownBytes boardBytes state (boardBytesOf (senderOf state .outgoing)) out
 
-abbrev pub ranksBytesC : List ℕ → List ℕ → List ℕ
+abbrev pub ranksBytesC : Bytes → Bytes → Bytes
 ranksBytesC state out = shownBytes ranksBytes state (ranksBytesOf (ranksOf (senderOf state))) out

@@ -6,6 +6,7 @@ use Prim.Native.Nat.{ℕ, _+_, _-_, _*_, _/_, _%_}
 use lib.ListN.{getD, length}
 use Rattle.ground.specs.Plain.{if_then_else_, _==_, _<?_}
 use Rattle.ground.specs.Table.{tabulate}
+use Rattle.ground.specs.Types.{Bytes}
 use Rattle.sender.specs.Board.{word}
 use Rattle.sender.specs.declared.board.Board.{Board}
 use Rattle.sender.specs.declared.board.Row.{Row}
@@ -20,42 +21,42 @@ use Rattle.spoken.specs.Speaking.{SPEECH-ROOM, speechBytes, speechOf}
 use Rattle.c_face.specs.Boards.{boardBytes, boardBytesOf}
 use Rattle.c_face.specs.Keeping.{boardIn}
 
-abbrev pub isBoard : List ℕ → Bool
+abbrev pub isBoard : Bytes → Bool
 isBoard bytes = length bytes == boardBytes
 
 abbrev pub changesBytes : ℕ
 changesBytes = 322
 
-abbrev pub areChanges : List ℕ → Bool
+abbrev pub areChanges : Bytes → Bool
 areChanges bytes = length bytes == changesBytes
 
 -- Reading. Any bytes are a board.
 
-abbrev pub boardFrom : List ℕ → Board
+abbrev pub boardFrom : Bytes → Board
 boardFrom bytes = boardIn bytes 2 (getD bytes 0 0) (getD bytes 1 0)
 
-abbrev rowFrom : List ℕ → ℕ → Row
+abbrev rowFrom : Bytes → ℕ → Row
 rowFrom bytes k = record { word = word (getD bytes k 0); number = getD bytes (k + 1) 0 }
 
-abbrev pub changeFrom : List ℕ → ℕ → Change
+abbrev pub changeFrom : Bytes → ℕ → Change
 changeFrom bytes i = record { slot = getD bytes (2 + 5 * i) 0; old = rowFrom bytes (2 + 5 * i + 1); new = rowFrom bytes (2 + 5 * i + 3) }
 
-unfoldable pub listFrom : List ℕ → List Change
+unfoldable pub listFrom : Bytes → List Change
 listFrom bytes = tabulate 64 (changeFrom bytes)
 
 abbrev pub waitFrom : ℕ → WaitChange
 waitFrom byte = if byte == 1 then Opened else if byte == 2 then Closed else Same
 
 -- a wait byte above 2 says nothing that a board could be told
-abbrev pub isWait : List ℕ → Bool
+abbrev pub isWait : Bytes → Bool
 isWait bytes = getD bytes 1 0 <? 3
 
-unfoldable pub changesFrom : List ℕ → Changes
+unfoldable pub changesFrom : Bytes → Changes
 changesFrom bytes = record { list = listFrom bytes; count = getD bytes 0 0; wait = waitFrom (getD bytes 1 0) }
 
 -- Writing.
 
-abbrev pub changeBytes : Change → List ℕ
+abbrev pub changeBytes : Change → Bytes
 changeBytes c = c .slot ∷ c .old .word .0 ∷ c .old .number ∷ c .new .word .0 ∷ c .new .number ∷ []
 
 abbrev pub listByte : List Change → ℕ → ℕ
@@ -69,32 +70,32 @@ changesBytesOf cs = tabulate changesBytes (changesByte cs)
 
 -- The calls: 9 and then the crate's own answer; under a refusal every lent byte stays.
 
-unfoldable pub comparedAnswerC : (old new out : List ℕ) → ℕ
+unfoldable pub comparedAnswerC : (old new out : Bytes) → ℕ
 comparedAnswerC old new out =
     if isBoard old && isBoard new && areChanges out then answerNumber (comparedOf (boardFrom old) (boardFrom new) .answer) else 9
 
-unfoldable pub comparedBytesC : (old new out : List ℕ) → List ℕ
+unfoldable pub comparedBytesC : (old new out : Bytes) → Bytes
 comparedBytesC old new out =
     if comparedAnswerC old new out == 0 then changesBytesOf (comparedOf (boardFrom old) (boardFrom new) .changes) else out
 
-unfoldable pub appliedAnswerC : List ℕ → List ℕ → ℕ
+unfoldable pub appliedAnswerC : Bytes → Bytes → ℕ
 appliedAnswerC board changes =
     if isBoard board && areChanges changes then (if isWait changes then answerNumber (appliedOf (boardFrom board) (changesFrom changes) .answer) else 2) else 9
 
-unfoldable pub appliedBytesC : List ℕ → List ℕ → List ℕ
+unfoldable pub appliedBytesC : Bytes → Bytes → Bytes
 appliedBytesC board changes =
     if appliedAnswerC board changes == 0 then boardBytesOf (appliedOf (boardFrom board) (changesFrom changes) .board) else board
 
-abbrev pub roomy : List ℕ → List ℕ → Bool
+abbrev pub roomy : Bytes → Bytes → Bool
 roomy changes text = areChanges changes && not (length text <? SPEECH-ROOM)
 
-unfoldable pub spokenAnswerC : List ℕ → List ℕ → ℕ
+unfoldable pub spokenAnswerC : Bytes → Bytes → ℕ
 spokenAnswerC changes text =
     if roomy changes text then (if isWait changes then answerNumber (speechOf (changesFrom changes) text .answer) else 2) else 9
 
-unfoldable pub spokenBytesC : List ℕ → List ℕ → List ℕ
+unfoldable pub spokenBytesC : Bytes → Bytes → Bytes
 spokenBytesC changes text = if roomy changes text && isWait changes then speechBytes (changesFrom changes) text else text
 
 -- how many bytes were written; under a refusal the number stays
-unfoldable pub writtenC : (changes text : List ℕ) (written : ℕ) → ℕ
+unfoldable pub writtenC : (changes text : Bytes) (written : ℕ) → ℕ
 writtenC changes text written = if spokenAnswerC changes text == 0 then speechOf (changesFrom changes) text .written else written

@@ -6,6 +6,7 @@ use lib.ListN.{getD}
 use Rattle.ground.specs.Flags.{flagOf, oneIf}
 use Rattle.ground.specs.Plain.{if_then_else_, _==_, _<?_}
 use Rattle.ground.specs.Table.{tabulate}
+use Rattle.ground.specs.Types.{Bytes}
 use Rattle.sender.specs.Board.{word}
 use Rattle.sender.specs.declared.board.Board.{Board}
 use Rattle.sender.specs.declared.board.Row.{Row}
@@ -21,7 +22,7 @@ use Rattle.sender.specs.Table.{slotAt}
 abbrev pub stateBytes : ℕ
 stateBytes = 397
 
-abbrev byteIn : List ℕ → ℕ → ℕ
+abbrev byteIn : Bytes → ℕ → ℕ
 byteIn bytes k = getD bytes k 0
 
 -- a state byte other than 1, 2 and 3 counts as IDLE
@@ -36,26 +37,26 @@ codeOf Dnu = 3
 
 -- Reading.
 
-abbrev pub slotIn : List ℕ → ℕ → Slot
+abbrev pub slotIn : Bytes → ℕ → Slot
 slotIn bytes i = record { state = stateOf (byteIn bytes (2 * i)); number = byteIn bytes (2 * i + 1) }
 
-unfoldable pub slotsIn : List ℕ → List Slot
+unfoldable pub slotsIn : Bytes → List Slot
 slotsIn bytes = tabulate 64 (slotIn bytes)
 
-abbrev pub rowIn : (bytes : List ℕ) (at i : ℕ) → Row
+abbrev pub rowIn : (bytes : Bytes) (at i : ℕ) → Row
 rowIn bytes at i = record { word = word (byteIn bytes (at + 2 * i)); number = byteIn bytes (at + 2 * i + 1) }
 
-unfoldable pub rowsIn : List ℕ → ℕ → List Row
+unfoldable pub rowsIn : Bytes → ℕ → List Row
 rowsIn bytes at = tabulate 64 (rowIn bytes at)
 
-abbrev pub tableIn : List ℕ → Table
+abbrev pub tableIn : Bytes → Table
 tableIn bytes =
     record { slots = slotsIn bytes; count = byteIn bytes 384; wait = flagOf (byteIn bytes 385); bit = byteIn bytes 386; kind = byteIn bytes 387 }
 
-abbrev pub boardIn : (bytes : List ℕ) (at count wait : ℕ) → Board
+abbrev pub boardIn : (bytes : Bytes) (at count wait : ℕ) → Board
 boardIn bytes at count wait = record { rows = rowsIn bytes at; count = count; wait = flagOf wait }
 
-unfoldable pub senderOf : List ℕ → Sender
+unfoldable pub senderOf : Bytes → Sender
 senderOf bytes =
     record {
       table = tableIn bytes;
@@ -82,7 +83,7 @@ rowByte r side = if side == 0 then r .word .0 else r .number
 abbrev pub rowsByte : List Row → ℕ → ℕ
 rowsByte rows k = rowByte (rowAt rows (k / 2)) (k % 2)
 
-abbrev pub fieldBytes : Sender → List ℕ
+abbrev pub fieldBytes : Sender → Bytes
 fieldBytes s =
     s .table .count
     ∷ oneIf (s .table .wait)
@@ -106,5 +107,5 @@ byteAt s k =
     else if k <? 384 then rowsByte (s .ruling .rows) (k - 256)
     else getD (fieldBytes s) (k - 384) 0
 
-unfoldable pub bytesOf : Sender → List ℕ
+unfoldable pub bytesOf : Sender → Bytes
 bytesOf s = tabulate stateBytes (byteAt s)

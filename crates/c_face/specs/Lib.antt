@@ -4,6 +4,7 @@ pub mod Changes
 pub mod Keeping
 pub mod Laws
 pub mod Mends
+pub mod Opened
 pub mod Orders
 pub mod Packets
 pub mod Payloads

@@ -4,6 +4,7 @@ use mathlib.Core.List.{List, [], _∷_}
 use Prim.Native.Nat.{ℕ, _/_, _%_, _^_}
 use lib.ListN.{length}
 use Rattle.ground.specs.Plain.{if_then_else_, _==_, _<?_}
+use Rattle.ground.specs.Types.{Bytes, Epoch}
 use Rattle.packet.specs.declared.layout.Fields.{Fields}
 use Rattle.packet.specs.declared.reader.Reading.{Reading}
 use Rattle.packet.specs.declared.reader.Reading.the-variants.{Packet, Length, Crc, Fixed, Unassigned}
@@ -15,19 +16,19 @@ use Rattle.packet.specs.Vc12.{readVc12Answer, writeVc12Answer, writeVc12Bytes}
 use Rattle.packet.specs.Writing.{writeAnswer, writeBytes, writingNumber}
 
 -- the fields that a C call gives, in its order
-abbrev pub given : (epoch word gid mst ack sq reserved : ℕ) → Fields
+abbrev pub given : (epoch : Epoch) (word gid mst ack sq reserved : ℕ) → Fields
 given epoch word gid mst ack sq reserved =
     record { epoch = epoch; word = record { 0 = word }; gid = gid; mst = mst; «rs_ack» = ack; sq = sq; reserved = reserved }
 
 -- Writing for C: any 32 bits may come as a field.
-abbrev pub writeAnswerC : (epoch word gid mst ack sq reserved : ℕ) (h4 : List ℕ) → ℕ
+abbrev pub writeAnswerC : (epoch : Epoch) (word gid mst ack sq reserved : ℕ) (h4 : Bytes) → ℕ
 writeAnswerC epoch word gid mst ack sq reserved h4 = writingNumber (writeAnswer (given epoch word gid mst ack sq reserved) h4)
 
-abbrev pub writeBytesC : (epoch word gid mst ack sq reserved : ℕ) (h4 : List ℕ) → List ℕ
+abbrev pub writeBytesC : (epoch : Epoch) (word gid mst ack sq reserved : ℕ) (h4 : Bytes) → Bytes
 writeBytesC epoch word gid mst ack sq reserved h4 = writeBytes (given epoch word gid mst ack sq reserved) h4
 
 -- Reading for C: the fields go into ten lent bytes, of which another number is refused with 9 before all else.
-unfoldable pub readAnswerC : List ℕ → List ℕ → ℕ
+unfoldable pub readAnswerC : Bytes → Bytes → ℕ
 readAnswerC h4 fields = if length fields == 10 then readingNumber (readAnswer h4) else 9
 
 -- a packet's values, of the reserved bits four bytes, the highest first
@@ -46,33 +47,33 @@ valuesIn f =
     ∷ []
 
 -- these, or the lent bytes as they were
-abbrev pub valuesOr : Reading → List ℕ → List ℕ
+abbrev pub valuesOr : Reading → Bytes → Bytes
 valuesOr (Packet f) fields = valuesIn f
 valuesOr Length fields = fields
 valuesOr Crc fields = fields
 valuesOr Fixed fields = fields
 valuesOr Unassigned fields = fields
 
-unfoldable pub readFieldsC : List ℕ → List ℕ → List ℕ
+unfoldable pub readFieldsC : Bytes → Bytes → Bytes
 readFieldsC h4 fields = if length fields == 10 then valuesOr (readAnswer h4) fields else fields
 
 -- Of a fixed group (request 2026-12), by the same lent bytes.
 
-abbrev pub writeFixedAnswerC : (epoch sq : ℕ) (h4 : List ℕ) → ℕ
+abbrev pub writeFixedAnswerC : (epoch : Epoch) (sq : ℕ) (h4 : Bytes) → ℕ
 writeFixedAnswerC epoch sq h4 = writingNumber (writeFixedAnswer epoch sq h4)
 
-unfoldable pub readFixedAnswerC : List ℕ → List ℕ → ℕ
+unfoldable pub readFixedAnswerC : Bytes → Bytes → ℕ
 readFixedAnswerC h4 fields = if length fields == 10 then readingNumber (readFixedAnswer h4) else 9
 
-unfoldable pub readFixedFieldsC : List ℕ → List ℕ → List ℕ
+unfoldable pub readFixedFieldsC : Bytes → Bytes → Bytes
 readFixedFieldsC h4 fields = if length fields == 10 then valuesOr (readFixedAnswer h4) fields else fields
 
 -- Of VC-12 (request 2026-01), by the same fields and the same lent bytes.
 
-abbrev pub writeVc12AnswerC : (epoch word gid mst ack sq reserved : ℕ) (bits : List ℕ) → ℕ
+abbrev pub writeVc12AnswerC : (epoch : Epoch) (word gid mst ack sq reserved : ℕ) (bits : Bytes) → ℕ
 writeVc12AnswerC epoch word gid mst ack sq reserved bits = writingNumber (writeVc12Answer (given epoch word gid mst ack sq reserved) bits)
 
-abbrev pub writeVc12BytesC : (epoch word gid mst ack sq reserved : ℕ) (bits : List ℕ) → List ℕ
+abbrev pub writeVc12BytesC : (epoch : Epoch) (word gid mst ack sq reserved : ℕ) (bits : Bytes) → Bytes
 writeVc12BytesC epoch word gid mst ack sq reserved bits = writeVc12Bytes (given epoch word gid mst ack sq reserved) bits
 
 unfoldable pub readVc12AnswerC : List ℕ → List ℕ → ℕ
@@ -82,15 +83,15 @@ unfoldable pub readVc12FieldsC : List ℕ → List ℕ → List ℕ
 readVc12FieldsC bits fields = if length fields == 10 then valuesOr (readVc12Answer bits) fields else fields
 
 -- for the functions behind the calls
-abbrev pub areBytes : (epoch word gid mst ack sq : ℕ) → Bool
+abbrev pub areBytes : (epoch : Epoch) (word gid mst ack sq : ℕ) → Bool
 areBytes epoch word gid mst ack sq = epoch <? 256 && word <? 256 && gid <? 256 && mst <? 256 && ack <? 256 && sq <? 256
 
 -- by the kind of the packet, which has a byte for each frame of its epoch
 abbrev pub writeRefusal : ℕ → ℕ → ℕ
 writeRefusal kind n = if n == frames kind then 8 else 9
 
-abbrev pub sentAnswerC : (kind epoch word gid mst ack sq reserved : ℕ) (bytes : List ℕ) → ℕ
+abbrev pub sentAnswerC : (kind : ℕ) (epoch : Epoch) (word gid mst ack sq reserved : ℕ) (bytes : Bytes) → ℕ
 sentAnswerC kind epoch word gid mst ack sq reserved bytes = writingNumber (sentAnswer kind (given epoch word gid mst ack sq reserved) bytes)
 
-abbrev pub sentBytesC : (kind epoch word gid mst ack sq reserved : ℕ) (bytes : List ℕ) → List ℕ
+abbrev pub sentBytesC : (kind : ℕ) (epoch : Epoch) (word gid mst ack sq reserved : ℕ) (bytes : Bytes) → Bytes
 sentBytesC kind epoch word gid mst ack sq reserved bytes = sentBytes kind (given epoch word gid mst ack sq reserved) bytes

@@ -3,6 +3,7 @@ use mathlib.Core.Bool.{Bool, not}
 use mathlib.Core.List.{List}
 use Prim.Native.Nat.{ℕ}
 use Rattle.ground.specs.Plain.{if_then_else_, _==_, _<?_}
+use Rattle.ground.specs.Types.{Rows}
 use Rattle.receiver.specs.Starting.{startAsAnswer, startAsRows}
 
 abbrev pub failedC : ℕ → Bool
@@ -18,5 +19,5 @@ kindC kind = if kind <? 256 then kind else 255
 abbrev pub startAsAnswerC : (kind ports P W store : ℕ) (hold restore : List ℕ) (rows : ℕ) → ℕ
 startAsAnswerC kind ports P W store hold restore rows = startAsAnswer (kindC kind) ports P W store hold restore rows
 
-abbrev pub startAsRowsC : (kind ports P W store : ℕ) (hold restore : List ℕ) (s : List (List ℕ)) → List (List ℕ)
+abbrev pub startAsRowsC : (kind ports P W store : ℕ) (hold restore : List ℕ) (s : Rows) → Rows
 startAsRowsC kind ports P W store hold restore s = startAsRows (kindC kind) ports P W store hold restore s

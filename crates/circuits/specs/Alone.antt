@@ -6,6 +6,7 @@ use lib.ListN.{getD, length}
 use Rattle.ground.specs.Flags.{oneIf}
 use Rattle.ground.specs.Plain.{if_then_else_, _==_, _<?_}
 use Rattle.ground.specs.Table.{tabulate}
+use Rattle.ground.specs.Types.{Bytes}
 use Rattle.sender.specs.Board.{boardOf}
 use Rattle.sender.specs.Calls.{Call as T}
 use Rattle.sender.specs.Epochs as E
@@ -62,7 +63,7 @@ outcomeSeen v (StartEpoch gid mst ack) taken = sentSeen v (S.StartEpoch gid mst 
 abbrev pub ownAnswer : (v : View) (slot : ℕ) (a : Answer) → Answer
 ownAnswer v i a = if slotIn v i then (if ownIn v i then a else A.Owned) else A.NoSlot
 
-abbrev pub ownBytes : (v : View) (slot : ℕ) (new old : List ℕ) → List ℕ
+abbrev pub ownBytes : (v : View) (slot : ℕ) (new old : Bytes) → Bytes
 ownBytes v i new old = if slotIn v i then (if ownIn v i then new else old) else old
 
 abbrev pub replySeen : (v : View) (asked : Asked) (taken : Bool) → Reply

@@ -3,6 +3,7 @@ pub mod Answers
 pub mod Calls
 pub mod Commands
 pub mod Laws
+pub mod Opened
 pub mod Owners
 pub mod Parts
 pub mod Readings

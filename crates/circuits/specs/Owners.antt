@@ -6,6 +6,7 @@ use lib.ListN.{getD}
 use Rattle.ground.specs.Flags.{oneIf}
 use Rattle.ground.specs.Plain.{if_then_else_, _==_, _<?_}
 use Rattle.ground.specs.Table.{tabulate}
+use Rattle.ground.specs.Types.{Bytes}
 
 abbrev pub markOf : ℕ → ℕ
 markOf g = if g == 0 then 1 else 2
@@ -25,5 +26,5 @@ unfoldable pub withOwner : (row : List ℕ) (slot mark : ℕ) → List ℕ
 withOwner row i m = tabulate 64 (λ j. if j == i then m else ownerIn row j)
 
 -- a byte a slot: 1 where the group owns it
-unfoldable pub ownedBytes : List ℕ → ℕ → List ℕ
+unfoldable pub ownedBytes : List ℕ → ℕ → Bytes
 ownedBytes row g = tabulate 64 (λ i. oneIf (g <? 2 && isMarked row g i))

@@ -1,8 +1,8 @@
 -- What is read of a group: packets and payload of its own slots, its boards and ranks of all slots, and which slots it owns.
 use mathlib.Core.Bool.{_&&_}
-use mathlib.Core.List.{List}
 use Prim.Native.Nat.{ℕ}
 use Rattle.ground.specs.Plain.{if_then_else_}
+use Rattle.ground.specs.Types.{Bytes}
 use Rattle.sender.specs.Board.{boardOf}
 use Rattle.sender.specs.Epochs as E
 use Rattle.circuits.specs.declared.answers.Answer.{Answer}
@@ -16,16 +16,16 @@ use Rattle.circuits.specs.Owners.{ownedBytes}
 use Rattle.circuits.specs.Parts.{isSlot, owns, senderOf, shownSender}
 
 -- 1, 14, then as the sender has it
-unfoldable pub packetAnswer : (c : Card) (group slot : ℕ) (h4 : List ℕ) → Answer
+unfoldable pub packetAnswer : (c : Card) (group slot : ℕ) (h4 : Bytes) → Answer
 packetAnswer c g i h4 = if isSlot c g i then (if owns c g i then fromSender (E.packetAnswer (senderOf c g) i h4) else Owned) else NoSlot
 
-unfoldable pub packetBytes : (c : Card) (group slot : ℕ) (h4 : List ℕ) → List ℕ
+unfoldable pub packetBytes : (c : Card) (group slot : ℕ) (h4 : Bytes) → Bytes
 packetBytes c g i h4 = if isSlot c g i && owns c g i then E.packetBytes (senderOf c g) i h4 else h4
 
 unfoldable pub payloadAnswer : (c : Card) (group slot P frame member : ℕ) → Answer
 payloadAnswer c g i P frame member = if isSlot c g i then (if owns c g i then fromSender (E.payloadAnswer (senderOf c g) i P frame member) else Owned) else NoSlot
 
-unfoldable pub payloadBytes : (c : Card) (group slot P : ℕ) (frame member : List ℕ) → List ℕ
+unfoldable pub payloadBytes : (c : Card) (group slot P : ℕ) (frame member : Bytes) → Bytes
 payloadBytes c g i P frame member = if isSlot c g i && owns c g i then E.payloadBytes (senderOf c g) i P frame member else member
 
 -- nothing is masked: in the table now a slot that the group does not own is IDLE

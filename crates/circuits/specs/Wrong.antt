@@ -5,13 +5,9 @@ use Prim.Native.Nat.{ℕ, _+_, _<_}
 use native.Mathlib.Omega.{arith}
 use lib.ListN.{set}
 use Rattle.ground.specs.Plain.{if_then_else_}
-use Rattle.packet.specs.Kinds.{idleNumber}
 use Rattle.sender.specs.declared.table.State.the-variants.{Add}
 use Rattle.sender.specs.declared.table.Table.{Table}
-use Rattle.sender.specs.Board.{boardOf, highest, noRow, rowOf, rowsOf}
-use Rattle.sender.specs.Commands.{addOf, addedTo, fallen, fallenIn, freshOf, idleSlot, lapseOf, removeOf, removedFrom, withSlots}
-use Rattle.sender.specs.Commands as T
-use Rattle.sender.specs.Epochs.{beginOf, freshSender}
+use Rattle.sender.specs.Commands.{withSlots}
 use Rattle.sender.specs.Numbering.{Demand2}
 use Rattle.sender.specs.Table.{membersOf, sizeOf}
 use Rattle.circuits.specs.declared.answers.Answer.{Answer}
@@ -20,11 +16,11 @@ use Rattle.circuits.specs.declared.card.Card.{Card}
 use Rattle.circuits.specs.Answers.{answerNumber}
 use Rattle.circuits.specs.Calls.{outcomeOf}
 use Rattle.circuits.specs.Calls.Call.{AddSlot, Claim, Lapse, RemoveSlot}
-use Rattle.circuits.specs.Commands.{claimOf, commandOf, groupCallOf, startOf}
-use Rattle.circuits.specs.Owners.{hasOwner, withOwner}
-use Rattle.circuits.specs.Parts.{groupOutcome, isSlot, marked, owns, senderOf, withSender}
+use Rattle.circuits.specs.Owners.{hasOwner}
+use Rattle.circuits.specs.Parts.{owns, senderOf}
 use Rattle.circuits.specs.Shown.{after, board, by, told}
 use Rattle.circuits.specs.Views.{Made}
+use Rattle.circuits.specs.Opened.{circuitsOpen}
 
 -- group 0 has slot 0, group 1 has slot 1
 abbrev shared : List Made → List Made
@@ -41,7 +37,7 @@ wrong-added c g i =
 number-breaks :
     (Demand2 (wrong-added (after 2 (shared (by 0 (AddSlot 0) ∷ []))) 1 1) → ⊥)
     × (board 1 (after 2 (shared (by 0 (AddSlot 0) ∷ by 1 (AddSlot 1) ∷ []))) ≡ 5 ∷ 255 ∷ 1 ∷ 0 ∷ 0 ∷ [])
-unfolding wrong-number wrong-added withOwner senderOf withSender isSlot owns marked groupOutcome startOf claimOf commandOf beginOf freshSender T.startOf freshOf idleSlot idleNumber addOf addedTo sizeOf membersOf boardOf rowsOf rowOf noRow highest
+unfolding circuitsOpen wrong-number wrong-added
 number-breaks = (λ d. let h : 1 < 1 = d .last 1 (omega arith) refl in omega arith, refl)
 
 -- 3 before 14: with a wait open, a group would be told of its wait on a slot that is not its own. 'order 1, 14, 15, 3, 2'
@@ -51,7 +47,7 @@ wrong-order c g i = if senderOf c g .table .wait then WaitOpen else if owns c g 
 order-breaks :
     (answerNumber (wrong-order (after 2 (shared (by 0 (AddSlot 0) ∷ by 0 (RemoveSlot 0) ∷ []))) 0 1) ≡ 3)
     × (told 2 (shared (by 0 (AddSlot 0) ∷ by 0 (RemoveSlot 0) ∷ [])) 0 (AddSlot 1) ≡ 14)
-unfolding wrong-order withOwner senderOf withSender isSlot owns marked groupOutcome startOf claimOf commandOf beginOf freshSender T.startOf freshOf idleSlot idleNumber addOf addedTo removeOf removedFrom fallen fallenIn sizeOf membersOf
+unfolding circuitsOpen wrong-order
 order-breaks = (refl, refl)
 
 -- A claim of one's own slot answered 0. 'on claim already owned by anyone'
@@ -59,7 +55,7 @@ wrong-claim : Card → ℕ → ℕ → Answer
 wrong-claim c g i = if owns c g i then Done else if hasOwner (c .owners) i then Owned else Done
 
 claim-breaks : (answerNumber (wrong-claim (after 2 (shared [])) 0 0) ≡ 0) × (told 2 (shared []) 0 (Claim 0) ≡ 14)
-unfolding wrong-claim withOwner senderOf isSlot owns marked startOf claimOf beginOf freshSender T.startOf freshOf idleSlot idleNumber sizeOf
+unfolding circuitsOpen wrong-claim
 claim-breaks = (refl, refl)
 
 -- Nobody's slot answered 2, and the other's 14: then an add tells what the other holds. 'A claim is the one answer through which the other's holdings show.'
@@ -71,7 +67,7 @@ nobody-breaks :
     × (answerNumber (wrong-nobody (after 2 (shared [])) 0 1) ≡ 14)
     × (told 2 (by 0 (Claim 0) ∷ []) 0 (AddSlot 1) ≡ 14)
     × (told 2 (shared []) 0 (AddSlot 1) ≡ 14)
-unfolding wrong-nobody withOwner senderOf isSlot owns marked startOf claimOf commandOf beginOf freshSender T.startOf freshOf idleSlot idleNumber sizeOf
+unfolding circuitsOpen wrong-nobody
 nobody-breaks = (refl, refl, refl, refl)
 
 -- A lapse that closes both waits. 'waits are per group': the last number shown is the wait of group 1.
@@ -84,10 +80,10 @@ waiting = by 0 (AddSlot 0) ∷ by 1 (AddSlot 1) ∷ by 0 (RemoveSlot 0) ∷ by 1
 lapse-breaks :
     (board 1 (wrong-lapse (after 2 (shared waiting))) ≡ 5 ∷ 255 ∷ 5 ∷ 255 ∷ 0 ∷ [])
     × (board 1 (outcomeOf (after 2 (shared waiting)) 0 Lapse .card) ≡ 5 ∷ 255 ∷ 5 ∷ 255 ∷ 1 ∷ [])
-unfolding wrong-lapse withOwner senderOf withSender isSlot owns marked groupOutcome startOf claimOf commandOf groupCallOf beginOf freshSender T.startOf freshOf idleSlot idleNumber addOf addedTo removeOf removedFrom fallen fallenIn lapseOf sizeOf membersOf boardOf rowsOf rowOf noRow highest
+unfolding circuitsOpen wrong-lapse
 lapse-breaks = (refl, refl)
 
 -- Beside isolation, what a claim does tell: two runs alike in all calls of group 0 but for what group 1 holds.
 claim-tells : (told 2 (by 1 (Claim 1) ∷ []) 0 (Claim 1) ≡ 14) × (told 2 [] 0 (Claim 1) ≡ 0)
-unfolding withOwner senderOf isSlot owns marked startOf claimOf beginOf freshSender T.startOf freshOf idleSlot idleNumber sizeOf
+unfolding circuitsOpen
 claim-tells = (refl, refl)

@@ -31,18 +31,21 @@ abbrev p9 : List Made
 p9 = active 0 ++ (active 1 ++ (active 2 ++ (by 0 (RemoveSlot 1) ∷ by 1 (Report 0 0x00 1) ∷ [])))
 
 pub table : List Row
+unfolding allOpen
 table =
     record {
       name = "claim 0 3, claim 1 3, claim 0 3";
       given = told 64 [] 0 (Claim 3) ∷ told 64 third 1 (Claim 3) ∷ told 64 third 0 (Claim 3) ∷ [];
       said = 0 ∷ 14 ∷ 14 ∷ [];
+      equal = refl;
     }
-    ∷ record { name = "add 1 3 after it, and add 0 4, which is nobody's"; given = told 64 third 1 (AddSlot 3) ∷ told 64 third 0 (AddSlot 4) ∷ []; said = 14 ∷ 14 ∷ [] }
-    ∷ record { name = "claim 2 3 and claim 0 64"; given = told 64 [] 2 (Claim 3) ∷ told 64 [] 0 (Claim 64) ∷ []; said = 1 ∷ 1 ∷ [] }
+    ∷ record { name = "add 1 3 after it, and add 0 4, which is nobody's"; given = told 64 third 1 (AddSlot 3) ∷ told 64 third 0 (AddSlot 4) ∷ []; said = 14 ∷ 14 ∷ []; equal = refl }
+    ∷ record { name = "claim 2 3 and claim 0 64"; given = told 64 [] 2 (Claim 3) ∷ told 64 [] 0 (Claim 64) ∷ []; said = 1 ∷ 1 ∷ []; equal = refl }
     ∷ record {
       name = "add 0 3, release 0 3";
       given = told 64 third 0 (AddSlot 3) ∷ told 64 (third ++ (by 0 (AddSlot 3) ∷ [])) 0 (Release 3) ∷ [];
       said = 0 ∷ 15 ∷ [];
+      equal = refl;
     }
     ∷ record {
       name = "with a wait open, a slot that is not its own and one that is, then a release and the claim by the other";
@@ -54,6 +57,7 @@ table =
           ∷ told 64 (waiting ++ (by 0 (Release 3) ∷ [])) 1 (Claim 3)
           ∷ [];
       said = 14 ∷ 3 ∷ 0 ∷ 0 ∷ [];
+      equal = refl;
     }
     ∷ record {
       name = "the part of group 1 written for C: the owners of slots 0, 1 and 2, the ends of the part of group 0, which stays, then the state and number of slot 1 and the count";
@@ -61,17 +65,18 @@ table =
           let state = putOwn 1 (after 2 (by 0 (Claim 0) ∷ by 1 (Claim 1) ∷ by 1 (AddSlot 1) ∷ [])) (replicate 858 9) in
           getD state 0 0 ∷ getD state 1 0 ∷ getD state 2 0 ∷ getD state 64 0 ∷ getD state 460 0 ∷ getD state 463 0 ∷ getD state 464 0 ∷ getD state 845 0 ∷ [];
       said = 1 ∷ 2 ∷ 0 ∷ 9 ∷ 9 ∷ 1 ∷ 0 ∷ 2 ∷ [];
+      equal = refl;
     }
-    ∷ record { name = "P8 in both groups, group 0"; given = board 0 (after 4 both-p8); said = 1 ∷ 1 ∷ 3 ∷ 0 ∷ 5 ∷ 255 ∷ 5 ∷ 255 ∷ 1 ∷ [] }
-    ∷ record { name = "P8 in both groups, group 1"; given = board 1 (after 4 both-p8); said = 5 ∷ 255 ∷ 5 ∷ 255 ∷ 1 ∷ 1 ∷ 3 ∷ 0 ∷ 1 ∷ [] }
+    ∷ record { name = "P8 in both groups, group 0"; given = board 0 (after 4 both-p8); said = 1 ∷ 1 ∷ 3 ∷ 0 ∷ 5 ∷ 255 ∷ 5 ∷ 255 ∷ 1 ∷ []; equal = refl }
+    ∷ record { name = "P8 in both groups, group 1"; given = board 1 (after 4 both-p8); said = 5 ∷ 255 ∷ 5 ∷ 255 ∷ 1 ∷ 1 ∷ 3 ∷ 0 ∷ 1 ∷ []; equal = refl }
     ∷ record {
       name = "what each group owns, a byte a slot";
       given = take 4 (ownedShown (after 4 both-p8) 0 .owned) ++ take 4 (ownedShown (after 4 both-p8) 1 .owned);
       said = 1 ∷ 1 ∷ 0 ∷ 0 ∷ 0 ∷ 0 ∷ 1 ∷ 1 ∷ [];
+      equal = refl;
     }
-    ∷ record { name = "P9 in group 0 while group 1 reports"; given = board 0 (after 3 p9); said = 2 ∷ 0 ∷ 5 ∷ 255 ∷ 3 ∷ 1 ∷ 1 ∷ [] }
+    ∷ record { name = "P9 in group 0 while group 1 reports"; given = board 0 (after 3 p9); said = 2 ∷ 0 ∷ 5 ∷ 255 ∷ 3 ∷ 1 ∷ 1 ∷ []; equal = refl }
     ∷ []
 
 pub examples : Equal table
-unfolding allOpen table
-examples = equal-rows table refl
+examples = equal-rows table

@@ -81,23 +81,25 @@ abbrev ran : Run → List ℕ
 ran r = r .count ∷ r .next ∷ r .breaks ∷ r .odd ∷ []
 
 pub own : List Row
+unfolding allOpen
 own =
     record {
       name = "NORM under 3 with GID 1 in epoch 57 rules there, and nothing in epoch 58";
       given = ruled (ownRuling 0 57 norm) ++ ruled (ownRuling 0 58 norm);
       said = 1 ∷ 2 ∷ 3 ∷ 1 ∷ 0 ∷ 0 ∷ 0 ∷ 0 ∷ [];
+      equal = refl;
     }
     ∷ record {
       name = "the end of a first odd packet is remembered and leaves the row of breaks, that of one that is not odd is forgotten, and before the end nothing is";
       given =
           ran (runOn 0 (standing 7 2 0) true 0x56) ++ ran (runOn 0 (standing 7 0 1) false 0x57) ++ ran (runOn 0 (standing 5 0 1) false 0x55);
       said = 32 ∷ 8 ∷ 3 ∷ 1 ∷ 32 ∷ 8 ∷ 0 ∷ 0 ∷ 32 ∷ 6 ∷ 0 ∷ 1 ∷ [];
+      equal = refl;
     }
     ∷ []
 
 pub own-rows : Equal own
-unfolding allOpen own
-own-rows = equal-rows own refl
+own-rows = equal-rows own
 
 -- Two circuits on one card (request 2026-06), and a replay (request 2026-05).
 
@@ -110,11 +112,13 @@ abbrev replaying : Replay
 replaying = record { phase = P.Reading; line = 4; left = 0; kind = 0; ports = 2; size = 1; window = 40 }
 
 pub shown : List Row
+unfolding allOpen
 shown =
     record {
       name = "each group begins with its own first epoch";
       given = let c = cardStart 0 2 7 9 .card in c .first .epoch ∷ c .second .epoch ∷ [];
       said = 7 ∷ 9 ∷ [];
+      equal = refl;
     }
     ∷ record {
       name = "a group other than the two is answered 1 and shown an empty board, no ranks and no slot, group 1 its two slots";
@@ -125,28 +129,31 @@ shown =
           ∷ answerNumber (ownedShown adding 2 .answer) ∷ take 2 (ownedShown adding 2 .owned)
           ++ (answerNumber (boardShown adding 1 .answer) ∷ boardShown adding 1 .board .count ∷ take 2 (ownedShown adding 1 .owned));
       said = 1 ∷ 0 ∷ 1 ∷ 0 ∷ 1 ∷ 0 ∷ 1 ∷ 0 ∷ 0 ∷ 0 ∷ 2 ∷ 0 ∷ 1 ∷ [];
+      equal = refl;
     }
     ∷ record {
       name = "a sure report of epoch 7 with 01 02 03 04 as its count, behind which port 0 has come to OK 0, port 1 stays OK 4, and port 2 is FAIL 1";
       given = reportText (3 ∷ 7 ∷ 2 ∷ 0 ∷ 1 ∷ 2 ∷ 3 ∷ 4 ∷ []) 9 (255 ∷ 516 ∷ 512 ∷ []) (512 ∷ 516 ∷ 257 ∷ []) 3;
       said = ascii "epoch\t7\tsure\tbytes\t16909060\tline\t9\nport\t0\tOK\t0\nport\t2\tFAIL\t1\n";
+      equal = refl;
     }
     ∷ record {
       name = "a held report and a doubtful one, behind which port 0 is IDLE";
       given =
           reportText (1 ∷ 255 ∷ 0 ∷ 0 ∷ 0 ∷ 0 ∷ 0 ∷ 0 ∷ []) 10 [] [] 0 ++ reportText (2 ∷ 0 ∷ 1 ∷ 0 ∷ 0 ∷ 0 ∷ 0 ∷ 16 ∷ []) 11 (512 ∷ []) (255 ∷ []) 1;
       said = ascii "epoch\t255\theld\tbytes\t0\tline\t10\nepoch\t0\tdoubtful\tbytes\t16\tline\t11\nport\t0\tIDLE\t255\n";
+      equal = refl;
     }
     ∷ record {
       name = "behind a frame's line, which is counted, as many fetches as W";
       given = let t = framedTurn replaying 11 in t .replay .line ∷ t .replay .left ∷ t .used ∷ t .written ∷ flag (t .wants) ∷ [];
       said = 5 ∷ 40 ∷ 11 ∷ 0 ∷ 0 ∷ [];
+      equal = refl;
     }
     ∷ []
 
 pub shown-rows : Equal shown
-unfolding allOpen shown
-shown-rows = equal-rows shown refl
+shown-rows = equal-rows shown
 
 -- 'Lines hold at most 8,192 bytes.' (request 2026-05) A line is read by its fields up to that, and is malformed above it, whether it has ended or not.
 

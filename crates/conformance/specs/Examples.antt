@@ -22,6 +22,7 @@ use Rattle.payload.specs.Joining.{joined, wholeAnswer}
 use Rattle.payload.specs.Spreading.{spreadAll}
 use Rattle.ground.specs.Plain.{if_then_else_}
 use Rattle.ground.specs.Table.{tabulate}
+use Rattle.ground.specs.Types.{Bytes}
 use Rattle.packet.specs.Kinds.{frames}
 use Rattle.receiver.specs.Starting.{startAnswer}
 use Rattle.sender.specs.Board.{boardOf}
@@ -69,7 +70,7 @@ relayed reserved = record { epoch = 5; word = record { 0 = NORM }; gid = 1; mst 
 abbrev wrote : ℕ → List ℕ
 wrote reserved = writingNumber (writeAnswer (relayed reserved) (replicate 16 0)) ∷ writeBytes (relayed reserved) (replicate 16 0)
 
-abbrev came : List ℕ → List ℕ
+abbrev came : Bytes → List ℕ
 came h4 = readingNumber (readAnswer h4) ∷ readingValues (readAnswer h4)
 
 abbrev all-set : List ℕ
@@ -97,7 +98,7 @@ fixed-word = 0x08 ∷ 0x09 ∷ 0x0A ∷ 0x0B ∷ 0x0C ∷ 0x0D ∷ 0x0E ∷ 0x5F
 abbrev fixed-set : List ℕ
 fixed-set = 0xF8 ∷ 0xF9 ∷ 0xFA ∷ 0xFB ∷ 0xFC ∷ 0xFD ∷ 0x0E ∷ 0x5F ∷ 0x30 ∷ 0xA1 ∷ 0x02 ∷ 0xF3 ∷ 0xF4 ∷ 0xF5 ∷ 0xF6 ∷ 0xF7 ∷ []
 
-abbrev fixed-came : List ℕ → List ℕ
+abbrev fixed-came : Bytes → List ℕ
 fixed-came h4 = readingNumber (readFixedAnswer h4) ∷ readingValues (readFixedAnswer h4)
 
 -- a member added and made active, its wait lapsed
@@ -163,130 +164,151 @@ abbrev accepted : List ℕ → ℕ
 accepted set = if checkedOf four 2 20 set .accepted then 1 else 0
 
 pub table : List Row
+unfolding allOpen
 table =
     record {
       name = "control words FIXED, ADD, NORM, EOS, IDLE, DNU";
       given = FIXED ∷ ADD ∷ NORM ∷ EOS ∷ IDLE ∷ DNU ∷ [];
       said = 0 ∷ 1 ∷ 2 ∷ 3 ∷ 5 ∷ 15 ∷ [];
+      equal = refl;
     }
     ∷ record {
       name = "P1 data and CRC";
       given = bytes (nibblesOf p1);
       said = 0xFF ∷ 0x00 ∷ 0x00 ∷ 0xFF ∷ 0x00 ∷ 0x50 ∷ 0x00 ∷ 0x99 ∷ [];
+      equal = refl;
     }
-    ∷ record { name = "P1 written"; given = writingNumber (writeAnswer p1 (replicate 16 0)) ∷ writeBytes p1 (replicate 16 0); said = 0 ∷ p1-h4 }
-    ∷ record { name = "P1 read"; given = came p1-h4; said = 0 ∷ 0 ∷ 5 ∷ 0 ∷ 0xFF ∷ 0 ∷ 255 ∷ 0 ∷ [] }
+    ∷ record { name = "P1 written"; given = writingNumber (writeAnswer p1 (replicate 16 0)) ∷ writeBytes p1 (replicate 16 0); said = 0 ∷ p1-h4; equal = refl }
+    ∷ record { name = "P1 read"; given = came p1-h4; said = 0 ∷ 0 ∷ 5 ∷ 0 ∷ 0xFF ∷ 0 ∷ 255 ∷ 0 ∷ []; equal = refl }
     ∷ record {
       name = "P2 data and CRC";
       given = bytes (nibblesOf p2);
       said = 0xFF ∷ 0x00 ∷ 0x00 ∷ 0x00 ∷ 0x01 ∷ 0x31 ∷ 0x00 ∷ 0xC3 ∷ [];
+      equal = refl;
     }
     ∷ record {
       name = "each field at its place, written";
       given = writingNumber (writeAnswer mixed (replicate 16 0)) ∷ writeBytes mixed (replicate 16 0);
       said = 0 ∷ mixed-h4;
+      equal = refl;
     }
     ∷ record {
       name = "each field at its place, read";
       given = came mixed-h4;
       said = 0 ∷ 200 ∷ 15 ∷ 1 ∷ 0xA5 ∷ 1 ∷ 77 ∷ 0 ∷ [];
+      equal = refl;
     }
     ∷ record {
       name = "reserved bits 0, written";
       given = wrote 0;
       said = 0 ∷ 0xB8 ∷ 0xF9 ∷ 0x1A ∷ 0x0B ∷ 0x0C ∷ 0x0D ∷ 0x1E ∷ 0x1F ∷ 0x00 ∷ 0x51 ∷ 0x22 ∷ 0x13 ∷ 0x04 ∷ 0x05 ∷ 0x96 ∷ 0x57 ∷ [];
+      equal = refl;
     }
-    ∷ record { name = "all 26 set, written"; given = wrote 67108863; said = 0 ∷ all-set }
-    ∷ record { name = "all 26 set, read"; given = came all-set; said = 0 ∷ 5 ∷ 2 ∷ 1 ∷ 0xBF ∷ 1 ∷ 17 ∷ 67108863 ∷ [] }
-    ∷ record { name = "the first reserved bit alone, written"; given = wrote 33554432; said = 0 ∷ first-alone }
-    ∷ record { name = "the first reserved bit alone, read"; given = came first-alone; said = 0 ∷ 5 ∷ 2 ∷ 1 ∷ 0xBF ∷ 1 ∷ 17 ∷ 33554432 ∷ [] }
-    ∷ record { name = "the last reserved bit alone, written"; given = wrote 1; said = 0 ∷ last-alone }
-    ∷ record { name = "the last reserved bit alone, read"; given = came last-alone; said = 0 ∷ 5 ∷ 2 ∷ 1 ∷ 0xBF ∷ 1 ∷ 17 ∷ 1 ∷ [] }
-    ∷ record { name = "the three bits beside GID, written"; given = wrote 1792; said = 0 ∷ beside-gid }
-    ∷ record { name = "the three bits beside GID, read"; given = came beside-gid; said = 0 ∷ 5 ∷ 2 ∷ 1 ∷ 0xBF ∷ 1 ∷ 17 ∷ 1792 ∷ [] }
+    ∷ record { name = "all 26 set, written"; given = wrote 67108863; said = 0 ∷ all-set; equal = refl }
+    ∷ record { name = "all 26 set, read"; given = came all-set; said = 0 ∷ 5 ∷ 2 ∷ 1 ∷ 0xBF ∷ 1 ∷ 17 ∷ 67108863 ∷ []; equal = refl }
+    ∷ record { name = "the first reserved bit alone, written"; given = wrote 33554432; said = 0 ∷ first-alone; equal = refl }
+    ∷ record { name = "the first reserved bit alone, read"; given = came first-alone; said = 0 ∷ 5 ∷ 2 ∷ 1 ∷ 0xBF ∷ 1 ∷ 17 ∷ 33554432 ∷ []; equal = refl }
+    ∷ record { name = "the last reserved bit alone, written"; given = wrote 1; said = 0 ∷ last-alone; equal = refl }
+    ∷ record { name = "the last reserved bit alone, read"; given = came last-alone; said = 0 ∷ 5 ∷ 2 ∷ 1 ∷ 0xBF ∷ 1 ∷ 17 ∷ 1 ∷ []; equal = refl }
+    ∷ record { name = "the three bits beside GID, written"; given = wrote 1792; said = 0 ∷ beside-gid; equal = refl }
+    ∷ record { name = "the three bits beside GID, read"; given = came beside-gid; said = 0 ∷ 5 ∷ 2 ∷ 1 ∷ 0xBF ∷ 1 ∷ 17 ∷ 1792 ∷ []; equal = refl }
     ∷ record {
       name = "reserved bits by turns of one, written";
       given = wrote 44739242;
       said = 0 ∷ 0xB8 ∷ 0xF9 ∷ 0xBA ∷ 0x5B ∷ 0x5C ∷ 0x5D ∷ 0x1E ∷ 0x1F ∷ 0x00 ∷ 0x51 ∷ 0x22 ∷ 0x53 ∷ 0xA4 ∷ 0xA5 ∷ 0xD6 ∷ 0x37 ∷ [];
+      equal = refl;
     }
     ∷ record {
       name = "reserved bits by turns of two, written";
       given = wrote 53687091;
       said = 0 ∷ 0xB8 ∷ 0xF9 ∷ 0xDA ∷ 0x6B ∷ 0x6C ∷ 0x6D ∷ 0x1E ∷ 0x1F ∷ 0x00 ∷ 0x51 ∷ 0x22 ∷ 0x73 ∷ 0x34 ∷ 0x35 ∷ 0xF6 ∷ 0x97 ∷ [];
+      equal = refl;
     }
     ∷ record {
       name = "reserved bits by turns of four, written";
       given = wrote 63161283;
       said = 0 ∷ 0xB8 ∷ 0xF9 ∷ 0xFA ∷ 0x8B ∷ 0x7C ∷ 0x8D ∷ 0x1E ∷ 0x1F ∷ 0x00 ∷ 0x51 ∷ 0x22 ∷ 0x73 ∷ 0xC4 ∷ 0x35 ∷ 0xC6 ∷ 0x57 ∷ [];
+      equal = refl;
     }
     ∷ record {
       name = "reserved bits by turns of eight, written";
       given = wrote 66847740;
       said = 0 ∷ 0xB8 ∷ 0xF9 ∷ 0xFA ∷ 0xFB ∷ 0x8C ∷ 0x0D ∷ 0x1E ∷ 0x1F ∷ 0x00 ∷ 0x51 ∷ 0x22 ∷ 0x73 ∷ 0xF4 ∷ 0xC5 ∷ 0xB6 ∷ 0x77 ∷ [];
+      equal = refl;
     }
     ∷ record {
       name = "reserved bits by turns of sixteen, written";
       given = wrote 67107840;
       said = 0 ∷ 0xB8 ∷ 0xF9 ∷ 0xFA ∷ 0xFB ∷ 0xFC ∷ 0xFD ∷ 0x1E ∷ 0x1F ∷ 0x00 ∷ 0x51 ∷ 0x22 ∷ 0x93 ∷ 0x04 ∷ 0x05 ∷ 0x36 ∷ 0x57 ∷ [];
+      equal = refl;
     }
     ∷ record {
       name = "reserved 67,108,863 and 67,108,864";
       given = writingNumber (writeAnswer (relayed 67108863) (replicate 16 0)) ∷ writingNumber (writeAnswer (relayed 67108864) (replicate 16 0)) ∷ [];
       said = 0 ∷ 8 ∷ [];
+      equal = refl;
     }
-    ∷ record { name = "P3 CRC of 56 zero bits"; given = crcOf (replicate 14 0) ∷ []; said = 0x00 ∷ [] }
-    ∷ record { name = "P4 CRC of the last bit alone"; given = crcOf (replicate 13 0 ++ (1 ∷ [])) ∷ []; said = 0x07 ∷ [] }
+    ∷ record { name = "P3 CRC of 56 zero bits"; given = crcOf (replicate 14 0) ∷ []; said = 0x00 ∷ []; equal = refl }
+    ∷ record { name = "P4 CRC of the last bit alone"; given = crcOf (replicate 13 0 ++ (1 ∷ [])) ∷ []; said = 0x07 ∷ []; equal = refl }
     ∷ record {
       name = "the share of 01 at places 0 to 6";
       given = tabulate 7 (λ p. shareOf p 0x01);
       said = 0xDF ∷ 0x29 ∷ 0x62 ∷ 0x16 ∷ 0x6B ∷ 0x15 ∷ 0x07 ∷ [];
+      equal = refl;
     }
     ∷ record {
       name = "the share of FF at places 0 to 6";
       given = tabulate 7 (λ p. shareOf p 0xFF);
       said = 0x44 ∷ 0xAF ∷ 0x39 ∷ 0xD1 ∷ 0x2B ∷ 0xD7 ∷ 0xF3 ∷ [];
+      equal = refl;
     }
     ∷ record {
       name = "the shares of P1's bytes, and they join to its CRC";
       given = shareOf 0 0xFF ∷ shareOf 3 0xFF ∷ shareOf 5 0x50 ∷ joinedTo 7 (nibblesOf p1) ∷ [];
       said = 0x44 ∷ 0xD1 ∷ 0x0C ∷ 0x99 ∷ [];
+      equal = refl;
     }
-    ∷ record { name = "the shares of P2's bytes join to its CRC"; given = joinedTo 7 (nibblesOf p2) ∷ []; said = 0xC3 ∷ [] }
+    ∷ record { name = "the shares of P2's bytes join to its CRC"; given = joinedTo 7 (nibblesOf p2) ∷ []; said = 0xC3 ∷ []; equal = refl }
     ∷ record {
       name = "FIXED, SQ 5 in epoch 58, written";
       given = writingNumber (writeFixedAnswer 58 5 (replicate 16 0)) ∷ writeFixedBytes 58 5 (replicate 16 0);
       said = 0 ∷ fixed-h4;
+      equal = refl;
     }
-    ∷ record { name = "FIXED, SQ 5 in epoch 58, read"; given = fixed-came fixed-h4; said = 0 ∷ 58 ∷ 0 ∷ 0 ∷ 0 ∷ 0 ∷ 5 ∷ 0 ∷ [] }
-    ∷ record { name = "FIXED, a word of 1 in it"; given = fixed-came fixed-word; said = 6 ∷ [] }
-    ∷ record { name = "FIXED, all that is not looked at set: the same fields"; given = fixed-came fixed-set; said = 0 ∷ 58 ∷ 0 ∷ 0 ∷ 0 ∷ 0 ∷ 5 ∷ 0 ∷ [] }
+    ∷ record { name = "FIXED, SQ 5 in epoch 58, read"; given = fixed-came fixed-h4; said = 0 ∷ 58 ∷ 0 ∷ 0 ∷ 0 ∷ 0 ∷ 5 ∷ 0 ∷ []; equal = refl }
+    ∷ record { name = "FIXED, a word of 1 in it"; given = fixed-came fixed-word; said = 6 ∷ []; equal = refl }
+    ∷ record { name = "FIXED, all that is not looked at set: the same fields"; given = fixed-came fixed-set; said = 0 ∷ 58 ∷ 0 ∷ 0 ∷ 0 ∷ 0 ∷ 5 ∷ 0 ∷ []; equal = refl }
     ∷ record {
       name = "FIXED, SQ 256, epoch 256, fifteen bytes lent";
       given = writingNumber (writeFixedAnswer 58 256 (replicate 16 0)) ∷ writingNumber (writeFixedAnswer 256 5 (replicate 16 0)) ∷ writingNumber (writeFixedAnswer 58 5 (replicate 15 0)) ∷ [];
       said = 8 ∷ 8 ∷ 9 ∷ [];
+      equal = refl;
     }
-    ∷ record { name = "P5: tag 4,095 then 0 keeps step"; given = p5 .answer ∷ handed 0 0 p5 .answer ∷ []; said = 0 ∷ 0 ∷ [] }
-    ∷ record { name = "P5: 4,095 then 1 keeps step, with tag 0 counted"; given = p5 .answer ∷ counting 0 (handed 0 1 p5); said = 0 ∷ 0 ∷ 1 ∷ 32 ∷ 1 ∷ [] }
+    ∷ record { name = "P5: tag 4,095 then 0 keeps step"; given = p5 .answer ∷ handed 0 0 p5 .answer ∷ []; said = 0 ∷ 0 ∷ []; equal = refl }
+    ∷ record { name = "P5: 4,095 then 1 keeps step, with tag 0 counted"; given = p5 .answer ∷ counting 0 (handed 0 1 p5); said = 0 ∷ 0 ∷ 1 ∷ 32 ∷ 1 ∷ []; equal = refl }
     ∷ record {
       name = "P6 spread: X 3, P 2, bytes 0 to 5";
       given = numberOf (wholeAnswer 3 2 6 6) ∷ spreadAll 3 2 (0 ∷ 1 ∷ 2 ∷ 3 ∷ 4 ∷ 5 ∷ []) (replicate 6 0);
       said = 0 ∷ 0 ∷ 3 ∷ 1 ∷ 4 ∷ 2 ∷ 5 ∷ [];
+      equal = refl;
     }
     ∷ record {
       name = "P6 joined";
       given = numberOf (wholeAnswer 3 2 6 6) ∷ joined 3 2 (0 ∷ 3 ∷ 1 ∷ 4 ∷ 2 ∷ 5 ∷ []) (replicate 6 0);
       said = 0 ∷ 0 ∷ 1 ∷ 2 ∷ 3 ∷ 4 ∷ 5 ∷ [];
+      equal = refl;
     }
-    ∷ record { name = "P7: X 0, nothing"; given = numberOf (wholeAnswer 0 2 0 0) ∷ spreadAll 0 2 [] []; said = 0 ∷ [] }
-    ∷ record { name = "64 members"; given = numberOf (wholeAnswer 64 1 64 64) ∷ []; said = 0 ∷ [] }
-    ∷ record { name = "65 members"; given = numberOf (wholeAnswer 65 1 65 65) ∷ []; said = 4 ∷ [] }
-    ∷ record { name = "P of 0"; given = numberOf (wholeAnswer 0 0 0 0) ∷ []; said = 4 ∷ [] }
-    ∷ record { name = "P of 2,340"; given = numberOf (wholeAnswer 1 2340 2340 2340) ∷ []; said = 0 ∷ [] }
-    ∷ record { name = "P of 2,341"; given = numberOf (wholeAnswer 1 2341 2341 2341) ∷ []; said = 4 ∷ [] }
+    ∷ record { name = "P7: X 0, nothing"; given = numberOf (wholeAnswer 0 2 0 0) ∷ spreadAll 0 2 [] []; said = 0 ∷ []; equal = refl }
+    ∷ record { name = "64 members"; given = numberOf (wholeAnswer 64 1 64 64) ∷ []; said = 0 ∷ []; equal = refl }
+    ∷ record { name = "65 members"; given = numberOf (wholeAnswer 65 1 65 65) ∷ []; said = 4 ∷ []; equal = refl }
+    ∷ record { name = "P of 0"; given = numberOf (wholeAnswer 0 0 0 0) ∷ []; said = 4 ∷ []; equal = refl }
+    ∷ record { name = "P of 2,340"; given = numberOf (wholeAnswer 1 2340 2340 2340) ∷ []; said = 0 ∷ []; equal = refl }
+    ∷ record { name = "P of 2,341"; given = numberOf (wholeAnswer 1 2341 2341 2341) ∷ []; said = 4 ∷ []; equal = refl }
     ∷ record {
       name = "P8 the session's whole output";
       given = wholeOutput (ascii "size\t2\nadd\t0\nadd\t1\nreport\t0\tBF\t0\nremove\t0\nboard\n");
       said = ascii "answer\t0\nanswer\t0\nanswer\t0\nanswer\t0\nanswer\t3\nslot\t0\tADD\t1\nslot\t1\tEOS\t0\nwait\t1\n";
+      equal = refl;
     }
     ∷ record {
       name = "a session with hex digits in small letters, DNU and NORM on its board, and lines that are malformed";
@@ -294,21 +316,24 @@ table =
           wholeOutput (ascii "size\t3\nadd\t0\nadd\t1\nadd\t2\nreport\t0\t1f\t0\nlapse\nreport\t0\t5f\t0\nboard\nsize\t0003\nreport\t0\t00\t2\nlapse\nadd\t0 \n");
       said =
           ascii "answer\t0\nanswer\t0\nanswer\t0\nanswer\t0\nanswer\t0\nanswer\t0\nanswer\t0\nslot\t0\tNORM\t0\nslot\t1\tDNU\t1\nslot\t2\tEOS\t2\nwait\t0\nanswer\t13\nanswer\t13\nanswer\t2\nanswer\t13\n";
+      equal = refl;
     }
-    ∷ record { name = "P9: NORM 0, IDLE 255, EOS 1, wait open"; given = shown (after 3 p9); said = 2 ∷ 0 ∷ 5 ∷ 255 ∷ 3 ∷ 1 ∷ 1 ∷ [] }
-    ∷ record { name = "P10: EOS 0, DNU 1, no wait"; given = shown (after 2 p10); said = 3 ∷ 0 ∷ 15 ∷ 1 ∷ 0 ∷ [] }
-    ∷ record { name = "P11: two DNU, no EOS"; given = shown (after 2 p11); said = 15 ∷ 0 ∷ 15 ∷ 1 ∷ 0 ∷ [] }
+    ∷ record { name = "P9: NORM 0, IDLE 255, EOS 1, wait open"; given = shown (after 3 p9); said = 2 ∷ 0 ∷ 5 ∷ 255 ∷ 3 ∷ 1 ∷ 1 ∷ []; equal = refl }
+    ∷ record { name = "P10: EOS 0, DNU 1, no wait"; given = shown (after 2 p10); said = 3 ∷ 0 ∷ 15 ∷ 1 ∷ 0 ∷ []; equal = refl }
+    ∷ record { name = "P11: two DNU, no EOS"; given = shown (after 2 p11); said = 15 ∷ 0 ∷ 15 ∷ 1 ∷ 0 ∷ []; equal = refl }
     ∷ record {
       name = "P9 spoken: slot 1 NORM 1 to IDLE 255, slot 2 EOS 2 to EOS 1, wait opened";
       given = comparedNumbers (boardOf (after 3 p9-before)) (boardOf (after 3 p9));
       said = 0 ∷ 1 ∷ 2 ∷ 1 ∷ 5 ∷ 255 ∷ 2 ∷ 3 ∷ 2 ∷ 3 ∷ 1 ∷ 1 ∷ [];
+      equal = refl;
     }
-    ∷ record { name = "P9's changes applied"; given = appliedNumbers (boardOf (after 3 p9-before)) p9-changes; said = 0 ∷ 2 ∷ 0 ∷ 5 ∷ 255 ∷ 3 ∷ 1 ∷ 1 ∷ [] }
-    ∷ record { name = "P9's changes applied a second time"; given = appliedNumbers (boardOf (after 3 p9)) p9-changes; said = 2 ∷ 2 ∷ 0 ∷ 5 ∷ 255 ∷ 3 ∷ 1 ∷ 1 ∷ [] }
+    ∷ record { name = "P9's changes applied"; given = appliedNumbers (boardOf (after 3 p9-before)) p9-changes; said = 0 ∷ 2 ∷ 0 ∷ 5 ∷ 255 ∷ 3 ∷ 1 ∷ 1 ∷ []; equal = refl }
+    ∷ record { name = "P9's changes applied a second time"; given = appliedNumbers (boardOf (after 3 p9)) p9-changes; said = 2 ∷ 2 ∷ 0 ∷ 5 ∷ 255 ∷ 3 ∷ 1 ∷ 1 ∷ []; equal = refl }
     ∷ record {
       name = "P10 spoken: slot 0 NORM 0 to EOS 0, slot 1 EOS 1 to DNU 1, no wait";
       given = comparedNumbers (boardOf (after 2 (active 0 ++ active 1))) (boardOf (after 2 p10));
       said = 0 ∷ 0 ∷ 2 ∷ 0 ∷ 3 ∷ 0 ∷ 1 ∷ 3 ∷ 1 ∷ 15 ∷ 1 ∷ 0 ∷ [];
+      equal = refl;
     }
     ∷ record {
       name = "P8 spoken in two epochs";
@@ -316,11 +341,13 @@ table =
       said =
           ascii "slot\t0\twas\tIDLE\t255\tnow\tADD\t0\nslot\t1\twas\tIDLE\t255\tnow\tADD\t1\n"
           ++ ascii "slot\t0\twas\tADD\t0\tnow\tADD\t1\nslot\t1\twas\tADD\t1\tnow\tEOS\t0\nwait\topen\n";
+      equal = refl;
     }
     ∷ record {
       name = "a wait that closes is spoken alone";
       given = spokenText (comparedOf (boardOf (after 3 p9)) (boardOf (after 3 (p9 ++ (Lapse ∷ [])))) .changes);
       said = ascii "wait\tclosed\n";
+      equal = refl;
     }
     ∷ record {
       name = "each of the five words can be spoken";
@@ -329,15 +356,16 @@ table =
           ∷ sayable (comparedOf (boardOf (after 2 (active 0 ++ active 1))) (boardOf (after 2 p10)) .changes)
           ∷ [];
       said = 1 ∷ 1 ∷ [];
+      equal = refl;
     }
-    ∷ record { name = "equal boards are silent"; given = comparedNumbers (boardOf (after 3 p9)) (boardOf (after 3 p9)); said = 0 ∷ 0 ∷ [] }
-    ∷ record { name = "boards of 2 and of 3 slots"; given = comparedNumbers (boardOf (after 2 p10)) (boardOf (after 3 p9)); said = 4 ∷ 0 ∷ [] }
-    ∷ record { name = "64 slots start"; given = started 64; said = 0 ∷ 64 ∷ [] }
-    ∷ record { name = "0 slots"; given = started 0; said = 4 ∷ 0 ∷ [] }
-    ∷ record { name = "65 slots"; given = started 65; said = 4 ∷ 0 ∷ [] }
-    ∷ record { name = "64 ports start"; given = openedWith 64; said = 0 ∷ 64 ∷ [] }
-    ∷ record { name = "0 ports"; given = openedWith 0; said = 4 ∷ 0 ∷ [] }
-    ∷ record { name = "65 ports"; given = openedWith 65; said = 4 ∷ 0 ∷ [] }
+    ∷ record { name = "equal boards are silent"; given = comparedNumbers (boardOf (after 3 p9)) (boardOf (after 3 p9)); said = 0 ∷ 0 ∷ []; equal = refl }
+    ∷ record { name = "boards of 2 and of 3 slots"; given = comparedNumbers (boardOf (after 2 p10)) (boardOf (after 3 p9)); said = 4 ∷ 0 ∷ []; equal = refl }
+    ∷ record { name = "64 slots start"; given = started 64; said = 0 ∷ 64 ∷ []; equal = refl }
+    ∷ record { name = "0 slots"; given = started 0; said = 4 ∷ 0 ∷ []; equal = refl }
+    ∷ record { name = "65 slots"; given = started 65; said = 4 ∷ 0 ∷ []; equal = refl }
+    ∷ record { name = "64 ports start"; given = openedWith 64; said = 0 ∷ 64 ∷ []; equal = refl }
+    ∷ record { name = "0 ports"; given = openedWith 0; said = 4 ∷ 0 ∷ []; equal = refl }
+    ∷ record { name = "65 ports"; given = openedWith 65; said = 4 ∷ 0 ∷ []; equal = refl }
     ∷ record {
       name = "P of 0, 1, 2,340 and 2,341 at a receiver's start";
       given =
@@ -347,6 +375,7 @@ table =
           ∷ startAnswer 0 1 2341 16 37472 6
           ∷ [];
       said = 4 ∷ 0 ∷ 0 ∷ 4 ∷ [];
+      equal = refl;
     }
     ∷ record {
       name = "W of 15, 16, 2,048 and 2,049";
@@ -357,21 +386,23 @@ table =
           ∷ startAnswer 0 1 1 2049 4098 6
           ∷ [];
       said = 4 ∷ 0 ∷ 0 ∷ 4 ∷ [];
+      equal = refl;
     }
-    ∷ record { name = "latest tags W-16 apart begin"; given = begun (apart 16); said = 0 ∷ 1 ∷ [] }
-    ∷ record { name = "latest tags W-15 apart don't"; given = begun (apart 17); said = 0 ∷ 0 ∷ [] }
-    ∷ record { name = "and begin with the frame that brings them W-16 apart"; given = begun (handed 0 32 (apart 17)); said = 0 ∷ 1 ∷ [] }
-    ∷ record { name = "a joined port's tag W-1 after the window's first is stored"; given = stored 15 (joined56 16); said = 0 ∷ 71 ∷ 0x07 ∷ [] }
-    ∷ record { name = "W gives 11"; given = stored 0 (joined56 17); said = 11 ∷ 56 ∷ 0x08 ∷ [] }
+    ∷ record { name = "latest tags W-16 apart begin"; given = begun (apart 16); said = 0 ∷ 1 ∷ []; equal = refl }
+    ∷ record { name = "latest tags W-15 apart don't"; given = begun (apart 17); said = 0 ∷ 0 ∷ []; equal = refl }
+    ∷ record { name = "and begin with the frame that brings them W-16 apart"; given = begun (handed 0 32 (apart 17)); said = 0 ∷ 1 ∷ []; equal = refl }
+    ∷ record { name = "a joined port's tag W-1 after the window's first is stored"; given = stored 15 (joined56 16); said = 0 ∷ 71 ∷ 0x07 ∷ []; equal = refl }
+    ∷ record { name = "W gives 11"; given = stored 0 (joined56 17); said = 11 ∷ 56 ∷ 0x08 ∷ []; equal = refl }
     ∷ record {
       name = "two of 0 100 16 20 with W 16, 20 and 32";
       given = plan four 2 16 ++ plan four 2 20 ++ plan four 2 32;
       said = 0 ∷ 2 ∷ 2 ∷ 3 ∷ 2 ∷ 2 ∷ 3 ∷ [];
+      equal = refl;
     }
-    ∷ record { name = "three of them with W 36 and 35"; given = plan four 3 36 ++ plan four 3 35; said = 3 ∷ 0 ∷ 2 ∷ 3 ∷ 0 ∷ [] }
-    ∷ record { name = "4,095 and 0 are not 1 apart"; given = plan (4095 ∷ 0 ∷ []) 2 2048; said = 0 ∷ [] }
-    ∷ record { name = "one path with W 16"; given = plan four 1 16; said = 1 ∷ 0 ∷ [] }
-    ∷ record { name = "two of three equal delays"; given = plan (7 ∷ 7 ∷ 7 ∷ []) 2 16; said = 2 ∷ 0 ∷ 1 ∷ [] }
+    ∷ record { name = "three of them with W 36 and 35"; given = plan four 3 36 ++ plan four 3 35; said = 3 ∷ 0 ∷ 2 ∷ 3 ∷ 0 ∷ []; equal = refl }
+    ∷ record { name = "4,095 and 0 are not 1 apart"; given = plan (4095 ∷ 0 ∷ []) 2 2048; said = 0 ∷ []; equal = refl }
+    ∷ record { name = "one path with W 16"; given = plan four 1 16; said = 1 ∷ 0 ∷ []; equal = refl }
+    ∷ record { name = "two of three equal delays"; given = plan (7 ∷ 7 ∷ 7 ∷ []) 2 16; said = 2 ∷ 0 ∷ 1 ∷ []; equal = refl }
     ∷ record {
       name = "k of 0 and of 5 of 4, 65 candidates, a delay of 4,096, W of 15 and 2,049";
       given =
@@ -383,14 +414,15 @@ table =
           ∷ planNumber (answerOf four 2 2049)
           ∷ [];
       said = 4 ∷ 4 ∷ 4 ∷ 4 ∷ 4 ∷ 4 ∷ [];
+      equal = refl;
     }
     ∷ record {
       name = "the check of 3 2, of 2 2, of 2 alone, of 2 64 and of 0 64";
       given = accepted (3 ∷ 2 ∷ []) ∷ accepted (2 ∷ 2 ∷ []) ∷ accepted (2 ∷ []) ∷ accepted (2 ∷ 64 ∷ []) ∷ accepted (0 ∷ 64 ∷ []) ∷ [];
       said = 1 ∷ 0 ∷ 0 ∷ 0 ∷ 0 ∷ [];
+      equal = refl;
     }
     ∷ []
 
 pub examples : Equal table
-unfolding allOpen table
-examples = equal-rows table refl
+examples = equal-rows table

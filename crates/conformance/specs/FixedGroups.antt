@@ -5,6 +5,7 @@ use mathlib.Core.List.{List, [], _∷_, _++_}
 use Prim.Native.Nat.{ℕ}
 use lib.ListN.{length, replicate, take}
 use Rattle.ground.specs.Plain.{if_then_else_}
+use Rattle.ground.specs.Types.{Bytes, Epoch}
 use Rattle.c_face.specs.Receivers.{startAsAnswerC}
 use Rattle.conformance.specs.Rows.{Equal, Row, equal-rows}
 use Rattle.conformance.specs.Waits.{away, here, statesAt}
@@ -51,7 +52,7 @@ abbrev highSet : List ℕ
 highSet = 0xF8 ∷ 0xF9 ∷ 0xFA ∷ 0xFB ∷ 0xFC ∷ 0xFD ∷ 0xBE ∷ 0x4F ∷ 0x90 ∷ 0x31 ∷ 0x02 ∷ 0xF3 ∷ 0xF4 ∷ 0xF5 ∷ 0xF6 ∷ 0xF7 ∷ []
 
 -- the answer, and the values
-abbrev came : List ℕ → List ℕ
+abbrev came : Bytes → List ℕ
 came h4 = readingNumber (readFixedAnswer h4) ∷ readingValues (readFixedAnswer h4)
 
 -- the nibbles of a fixed group's packet of epoch 58 with SQ 5
@@ -66,7 +67,7 @@ abbrev flag : Bool → ℕ
 flag b = if b then 1 else 0
 
 -- good or not, word, number, GID
-abbrev rules : (kind epoch : ℕ) (nibbles : List ℕ) → List ℕ
+abbrev rules : (kind : ℕ) (epoch : Epoch) (nibbles : List ℕ) → List ℕ
 rules kind epoch nibbles = let r = ownRuling kind epoch nibbles in flag (r .good) ∷ r .word ∷ r .number ∷ r .gid ∷ []
 
 -- a port of a fixed group that noted the packet and is OK under its number
@@ -78,56 +79,66 @@ abbrev told : ℕ → List ℕ
 told kind = replyOut (startRows kind 1 1 16 32 (replicate 6 (replicate 16 0))) 7 (9 ∷ 9 ∷ [])
 
 pub table : List Row
+unfolding allOpen
 table =
     record {
       name = "a fixed group with the numbers 2, 0, 1 is sure, in the order of the numbers";
       given = verdict (saw 2 ∷ saw 0 ∷ saw 1 ∷ []) ∷ ranked (saw 2 ∷ saw 0 ∷ saw 1 ∷ []);
       said = 3 ∷ 3 ∷ 1 ∷ 2 ∷ 0 ∷ [];
+      equal = refl;
     }
     ∷ record {
       name = "a fixed group is held by the numbers 0, 1, 1 and 0, 1, 3";
       given = verdict (saw 0 ∷ saw 1 ∷ saw 1 ∷ []) ∷ verdict (saw 0 ∷ saw 1 ∷ saw 3 ∷ []) ∷ [];
       said = 1 ∷ 1 ∷ [];
+      equal = refl;
     }
     ∷ record {
       name = "a fixed group is held, and not doubtful, by a dark port, whichever number it had, a refused packet or a lacking frame";
       given =
           verdict (saw 0 ∷ saw 1 ∷ unseen ∷ []) ∷ verdict (unseen ∷ saw 1 ∷ saw 2 ∷ []) ∷ verdict (saw 0 ∷ bad ∷ []) ∷ verdict (saw 0 ∷ lacking 1 ∷ []) ∷ [];
       said = 1 ∷ 1 ∷ 1 ∷ 1 ∷ [];
+      equal = refl;
     }
-    ∷ record { name = "a fixed group of one, with the number 0, is sure"; given = verdict (saw 0 ∷ []) ∷ verdict (saw 1 ∷ []) ∷ []; said = 3 ∷ 1 ∷ [] }
+    ∷ record { name = "a fixed group of one, with the number 0, is sure"; given = verdict (saw 0 ∷ []) ∷ verdict (saw 1 ∷ []) ∷ []; said = 3 ∷ 1 ∷ []; equal = refl }
     ∷ record {
       name = "FIXED, SQ 180 in epoch 147, written and read; SQ 255 in epoch 255 fits";
       given = writeFixedBytes 147 180 (replicate 16 0) ++ came high ++ (writingNumber (writeFixedAnswer 255 255 (replicate 16 0)) ∷ []);
       said = high ++ (0 ∷ 147 ∷ 0 ∷ 0 ∷ 0 ∷ 0 ∷ 180 ∷ 0 ∷ 0 ∷ []);
+      equal = refl;
     }
     ∷ record {
       name = "the same with all that is not looked at set reads well, and is written again otherwise";
       given = came highSet ++ writeFixedBytes 147 180 highSet;
       said = (0 ∷ 147 ∷ 0 ∷ 0 ∷ 0 ∷ 0 ∷ 180 ∷ 0 ∷ []) ++ high;
+      equal = refl;
     }
     ∷ record {
       name = "a fixed group's packet rules in its own epoch, and in no other; one with another word is refused; by 01 its CRC differs";
       given = rules 2 58 fixed ++ rules 2 59 fixed ++ rules 2 58 foreign ++ rules 0 58 fixed;
       said = 1 ∷ 0 ∷ 5 ∷ 0 ∷ 0 ∷ 0 ∷ 0 ∷ 0 ∷ 0 ∷ 0 ∷ 0 ∷ 0 ∷ 0 ∷ 0 ∷ 0 ∷ 0 ∷ [];
+      equal = refl;
     }
     ∷ record {
       name = "with another MFI2 each packet of a fixed group is odd, since no CRC is checked; by 01 one of wrong CRC is not";
       given = flag (oddPacket 2 59 fixed) ∷ flag (oddPacket 2 59 foreign) ∷ flag (oddPacket 2 58 fixed) ∷ flag (oddPacket 0 59 fixed) ∷ [];
       said = 1 ∷ 1 ∷ 0 ∷ 0 ∷ [];
+      equal = refl;
     }
     ∷ record {
       name = "what is shown of a fixed group's port: its word is 0 after a good packet, and 255 before one";
       given = portShown (groupWith 2 1 1 16) freshStep noted ++ portShown (groupWith 2 1 1 16) freshStep (freshMember 2 0 0);
       said = 2 ∷ 5 ∷ 0 ∷ 0 ∷ 0 ∷ 0 ∷ 0 ∷ 0 ∷ 0 ∷ 255 ∷ 0 ∷ 0 ∷ 0 ∷ 0 ∷ 255 ∷ 0 ∷ [];
+      equal = refl;
     }
     ∷ record {
       name = "a fixed group's port with hold-off 1 and wait-to-restore 2: lost for one report it stays OK, for two it is FAIL, OK again after two";
       given =
           statesAt 0 (1 ∷ []) (2 ∷ []) ((here 0 0 ∷ []) ∷ (away 0 0 ∷ []) ∷ (here 0 0 ∷ []) ∷ (away 0 0 ∷ []) ∷ (away 0 0 ∷ []) ∷ (here 0 0 ∷ []) ∷ (here 0 0 ∷ []) ∷ (here 0 0 ∷ []) ∷ []);
       said = 2 ∷ 2 ∷ 2 ∷ 2 ∷ 1 ∷ 1 ∷ 1 ∷ 2 ∷ [];
+      equal = refl;
     }
-    ∷ record { name = "a fixed group's reply is MST 00 and RS-Ack 0; by 01 MST is FF before a member is OK"; given = told 2 ++ told 0; said = 0 ∷ 0 ∷ 255 ∷ 0 ∷ [] }
+    ∷ record { name = "a fixed group's reply is MST 00 and RS-Ack 0; by 01 MST is FF before a member is OK"; given = told 2 ++ told 0; said = 0 ∷ 0 ∷ 255 ∷ 0 ∷ []; equal = refl }
     ∷ record {
       name = "a start with P 1 and W 16 takes the kinds 0 and 2; kind 1 asks for P 136 and W 32, and any other kind is 4, in C and in the library";
       given =
@@ -142,6 +153,7 @@ table =
           ∷ startAnswer 3 1 1 16 32 6
           ∷ [];
       said = 0 ∷ 0 ∷ 4 ∷ 0 ∷ 4 ∷ 4 ∷ 4 ∷ 4 ∷ 4 ∷ [];
+      equal = refl;
     }
     ∷ record {
       name = "a fixed start: 4 before 9, with times as any other";
@@ -154,9 +166,9 @@ table =
           ∷ startAsAnswerC 2 1 1 16 32 (5000 ∷ []) (1 ∷ []) 6
           ∷ [];
       said = 4 ∷ 4 ∷ 4 ∷ 9 ∷ 9 ∷ 0 ∷ [];
+      equal = refl;
     }
     ∷ []
 
 pub fixed-groups : Equal table
-unfolding allOpen table
-fixed-groups = equal-rows table refl
+fixed-groups = equal-rows table

@@ -32,24 +32,27 @@ two kind h4 = let h = fedWith h4 0 31 56 (fed 0 40 0 (openedAs kind)) in h .answ
 
 -- Frames that carry their count and zeros are a fixed group's, with SQ 0.
 pub table : List Row
+unfolding allOpen
 table =
     record {
       name = "72 frames of a fixed group of one: sure with X = 1 and 16 bytes, OK under 0 with the word 0, and no reply";
       given = read (fed 0 72 0 (openedAs 2));
       said = 3 ∷ 4 ∷ 1 ∷ 0 ∷ 0 ∷ 0 ∷ 0 ∷ 16 ∷ 2 ∷ 0 ∷ 1 ∷ 1 ∷ 1 ∷ 0 ∷ 0 ∷ 0 ∷ 0 ∷ 0 ∷ [];
+      equal = refl;
     }
     ∷ record {
       name = "72 frames with LCAS to a fixed group: held, and nothing of them is read";
       given = read (fedWith packetWith 0 72 0 (openedAs 2));
       said = 1 ∷ 4 ∷ 0 ∷ 0 ∷ 0 ∷ 0 ∷ 0 ∷ 0 ∷ 0 ∷ 255 ∷ 1 ∷ 1 ∷ 1 ∷ 0 ∷ 255 ∷ 0 ∷ 0 ∷ 0 ∷ [];
+      equal = refl;
     }
     ∷ record {
       name = "two packets in a row with another MFI2, of wrong CRC and another word: the 32nd frame is 12 in a fixed group, 0 with LCAS";
       given = two 2 damagedWith ++ two 0 damagedWith;
       said = 0 ∷ 12 ∷ 0 ∷ 0 ∷ [];
+      equal = refl;
     }
     ∷ []
 
 pub fixed-runs : Equal table
-unfolding allOpen table
-fixed-runs = equal-rows table refl
+fixed-runs = equal-rows table

@@ -4,6 +4,7 @@ use mathlib.Core.List.{List, [], _∷_}
 use Prim.Native.Nat.{ℕ, zero, suc, _+_, _*_, _/_, _%_}
 use lib.ListN.{getD, length, replicate}
 use Rattle.ground.specs.Plain.{if_then_else_, _==_}
+use Rattle.ground.specs.Types.{Bytes}
 use Rattle.packet.specs.Kinds.{epochOf, placeOf}
 use Rattle.packet.specs.Layout.{h4Of, nibblesOf}
 use Rattle.packet.specs.Words.{IDLE}
@@ -39,7 +40,7 @@ abbrev payloadWith : ℕ → List ℕ
 payloadWith t = t % 256 ∷ []
 
 -- the frame of a port with an H4 byte, flagged as failed or not
-abbrev handedAs : (failed : Bool) (port h4 : ℕ) (payload : List ℕ) (h : Host) → Host
+abbrev handedAs : (failed : Bool) (port h4 : ℕ) (payload : Bytes) (h : Host) → Host
 handedAs failed port h4 payload h =
     record {
       answer = frameAnswer (h .rows) port failed h4 (length payload) (length (h .store));

@@ -25,36 +25,40 @@ abbrev unwritten : List ℕ
 unwritten = 255 ∷ 255 ∷ 255 ∷ 255 ∷ 255 ∷ 255 ∷ []
 
 pub table : List Row
+unfolding allOpen
 table =
-    record { name = "the empty order"; given = numbersOf adding [] [] ++ board 0 (cardLeft adding [] []); said = 0 ∷ 1 ∷ 0 ∷ 5 ∷ 255 ∷ 0 ∷ [] }
+    record { name = "the empty order"; given = numbersOf adding [] [] ++ board 0 (cardLeft adding [] []); said = 0 ∷ 1 ∷ 0 ∷ 5 ∷ 255 ∷ 0 ∷ []; equal = refl }
     ∷ record {
       name = "claim 0 0, add 0 0, add 0 0, remove 0 0, add 0 1, claim 1 0";
       given = numbersOf (after 2 []) six unwritten ++ board 0 (cardLeft (after 2 []) six unwritten);
       said = 0 ∷ 0 ∷ 0 ∷ 2 ∷ 0 ∷ 14 ∷ 14 ∷ 5 ∷ 255 ∷ 5 ∷ 255 ∷ 1 ∷ [];
+      equal = refl;
     }
     ∷ record {
       name = "the same with claim 0 1 done before";
       given = numbersOf (after 2 (by 0 (Claim 1) ∷ [])) six unwritten;
       said = 0 ∷ 0 ∷ 0 ∷ 2 ∷ 0 ∷ 3 ∷ 14 ∷ [];
+      equal = refl;
     }
-    ∷ record { name = "the first two of six"; given = firstAnswers (after 2 []) six 2 (255 ∷ 255 ∷ []); said = 0 ∷ 0 ∷ [] }
+    ∷ record { name = "the first two of six"; given = firstAnswers (after 2 []) six 2 (255 ∷ 255 ∷ []); said = 0 ∷ 0 ∷ []; equal = refl }
     ∷ record {
       name = "three commands and two answers";
       given =
           let three = remove 0 0 ∷ claim 0 1 ∷ add 0 1 ∷ [] in
           numbersOf adding three (7 ∷ 8 ∷ []) ++ board 0 (cardLeft adding three (7 ∷ 8 ∷ []));
       said = 9 ∷ 7 ∷ 8 ∷ 1 ∷ 0 ∷ 5 ∷ 255 ∷ 0 ∷ [];
+      equal = refl;
     }
     ∷ record {
       name = "two commands and three answers";
       given = numbersOf adding (remove 0 0 ∷ claim 0 1 ∷ []) (7 ∷ 8 ∷ 6 ∷ []) ++ board 0 (cardLeft adding (remove 0 0 ∷ claim 0 1 ∷ []) (7 ∷ 8 ∷ 6 ∷ []));
       said = 9 ∷ 7 ∷ 8 ∷ 6 ∷ 1 ∷ 0 ∷ 5 ∷ 255 ∷ 0 ∷ [];
+      equal = refl;
     }
     ∷ []
 
 pub examples : Equal table
-unfolding allOpen table
-examples = equal-rows table refl
+examples = equal-rows table
 
 -- a command's kind in C, by the numbers of the header
 pub kinds-in-c : (kindOf 0 ≡ K.Kind.Add) × (kindOf 1 ≡ K.Kind.Remove) × (kindOf 2 ≡ K.Kind.Claim) × (kindOf 3 ≡ K.Kind.Release)

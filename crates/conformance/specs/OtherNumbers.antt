@@ -54,46 +54,50 @@ abbrev anew : Host
 anew = fedWith (λ t. packetWith t / 16 * 16) 0 1 87 (fedWith packetWith 0 31 56 at40)
 
 pub members : List Row
+unfolding allOpen
 members =
-    record { name = "EOS under 0 with the own MFI2: OK under 0, and RS-Ack turns"; given = told (first 56); said = 2 ∷ 0 ∷ 1 ∷ 1 ∷ 1 ∷ 0 ∷ 3 ∷ 0 ∷ 127 ∷ 1 ∷ [] }
+    record { name = "EOS under 0 with the own MFI2: OK under 0, and RS-Ack turns"; given = told (first 56); said = 2 ∷ 0 ∷ 1 ∷ 1 ∷ 1 ∷ 0 ∷ 3 ∷ 0 ∷ 127 ∷ 1 ∷ []; equal = refl }
     ∷ record {
       name = "the same with MFI2 of one epoch later is no good packet: IDLE, and RS-Ack stays";
       given = told (first 72);
       said = 0 ∷ 255 ∷ 1 ∷ 1 ∷ 1 ∷ 0 ∷ 5 ∷ 0 ∷ 255 ∷ 0 ∷ [];
+      equal = refl;
     }
     ∷ []
 
 pub ruled : List Row
+unfolding allOpen
 ruled =
     record {
       name = "the epoch that such a packet rules is held, and it is told no later";
       given = reported (second 72) ++ told (fetched (second 72));
       said = 1 ∷ 5 ∷ 0 ∷ 0 ∷ 0 ∷ 0 ∷ 0 ∷ 0 ∷ 0 ∷ 255 ∷ 1 ∷ 1 ∷ 1 ∷ 0 ∷ 5 ∷ 0 ∷ 255 ∷ 0 ∷ [];
+      equal = refl;
     }
     ∷ []
 
 pub odd : List Row
+unfolding allOpen
 odd =
     record {
       name = "packets with an unassigned word or FIXED, read as 6 and 7, are odd with another MFI2: the 32nd frame is 12";
       given = readingNumber (readNibbles (nibblesFor 4 255 56)) ∷ readingNumber (readNibbles (nibblesFor FIXED 255 56)) ∷ (twoWith 4 ++ twoWith FIXED);
       said = 6 ∷ 7 ∷ 0 ∷ 12 ∷ 0 ∷ 12 ∷ [];
+      equal = refl;
     }
     ∷ record {
       name = "the end of a second odd packet with MFI1 0 is the first of a new 32";
       given = counting 0 anew ++ bothAnswers (fed 0 30 2305 anew) (handed 0 2335);
       said = 12 ∷ 2305 ∷ 1 ∷ 0 ∷ 12 ∷ 0 ∷ [];
+      equal = refl;
     }
     ∷ []
 
 pub members-rows : Equal members
-unfolding allOpen members
-members-rows = equal-rows members refl
+members-rows = equal-rows members
 
 pub ruled-rows : Equal ruled
-unfolding allOpen ruled
-ruled-rows = equal-rows ruled refl
+ruled-rows = equal-rows ruled
 
 pub odd-rows : Equal odd
-unfolding allOpen odd
-odd-rows = equal-rows odd refl
+odd-rows = equal-rows odd

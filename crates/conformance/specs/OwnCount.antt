@@ -33,62 +33,69 @@ abbrev at70 : Host
 at70 = fed 0 70 0 (opened 1 16)
 
 pub broken : List Row
+unfolding allOpen
 broken =
     record {
       name = "4,095 and then frames that carry 1, 2, 3 and 4";
       given = each (1 ∷ 2 ∷ 3 ∷ 4 ∷ []) edge;
       said = 0 ∷ 1 ∷ 32 ∷ 1 ∷ 0 ∷ 2 ∷ 32 ∷ 2 ∷ 0 ∷ 3 ∷ 32 ∷ 3 ∷ 12 ∷ 0 ∷ 0 ∷ 0 ∷ [];
+      equal = refl;
     }
-    ∷ record { name = "4,095, then 1, then 1: the row of breaks is none again"; given = each (1 ∷ 1 ∷ []) edge; said = 0 ∷ 1 ∷ 32 ∷ 1 ∷ 0 ∷ 2 ∷ 32 ∷ 0 ∷ [] }
+    ∷ record { name = "4,095, then 1, then 1: the row of breaks is none again"; given = each (1 ∷ 1 ∷ []) edge; said = 0 ∷ 1 ∷ 32 ∷ 1 ∷ 0 ∷ 2 ∷ 32 ∷ 0 ∷ []; equal = refl }
     ∷ record {
       name = "a fourth break with MFI1 0 is the first of a new 32";
       given = each (1 ∷ 2 ∷ 3 ∷ 0 ∷ []) edge ++ bothAnswers (fed 0 30 1 (handed 0 0 (fed 0 3 1 edge))) (handed 0 31);
       said = 0 ∷ 1 ∷ 32 ∷ 1 ∷ 0 ∷ 2 ∷ 32 ∷ 2 ∷ 0 ∷ 3 ∷ 32 ∷ 3 ∷ 12 ∷ 1 ∷ 1 ∷ 0 ∷ 12 ∷ 0 ∷ [];
+      equal = refl;
     }
     ∷ record {
       name = "the frame with which a port joins breaks the count: it is the first of four";
       given = stepAt (handed 0 3 at40 .rows) 0 .joined ∷ each (3 ∷ 3 ∷ 3 ∷ 3 ∷ []) at40;
       said = 1 ∷ 0 ∷ 41 ∷ 32 ∷ 1 ∷ 0 ∷ 42 ∷ 32 ∷ 2 ∷ 0 ∷ 43 ∷ 32 ∷ 3 ∷ 12 ∷ 0 ∷ 0 ∷ 0 ∷ [];
+      equal = refl;
     }
     ∷ []
 
 pub switched : List Row
+unfolding allOpen
 switched =
     record {
       name = "a switch by one multiframe at an epoch start, CRC right: 31 frames 0, the 32nd 12";
       given = bothAnswers (fedWith packetWith 0 31 56 at40) (fedWith packetWith 0 1 87);
       said = 0 ∷ 12 ∷ [];
+      equal = refl;
     }
     ∷ record {
       name = "the same with the first packet's CRC wrong: 12 sixteen frames later";
       given = bothAnswers (fedWith packetWith 0 31 72 (fedWith damagedWith 0 16 56 at40)) (fedWith packetWith 0 1 103);
       said = 0 ∷ 12 ∷ [];
+      equal = refl;
     }
     ∷ record {
       name = "the first again before the beginning, which waits for port 1: 31 frames 0, the 32nd 12";
       given = begun (fedWith packetWith 0 31 56 waiting) ++ begun (fedWith packetWith 0 1 87 (fedWith packetWith 0 31 56 waiting));
       said = 0 ∷ 0 ∷ 12 ∷ 0 ∷ [];
+      equal = refl;
     }
     ∷ []
 
 pub beyond : List Row
+unfolding allOpen
 beyond =
     record {
       name = "four breaks with a frame answered 11 between, which is not counted";
       given = each (3 ∷ 3 ∷ 3 ∷ []) at70 ++ each (3 ∷ 3 ∷ []) (fetched (fed 0 1 3 (fed 0 1 3 (fed 0 1 3 at70))));
       said = 0 ∷ 71 ∷ 32 ∷ 1 ∷ 0 ∷ 72 ∷ 32 ∷ 2 ∷ 11 ∷ 72 ∷ 32 ∷ 2 ∷ 0 ∷ 73 ∷ 32 ∷ 3 ∷ 12 ∷ 0 ∷ 0 ∷ 0 ∷ [];
+      equal = refl;
     }
-    ∷ record { name = "a fourth break outside the window is 12 and not 11"; given = each (3 ∷ 3 ∷ 3 ∷ 3 ∷ []) (fed 0 69 0 (opened 1 16)); said = 0 ∷ 70 ∷ 32 ∷ 1 ∷ 0 ∷ 71 ∷ 32 ∷ 2 ∷ 0 ∷ 72 ∷ 32 ∷ 3 ∷ 12 ∷ 0 ∷ 0 ∷ 0 ∷ [] }
+    ∷ record { name = "a fourth break outside the window is 12 and not 11"; given = each (3 ∷ 3 ∷ 3 ∷ 3 ∷ []) (fed 0 69 0 (opened 1 16)); said = 0 ∷ 70 ∷ 32 ∷ 1 ∷ 0 ∷ 71 ∷ 32 ∷ 2 ∷ 0 ∷ 72 ∷ 32 ∷ 3 ∷ 12 ∷ 0 ∷ 0 ∷ 0 ∷ []; equal = refl }
     ∷ []
 
 pub broken-rows : Equal broken
-unfolding allOpen broken
-broken-rows = equal-rows broken refl
+broken-rows = equal-rows broken
 
 pub switched-rows : Equal switched
-unfolding allOpen switched
-switched-rows = equal-rows switched refl
+switched-rows = equal-rows switched
 
 pub beyond-rows : Equal beyond
-unfolding allOpen beyond
-beyond-rows = equal-rows beyond refl
+beyond-rows = equal-rows beyond

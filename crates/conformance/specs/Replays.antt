@@ -93,25 +93,25 @@ abbrev torn : List (List ℕ)
 torn = take 41 lines ++ (ascii "0\t0" ∷ drop 41 lines)
 
 pub table : List Row
+unfolding allOpen replayed
 table =
-    record { name = "72 frames to the first report, all IDLE"; given = replayed Right 32 lines []; said = ascii "epoch\t4\tsure\tbytes\t0\tline\t73\n" }
-    ∷ record { name = "the same cut after line 40"; given = replayed Right 32 (take 40 lines) (drop 40 lines); said = ascii "epoch\t4\tsure\tbytes\t0\tline\t73\n" }
-    ∷ record { name = "one frame less"; given = replayed Right 32 (take 72 lines) []; said = [] }
-    ∷ record { name = "with a torn line put in"; given = replayed Right 32 torn []; said = ascii "answer\t13\tline\t42\nepoch\t4\tsure\tbytes\t0\tline\t74\n" }
-    ∷ record { name = "no ports: 4, and the rest is swallowed"; given = replayed Right 32 (ascii "0\t1\t16" ∷ drop 1 torn) []; said = ascii "answer\t4\tline\t1\n" }
-    ∷ record { name = "a store of one byte less than is asked: 4"; given = replayed Right 31 lines []; said = ascii "answer\t4\tline\t1\n" }
-    ∷ record { name = "a first line that is none: 13, whatever follows"; given = replayed Right 32 (ascii "x" ∷ lines) []; said = ascii "answer\t13\tline\t1\n" }
-    ∷ record { name = "a hold-off of 5,001: 4"; given = replayed Right 32 (ascii "1\t1\t16\thold-off\t5001" ∷ drop 1 lines) []; said = ascii "answer\t4\tline\t1\n" }
-    ∷ record { name = "numbers for two ports where there is one: 13"; given = replayed Right 32 (ascii "1\t1\t16\thold-off\t5\t5" ∷ drop 1 lines) []; said = ascii "answer\t13\tline\t1\n" }
-    ∷ record { name = "a hold-off of 5,001 and a kind that is none: 13 before 4"; given = replayed Right 32 (ascii "1\t1\t16\thold-off\t5001\tkind\tK4" ∷ drop 1 lines) []; said = ascii "answer\t13\tline\t1\n" }
-    ∷ record { name = "the 72 frames with both times: an IDLE port waits for nothing"; given = replayed Right 32 (ascii "1\t1\t16\twait-to-restore\t2\tkind\tH4\thold-off\t5" ∷ drop 1 lines) []; said = ascii "epoch\t4\tsure\tbytes\t0\tline\t73\n" }
-    ∷ record { name = "the 72 frames as those of a fixed group: no word is FIXED, and it is held"; given = replayed Right 32 (ascii "1\t1\t16\tkind\tFIXED" ∷ drop 1 lines) []; said = ascii "epoch\t4\theld\tbytes\t0\tline\t73\n" }
-    ∷ record { name = "72 frames of a fixed group of one: sure, and its port is OK"; given = replayed Right 32 fixedLines []; said = ascii "epoch\t4\tsure\tbytes\t16\tline\t73\nport\t0\tOK\t0\n" }
+    record { name = "72 frames to the first report, all IDLE"; given = replayed Right 32 lines []; said = ascii "epoch\t4\tsure\tbytes\t0\tline\t73\n"; equal = refl }
+    ∷ record { name = "the same cut after line 40"; given = replayed Right 32 (take 40 lines) (drop 40 lines); said = ascii "epoch\t4\tsure\tbytes\t0\tline\t73\n"; equal = refl }
+    ∷ record { name = "one frame less"; given = replayed Right 32 (take 72 lines) []; said = []; equal = refl }
+    ∷ record { name = "with a torn line put in"; given = replayed Right 32 torn []; said = ascii "answer\t13\tline\t42\nepoch\t4\tsure\tbytes\t0\tline\t74\n"; equal = refl }
+    ∷ record { name = "no ports: 4, and the rest is swallowed"; given = replayed Right 32 (ascii "0\t1\t16" ∷ drop 1 torn) []; said = ascii "answer\t4\tline\t1\n"; equal = refl }
+    ∷ record { name = "a store of one byte less than is asked: 4"; given = replayed Right 31 lines []; said = ascii "answer\t4\tline\t1\n"; equal = refl }
+    ∷ record { name = "a first line that is none: 13, whatever follows"; given = replayed Right 32 (ascii "x" ∷ lines) []; said = ascii "answer\t13\tline\t1\n"; equal = refl }
+    ∷ record { name = "a hold-off of 5,001: 4"; given = replayed Right 32 (ascii "1\t1\t16\thold-off\t5001" ∷ drop 1 lines) []; said = ascii "answer\t4\tline\t1\n"; equal = refl }
+    ∷ record { name = "numbers for two ports where there is one: 13"; given = replayed Right 32 (ascii "1\t1\t16\thold-off\t5\t5" ∷ drop 1 lines) []; said = ascii "answer\t13\tline\t1\n"; equal = refl }
+    ∷ record { name = "a hold-off of 5,001 and a kind that is none: 13 before 4"; given = replayed Right 32 (ascii "1\t1\t16\thold-off\t5001\tkind\tK4" ∷ drop 1 lines) []; said = ascii "answer\t13\tline\t1\n"; equal = refl }
+    ∷ record { name = "the 72 frames with both times: an IDLE port waits for nothing"; given = replayed Right 32 (ascii "1\t1\t16\twait-to-restore\t2\tkind\tH4\thold-off\t5" ∷ drop 1 lines) []; said = ascii "epoch\t4\tsure\tbytes\t0\tline\t73\n"; equal = refl }
+    ∷ record { name = "the 72 frames as those of a fixed group: no word is FIXED, and it is held"; given = replayed Right 32 (ascii "1\t1\t16\tkind\tFIXED" ∷ drop 1 lines) []; said = ascii "epoch\t4\theld\tbytes\t0\tline\t73\n"; equal = refl }
+    ∷ record { name = "72 frames of a fixed group of one: sure, and its port is OK"; given = replayed Right 32 fixedLines []; said = ascii "epoch\t4\tsure\tbytes\t16\tline\t73\nport\t0\tOK\t0\n"; equal = refl }
     ∷ []
 
 pub examples : Equal table
-unfolding allOpen table replayed
-examples = equal-rows table refl
+examples = equal-rows table
 
 -- 'with the state carried over': a report that is due at the cut is part of it
 forgetful-breaks : (replayed Forgetful 32 lines [] ≡ []) × (replayed Right 32 lines [] ≡ ascii "epoch\t4\tsure\tbytes\t0\tline\t73\n")

@@ -1,6 +1,7 @@
 pub mod Kept
 pub mod Laws
 pub mod Line
+pub mod Opened
 pub mod Output
 pub mod Replies
 pub mod Runs

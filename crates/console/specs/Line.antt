@@ -4,6 +4,7 @@ use mathlib.Core.List.{List, [], _∷_}
 use Prim.Native.Nat.{ℕ}
 use lib.ListN.{length}
 use Rattle.ground.specs.Plain.{if_then_else_, _<?_, _≤?_}
+use Rattle.ground.specs.Types.{Bytes}
 use Rattle.text.specs.declared.fields.Number.{Number}
 use Rattle.text.specs.declared.fields.Number.the-variants.{Value, Unreadable}
 use Rattle.console.specs.declared.line.Line.{Line}
@@ -32,11 +33,11 @@ abbrev pub BOARD : List ℕ
 BOARD = ascii "board"
 
 -- 'Numbers have one to three decimal digits'
-abbrev pub numberOf : List ℕ → Number
+abbrev pub numberOf : Bytes → Number
 numberOf field = F.numberOf 3 field
 
 -- 'two hex digits'
-abbrev pub hexOf : List ℕ → Number
+abbrev pub hexOf : Bytes → Number
 hexOf field = F.hexOf 2 field
 
 -- a line of one field
@@ -68,5 +69,5 @@ meaningOf (word ∷ epoch ∷ mst ∷ ack ∷ []) = reportLine word (numberOf ep
 meaningOf (word ∷ a ∷ b ∷ c ∷ d ∷ rest) = Malformed
 
 -- 'Input lines are at most 80 bytes; a longer one is malformed.'
-unfoldable pub lineOf : List ℕ → Line
+unfoldable pub lineOf : Bytes → Line
 lineOf line = if length line ≤? 80 then meaningOf (fieldsOf line) else Malformed

@@ -1,8 +1,8 @@
 -- What a line is answered (01, 'Session').
 use mathlib.Core.Bool.{Bool, true, false}
-use mathlib.Core.List.{List}
 use Prim.Native.Nat.{ℕ}
 use Rattle.ground.specs.Plain.{if_then_else_, _==_}
+use Rattle.ground.specs.Types.{Bytes}
 use Rattle.sender.specs.declared.table.Outcome.{Outcome}
 use Rattle.sender.specs.declared.table.Table.{Table}
 use Rattle.sender.specs.Board.{boardOf}
@@ -44,5 +44,5 @@ isBoard Board = true
 isBoard Malformed = false
 
 -- the output of a line: the board with no answer line, or the answer
-unfoldable pub outputOf : Table → Line → List ℕ
+unfoldable pub outputOf : Table → Line → Bytes
 outputOf t l = if isBoard l then boardText (boardOf t) else answerText (replyOf t l .number)

@@ -2,6 +2,7 @@
 use mathlib.Core.List.{List, [], _∷_, _++_}
 use Prim.Native.Nat.{ℕ, zero, suc}
 use lib.ListN.{drop, length, take}
+use Rattle.ground.specs.Types.{Bytes}
 use Rattle.sender.specs.declared.table.Table.{Table}
 use Rattle.console.specs.declared.session.Session.{Session}
 use Rattle.console.specs.Session.{beginning, feedBytes, feedOf, finishBytes, finishOf, saidTo, tableAfter}
@@ -13,7 +14,7 @@ answersTo t [] = []
 answersTo t (l ∷ ls) = saidTo t l ++ answersTo (tableAfter t l) ls
 
 -- 'Whole output'
-unfoldable pub wholeOutput : List ℕ → List ℕ
+unfoldable pub wholeOutput : Bytes → Bytes
 wholeOutput input = answersTo (beginning .table) (linesOf input)
 
 -- a host with a session, the buffer that it lends to each call, and what it has written
@@ -23,7 +24,7 @@ pub record Host : Type 0 where
   pub said : List ℕ
 
 -- one call on a part of the input; what the call has written is written on
-unfoldable pub fedOnce : Host → List ℕ → Host
+unfoldable pub fedOnce : Host → Bytes → Host
 fedOnce h part =
     record {
       session = feedOf (h .session) part (h .buffer) .session;
@@ -31,11 +32,11 @@ fedOnce h part =
       said = h .said ++ take (feedOf (h .session) part (h .buffer) .written) (feedBytes (h .session) part (h .buffer));
     }
 
-unfoldable pub leftOf : Host → List ℕ → List ℕ
+unfoldable pub leftOf : Host → Bytes → Bytes
 leftOf h part = drop (feedOf (h .session) part (h .buffer) .used) part
 
 -- calls on what is left of a part, at most n of them
-abbrev pub fedUpTo : (n : ℕ) (h : Host) (part : List ℕ) → Host
+abbrev pub fedUpTo : (n : ℕ) (h : Host) (part : Bytes) → Host
 fedUpTo zero h part = h
 fedUpTo (suc n) h [] = h
 fedUpTo (suc n) h (b ∷ part) = fedUpTo n (fedOnce h (b ∷ part)) (leftOf h (b ∷ part))
@@ -54,6 +55,6 @@ unfoldable pub hostOutput : List ℕ → List (List ℕ) → List ℕ
 hostOutput buffer parts = endedRun (fedParts (record { session = beginning; buffer = buffer; said = [] }) parts)
 
 -- the parts one behind the other
-abbrev pub joined : List (List ℕ) → List ℕ
+abbrev pub joined : List (List ℕ) → Bytes
 joined [] = []
 joined (p ∷ ps) = p ++ joined ps

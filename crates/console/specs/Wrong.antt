@@ -3,17 +3,15 @@ use mathlib.Core.Path.{_≡_, refl}
 use mathlib.Core.List.{List}
 use Prim.Native.Nat.{ℕ}
 use Rattle.ground.specs.Plain.{if_then_else_, _<?_}
-use Rattle.packet.specs.Kinds.{idleNumber}
 use Rattle.sender.specs.declared.table.Table.{Table}
-use Rattle.sender.specs.Commands.{freshOf, idleSlot, startOf}
+use Rattle.sender.specs.Commands.{freshOf, startOf}
 use Rattle.text.specs.declared.fields.Number.{Number}
 use Rattle.text.specs.declared.fields.Number.the-variants.{Value, Unreadable}
 use Rattle.console.specs.declared.replies.Reply.{Reply}
 use Rattle.console.specs.Line.{numberOf}
 use Rattle.console.specs.Replies.{repliedOf, sizeReply}
 use Rattle.text.specs.Ascii.{ascii}
-use Rattle.text.specs.Fields.{digitOf}
-use Rattle.text.specs.Fields as F
+use Rattle.console.specs.Opened.{consoleOpen}
 
 -- A number that does not fit a byte as malformed. 'Numbers have one to three decimal digits': `size 256` is refused by its range, with 4.
 wrong-byte : Number → Number
@@ -24,7 +22,7 @@ wrong-number : List ℕ → Number
 wrong-number field = wrong-byte (numberOf field)
 
 number-breaks : (wrong-number (ascii "256") ≡ Unreadable) × (numberOf (ascii "256") ≡ Value 256)
-unfolding wrong-number wrong-byte F.numberOf digitOf
+unfolding consoleOpen wrong-number wrong-byte
 number-breaks = (refl, refl)
 
 -- A refused size that hands on the empty group of the library's start, where 'a refused one leaves the board as it stood'.
@@ -32,5 +30,5 @@ wrong-size : Table → ℕ → Reply
 wrong-size t n = repliedOf (startOf (t .kind) n)
 
 size-breaks : (wrong-size (freshOf 0 2) 65 .table .count ≡ 0) × (sizeReply (freshOf 0 2) 65 .table .count ≡ 2)
-unfolding wrong-size sizeReply startOf freshOf idleSlot idleNumber
+unfolding consoleOpen wrong-size
 size-breaks = (refl, refl)

@@ -7,9 +7,11 @@ pub mod Division
 pub mod Drawn
 pub mod Finite
 pub mod Flags
+pub mod Opened
 pub mod Plain
 pub mod Polynomial
 pub mod Sizes
 pub mod Sums
 pub mod Table
 pub mod Truth
+pub mod Types

@@ -3,10 +3,10 @@ use mathlib.Core.Path.{_≡_, refl}
 use mathlib.Core.Logic.{_≢_}
 use mathlib.Core.Bool.{true, false}
 use mathlib.Core.List.{[], _∷_}
-use Prim.Native.Nat.{ℕ}
 use native.Mathlib.Omega.{arith}
 use lib.ListN.{replicate}
 use Rattle.ground.specs.Plain.{if_then_else_, _==_}
+use Rattle.ground.specs.Types.{Epoch}
 use Rattle.judge.specs.Verdict.{HELD}
 use Rattle.packet.specs.Words.{IDLE}
 use Rattle.circuits.specs.Parts.{owns}
@@ -15,7 +15,7 @@ use Rattle.link.specs.Link.{Link}
 use Rattle.link.specs.Samples.Computing.{outcome}
 use Rattle.link.specs.Samples.Members.{lent, output, unranked}
 use Rattle.link.specs.Samples.Reports.{held, sure}
-use Rattle.link.specs.Samples.Tracing.{course, drainedBy, outcome-by, traced, turnBy, turnsBy}
+use Rattle.link.specs.Samples.Tracing.{course, outcome-by}
 use Rattle.link.specs.Sending.{Covered, Sending}
 use Rattle.link.specs.Told.{Told}
 use Rattle.groups.specs.Cards.{cardAt}
@@ -23,7 +23,7 @@ use Rattle.groups.specs.Samples.Calls.{card}
 use Rattle.groups.specs.Samples.Histories.{computed, history₀, history₁}
 use Rattle.groups.specs.Samples.Links.{client₀, client₁, link₀, link₁, pairing₀}
 
-abbrev heldOf : ℕ → Told
+abbrev heldOf : Epoch → Told
 heldOf e = record { epoch = e; mark = HELD; bytes = []; rest = replicate 48 0xEE }
 
 -- A port for each slot that the group ever owned. Slot 2 was group 0's, and now it sends what a history of the other group has for it.
@@ -61,7 +61,7 @@ wrong-ports other =
 
 -- Its frames have the tags of group 1's epochs, and group 0's receiver does not begin, though over a hundred frames have come to each of its ports.
 ports-break : outcome (wrong-ports history₁) 164 ≡ record { begun = 0; told = []; strange = [] }
-unfolding wrong-ports wrong-sending outcome course traced turnsBy turnBy drainedBy
+unfolding wrong-ports wrong-sending outcome course
 ports-break = outcome-by (wrong-ports history₁) 164 _ refl
 
 -- Where both groups' epochs have the same numbers and one GID, it does begin, and holds every epoch: EOS comes from both groups, and number 1 twice.
@@ -69,7 +69,7 @@ alike : History
 alike = record { kind = 0; slots = 4; first = 0; before = history₁ .before; gid = λ i. 0; mst = λ i. 255; ack = λ i. 0 }
 
 all-held : outcome (wrong-ports alike) 164 ≡ record { begun = 1; told = heldOf 8 ∷ heldOf 9 ∷ []; strange = [] }
-unfolding wrong-ports wrong-sending alike outcome course traced turnsBy turnBy drainedBy
+unfolding wrong-ports wrong-sending alike outcome course
 all-held = outcome-by (wrong-ports alike) 164 _ refl
 
 -- The slots that the group owns as the earliest frame is sent, whatever it claims later. Group 1 then has slot 3 alone, a port for it, and claims slot 2 in its next epoch. Its packets all come as sent; the epochs that both members carry are held.
@@ -106,7 +106,7 @@ clause-breaks
           ∷ [];
       strange = [];
     }
-unfolding wrong-clause outcome course traced turnsBy turnBy drainedBy
+unfolding wrong-clause outcome course
 clause-breaks = outcome-by wrong-clause 164 _ refl
 
 -- A port for each slot that is not IDLE in the epoch of the earliest frame too. Slot 2 was a member as that epoch started, and was released before the frame at 57 was sent; group 0's link would be shut out, whose run is as it should be.

@@ -3,6 +3,7 @@ use mathlib.Core.Bool.{Bool}
 use mathlib.Core.List.{List, [], _∷_}
 use Prim.Native.Nat.{ℕ}
 use lib.ListN.{length}
+use Rattle.ground.specs.Types.{Bytes, Rows}
 use Rattle.receiver.specs.Fetch.{fetchRows}
 use Rattle.receiver.specs.Frame.{frameRows, frameStore, portRows, storeBy, takenIn}
 use Rattle.receiver.specs.Starting.{startAsRows}
@@ -28,13 +29,13 @@ receiverRun x [] = x
 receiverRun x (c ∷ calls) = receiverRun (receiverAfter x c) calls
 
 -- a receiver started with any times
-abbrev pub startedWith : (kind count P W : ℕ) (hold restore : List ℕ) (rows : List (List ℕ)) (store : List ℕ) → Receiver
+abbrev pub startedWith : (kind count P W : ℕ) (hold restore : List ℕ) (rows : Rows) (store : Bytes) → Receiver
 startedWith kind count P W hold restore rows store = record { rows = startAsRows kind count P W (length store) hold restore rows; store = store }
 
 -- the port's rows changed by its frame
-abbrev pub portAfter : (s : List (List ℕ)) (port : ℕ) (failed : Bool) (h4 : ℕ) → List (List ℕ)
+abbrev pub portAfter : (s : Rows) (port : ℕ) (failed : Bool) (h4 : ℕ) → Rows
 portAfter s i failed h = portRows (groupAt s .kind) s i (takenIn s i failed h) h
 
 -- and the store
-abbrev pub storeAfter : (s : List (List ℕ)) (port : ℕ) (failed : Bool) (h4 : ℕ) (payload store : List ℕ) → List ℕ
+abbrev pub storeAfter : (s : Rows) (port : ℕ) (failed : Bool) (h4 : ℕ) (payload store : Bytes) → Bytes
 storeAfter s i failed h payload store = storeBy (groupAt s) i (takenIn s i failed h) h payload store

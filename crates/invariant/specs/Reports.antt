@@ -5,6 +5,7 @@ use mathlib.Core.List.{List, [], _∷_}
 use Prim.Native.Nat.{ℕ, _<_, _+_, _*_, _/_, _%_, zero, suc}
 use Rattle.ground.specs.Drawn.{fillAt}
 use Rattle.ground.specs.Plain.{if_then_else_, _==_}
+use Rattle.ground.specs.Types.{Bytes, Epoch, Rows}
 use Rattle.judge.specs.Seen.{sizeOf}
 use Rattle.packet.specs.declared.ruling.Ruling.{Ruling}
 use Rattle.receiver.specs.Report.{rulingEpoch, replyPorts}
@@ -42,7 +43,7 @@ pub record SameRule (n : ℕ) (s t : List (List ℕ)) : Type 0 where
   pub ruling : (i : ℕ) → i < n → portAt s i .ruling ≡ portAt t i .ruling
 
 -- receiving stops in this call: the frame counts, and after it no port is readable
-abbrev pub stopsWith : (s : List (List ℕ)) (port : ℕ) (failed : Bool) (h4 : ℕ) (payload store : List ℕ) → Bool
+abbrev pub stopsWith : (s : Rows) (port : ℕ) (failed : Bool) (h4 : ℕ) (payload store : Bytes) → Bool
 stopsWith s i failed h payload store =
     frameRefusal s i (length payload) (length store) == 0
     && not (takenIn s i failed h .answer == 11)
@@ -72,7 +73,7 @@ pub record ByNumber (s : List (List ℕ)) (store out after : List ℕ) : Type 0 
       fillAt 0 (frames fixedKind * XP) (λ b. getD store (placeIn (groupAt s) (port (b % XP % X)) (b / XP) + b % XP / X) 0) out)
 
 -- the ports as the report's states are worked out from them
-abbrev pub passedRows : List (List ℕ) → List ℕ → List (List ℕ)
+abbrev pub passedRows : Rows → Bytes → Rows
 passedRows s store = passedOf (groupAt s) store (portsIn (groupAt s)) s
 
 -- the ports that the report sees
@@ -97,11 +98,11 @@ portSeen p i =
     }
 
 -- RS-Ack after the report
-abbrev pub ackAfter : List (List ℕ) → List ℕ → ℕ
+abbrev pub ackAfter : Rows → Bytes → ℕ
 ackAfter s store = ackOf (reportPorts s store) (sizeOf (portsIn (groupAt s))) (groupAt s .«rs_ack»)
 
 -- a fetch gives a report
-abbrev pub gives : (x : Receiver) (out report : List ℕ) → Bool
+abbrev pub gives : (x : Receiver) (out report : Bytes) → Bool
 gives x out report = fits (x .rows) (x .store) out report && dueIn (groupAt (x .rows)) (portsIn (groupAt (x .rows))) (x .rows)
 
 -- the epoch that it says
@@ -123,7 +124,7 @@ Unstopped x (Frame i failed h payload ∷ calls) = (stopsWith (x .rows) i failed
 Unstopped x (Fetch out report ∷ calls) = Unstopped (receiverAfter x (Fetch out report)) calls
 
 -- so many epochs, each the one after the one before
-abbrev pub successive : (kind epoch ports : ℕ) → List ℕ
+abbrev pub successive : (kind : ℕ) (epoch : Epoch) (ports : ℕ) → List ℕ
 successive kind e zero = []
 successive kind e (suc n) = e ∷ successive kind (epochAfter kind e) n
 
@@ -146,7 +147,7 @@ pub record Stored (y : Receiver) (i : ℕ) (failed : Bool) (h : ℕ) (payload : 
   pub store-is : frameStore (y .rows) i failed h payload (y .store) ≡ storedAt (y .store) (placeIn (groupAt (y .rows)) i at) payload h
   pub stands : Stands (groupAt (y .rows)) i at payload h (frameStore (y .rows) i failed h payload (y .store))
 
-abbrev pub ackIn : List (List ℕ) → ℕ
+abbrev pub ackIn : Rows → ℕ
 ackIn s = groupAt s .«rs_ack»
 
 -- a whole ruling packet that was refused with 5, 6 or 7

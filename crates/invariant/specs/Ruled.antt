@@ -5,6 +5,7 @@ use mathlib.Core.Bool.{true, false}
 use mathlib.Core.List.{List, _∷_, _++_}
 use Prim.Native.Nat.{ℕ, _<_}
 use Rattle.ground.specs.Plain.{if_then_else_}
+use Rattle.ground.specs.Types.{Bytes}
 use Rattle.packet.specs.Kinds.{epochAfter}
 use Rattle.rows.specs.declared.group.Group.{Group}
 use Rattle.rows.specs.Group.{groupAt}
@@ -53,7 +54,7 @@ pub record AllPassed (x : Receiver) (c : ReceiverCall) (store : List ℕ) (r : L
   pub claimed : (tag : ℕ) (bytes : List ℕ) (h4 j : ℕ) → j < groupAt (x .rows) .count → Claimed (rowsPassed x c) store j tag bytes h4
       → Claimed (x .rows) (x .store) j tag bytes h4 ⊎ HandedBy tag bytes h4 x c j
 
-abbrev pub Ruled : (x : Receiver) (c : ReceiverCall) (store : List ℕ) (r : List (List ℕ)) → Type 0
+abbrev pub Ruled : (x : Receiver) (c : ReceiverCall) (store : Bytes) (r : List (List ℕ)) → Type 0
 Ruled x c store r = AllStay (x .rows) r ⊎ (AllUnruled (x .rows) r ⊎ AllPassed x c store r)
 
 -- All packets that rule after some calls are of one epoch, the one before the oldest: none rules, or they were read from one store, in the call that passed that epoch.

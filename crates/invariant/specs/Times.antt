@@ -4,6 +4,7 @@ use mathlib.Core.Logic.{_≢_}
 use mathlib.Core.List.{List, [], _∷_}
 use Prim.Native.Nat.{ℕ}
 use lib.ListN.{getD, length}
+use Rattle.ground.specs.Types.{Bytes, Rows}
 use Rattle.judge.specs.Seen.{sizeOf}
 use Rattle.phases.specs.Sizes.{portsIn}
 use Rattle.receiver.specs.Fetch.{fetchAnswer, fetchOut, fetchRecord}
@@ -57,9 +58,9 @@ pub record SameShown (s t : List (List ℕ)) : Type 0 where
 abbrev pub waitingIn : Member → List ℕ
 waitingIn m = (m .state) ∷ (m .«state_number») ∷ (m .«hold_off») ∷ (m .restore) ∷ (m .elapsed) ∷ []
 
-abbrev pub standingIn : List (List ℕ) → ℕ → List ℕ
+abbrev pub standingIn : Rows → ℕ → List ℕ
 standingIn s j = waitingIn (memberAt s j)
 
 -- what the report works out of them, from the ports as they are when its epoch has passed
-abbrev pub standingsAfter : List (List ℕ) → List ℕ → List Standing
+abbrev pub standingsAfter : Rows → Bytes → List Standing
 standingsAfter s store = standingsOf (reportPorts s store) (sizeOf (portsIn (groupAt s)))

@@ -1,4 +1,5 @@
 pub mod Laws
+pub mod Opened
 pub mod Order
 pub mod Seen
 pub mod Tally

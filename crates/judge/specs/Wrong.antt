@@ -9,9 +9,10 @@ use Rattle.ground.specs.Table.{tabulate}
 use Rattle.packet.specs.Kinds.{fixedKind}
 use Rattle.packet.specs.Words.{DNU, EOS, FIXED, NORM}
 use Rattle.judge.specs.declared.seen.Seen.{Seen}
-use Rattle.judge.specs.Order.{activeIn, portOf, rankOf}
+use Rattle.judge.specs.Order.{activeIn, portOf}
 use Rattle.judge.specs.Seen.{activeSeen, lackingSeen, refusedSeen, seenAt}
-use Rattle.judge.specs.Verdict.{DOUBTFUL, HELD, SURE, doubtfulBy, eosAlone, eosWrong, exact, fixedExact, fixedHeld, fixedVerdict, gidDiffers, heldBy, highest, judgeOf, lcasVerdict, missing, repeats, takes}
+use Rattle.judge.specs.Verdict.{DOUBTFUL, HELD, SURE, eosWrong, fixedExact, fixedHeld, judgeOf, missing, repeats}
+use Rattle.judge.specs.Opened.{judgeOpen}
 
 abbrev sent : ℕ → ℕ → Seen
 sent word number = record { whole = true; good = true; word = word; number = number; gid = 0; here = true }
@@ -24,7 +25,7 @@ abbrev hole : List Seen
 hole = sent DNU 0 ∷ sent NORM 1 ∷ sent EOS 2 ∷ []
 
 port-breaks : (activeIn hole 3 ≡ 2) × (tabulate 2 (wrong-port hole 3) ≡ 0 ∷ 1 ∷ []) × (tabulate 2 (portOf hole 3) ≡ 1 ∷ 2 ∷ [])
-unfolding wrong-port activeIn portOf rankOf
+unfolding judgeOpen wrong-port
 port-breaks = (refl, refl, refl)
 
 -- A fixed group (request 2026-12).
@@ -37,7 +38,7 @@ abbrev three : List Seen
 three = sent FIXED 2 ∷ sent FIXED 0 ∷ sent FIXED 1 ∷ []
 
 eos-breaks : (wrong-eos three 3 ≡ HELD) × (judgeOf fixedKind three 3 ≡ SURE)
-unfolding wrong-eos judgeOf fixedVerdict fixedHeld fixedExact eosWrong eosAlone highest missing repeats takes
+unfolding judgeOpen wrong-eos
 eos-breaks = (refl, refl)
 
 -- Doubtful kept: a gap in the numbers, or a dark port, would give out bytes that are surely not the client's.
@@ -57,10 +58,10 @@ abbrev gap : List Seen
 gap = sent FIXED 0 ∷ sent FIXED 1 ∷ sent FIXED 3 ∷ []
 
 doubt-breaks : (wrong-doubt gap 3 ≡ DOUBTFUL) × (judgeOf fixedKind gap 3 ≡ HELD) × (wrong-doubt dark 3 ≡ DOUBTFUL) × (judgeOf fixedKind dark 3 ≡ HELD)
-unfolding wrong-doubt judgeOf fixedVerdict fixedHeld fixedExact missing repeats takes
+unfolding judgeOpen wrong-doubt
 doubt-breaks = (refl, refl, refl, refl)
 
 -- By 01 the same packets are held, since no port has EOS: the kind decides.
 kind-breaks : judgeOf 0 three 3 ≡ HELD
-unfolding judgeOf lcasVerdict heldBy doubtfulBy eosWrong eosAlone exact gidDiffers highest missing repeats takes
+unfolding judgeOpen
 kind-breaks = refl

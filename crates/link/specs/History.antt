@@ -5,6 +5,7 @@ use mathlib.Core.List.{List}
 use Prim.Native.Nat.{ℕ, zero, suc, _*_, _≤_, _<_}
 use lib.ListN.{length, replicate}
 use Rattle.ground.specs.Plain.{if_then_else_, _==_}
+use Rattle.ground.specs.Types.{Bytes}
 use Rattle.packet.specs.Changes.{mostChanges}
 use Rattle.packet.specs.declared.layout.Fields.{Fields}
 use Rattle.packet.specs.Kinds.{epochs, fixedKind, frames, payloadRight}
@@ -60,7 +61,7 @@ wordSent h i slot = fieldsSent h i slot .word .0
 abbrev pub numberSent : (h : History) (i slot : ℕ) → ℕ
 numberSent h i slot = fieldsSent h i slot .sq
 
-unfoldable pub packetSent : (h : History) (i slot : ℕ) → List ℕ
+unfoldable pub packetSent : (h : History) (i slot : ℕ) → Bytes
 packetSent h i slot = packetBytes (senderAt h i) slot (replicate (frames (h .kind)) 0)
 
 -- 'Payload of P bytes per member frame, P from 1 to 2,340', and a group frame has X x P bytes
@@ -72,7 +73,7 @@ pub record Handed (h : History) (P : ℕ) (client : Client) : Type 0 where
   pub whole : (x : ℕ) → length (client x) ≡ xAt h (epochAt (h .kind) x) * P
 
 -- the payload bytes of a slot in the frame at x
-unfoldable pub payloadSent : (h : History) (P : ℕ) (client : Client) (x slot : ℕ) → List ℕ
+unfoldable pub payloadSent : (h : History) (P : ℕ) (client : Client) (x slot : ℕ) → Bytes
 payloadSent h P client x slot = payloadBytes (senderAt h (epochAt (h .kind) x)) slot P (client x) (replicate P 0)
 
 -- the slot has a rank in the epoch of the frame at x

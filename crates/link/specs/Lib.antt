@@ -10,4 +10,5 @@ pub mod FixedGroup
 pub mod Demand3
 pub mod Proofs
 pub mod Theorems
+pub mod Opened
 pub mod Samples

@@ -8,6 +8,7 @@ use lib.ListN.{drop, getD, length}
 use Rattle.counting.specs.Words.{every}
 pub use Rattle.ground.specs.Finite.{sameBytes}
 use Rattle.ground.specs.Plain.{if_then_else_}
+use Rattle.ground.specs.Types.{Bytes}
 use Rattle.judge.specs.Verdict.{HELD, SURE}
 use Rattle.packet.specs.Changes.{bringsMfi2, changed, keptPart}
 use Rattle.packet.specs.Kinds.{firstTag, frames}
@@ -136,12 +137,12 @@ framesOf client x zero = []
 framesOf client x (suc n) = framesOf client x n ++ client (x + n)
 
 -- the client's bytes of the i-th epoch
-abbrev pub clientBytes : Link → ℕ → List ℕ
+abbrev pub clientBytes : Link → ℕ → Bytes
 clientBytes k i = framesOf (k .client) (epochStart (kindOf k) i) (epochFrames k)
 
 -- The report of epoch i + 1, ruled by the packets of epoch i, into an output: 'exactly the client's bytes, marked sure, if all its ruling packets came as sent; otherwise held, with no bytes'. What is beyond its bytes
 -- stands as it was lent: where it is held, the whole output.
-unfoldable pub expected : (k : Link) (i : ℕ) (out : List ℕ) → Told
+unfoldable pub expected : (k : Link) (i : ℕ) (out : Bytes) → Told
 expected k i out =
     let bytes = if allAsSent k i then clientBytes k (suc i) else [] in
     record {

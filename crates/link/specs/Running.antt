@@ -4,6 +4,7 @@ use mathlib.Core.List.{List, [], _∷_, _++_}
 use Prim.Native.Nat.{ℕ, zero, suc, _+_, _-_, _*_}
 use lib.ListN.{drop, getD, length, take}
 use Rattle.ground.specs.Plain.{if_then_else_, _==_, _≤?_}
+use Rattle.ground.specs.Types.{Bytes, Rows}
 use Rattle.receiver.specs.Fetch.{fetchOut, fetchRecord, fetchRows}
 use Rattle.receiver.specs.Frame.{frameAnswer, frameRows, frameStore}
 use Rattle.receiver.specs.Starting.{startAsRows}
@@ -24,7 +25,7 @@ hasBegun m = groupAt (m .rows) .begun
 
 module _ (r : Road) where
   -- 'A fresh receiver', started with any times, over any rows and any store
-  unfoldable pub fresh : (hold restore : List ℕ) (rows : List (List ℕ)) (store : List ℕ) → Moment
+  unfoldable pub fresh : (hold restore : List ℕ) (rows : Rows) (store : Bytes) → Moment
   fresh hold restore rows store =
       record {
         rows = startAsRows (r .kind) (r .ports) (r .payload) (r .window) (length store) hold restore rows;
@@ -58,7 +59,7 @@ module _ (r : Road) where
   abbrev pub bytesIn : List ℕ → ℕ
   bytesIn rec = getD rec 4 0 * 16777216 + getD rec 5 0 * 65536 + getD rec 6 0 * 256 + getD rec 7 0
 
-  abbrev pub toldBy : List ℕ → List ℕ → Told
+  abbrev pub toldBy : List ℕ → Bytes → Told
   toldBy rec out = record { epoch = getD rec 1 0; mark = getD rec 0 0; bytes = take (bytesIn rec) out; rest = drop (bytesIn rec) out }
 
   -- one fetch that gives a report

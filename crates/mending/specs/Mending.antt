@@ -5,6 +5,7 @@ use mathlib.Core.List.{List, [], _∷_, _++_}
 use Prim.Native.Nat.{ℕ, suc, _-_}
 use lib.ListN.{getD, length, take}
 use Rattle.ground.specs.Plain.{if_then_else_, _==_}
+use Rattle.ground.specs.Types.{Bytes}
 use Rattle.mending.specs.Following.{hasCount}
 use Rattle.mending.specs.Lines.{Fate, Judged, Line, digitPlace, judged, lineText, linesWith, mendedLines, textOf}
 use Rattle.mending.specs.Lines.{Fate as F}
@@ -33,7 +34,7 @@ abbrev pub openingOf : List Line → Opening
 openingOf [] = O.Malformed
 openingOf (first ∷ ls) = lineOpening 0 (first .bytes)
 
-unfoldable pub readAnswer : List ℕ → ℕ
+unfoldable pub readAnswer : Bytes → ℕ
 readAnswer text = answerBy (openingOf (linesWith text))
 
 -- a note: 'line number, field, old and new text'
@@ -78,14 +79,14 @@ abbrev pub notesIn : List Line → List ℕ
 notesIn [] = []
 notesIn (first ∷ ls) = notesBy (lineOpening 0 (first .bytes)) ls
 
-unfoldable pub mendedOf : List ℕ → List ℕ
+unfoldable pub mendedOf : Bytes → Bytes
 mendedOf text = mendedIn (linesWith text)
 
-unfoldable pub notesOf : List ℕ → List ℕ
+unfoldable pub notesOf : Bytes → Bytes
 notesOf text = notesIn (linesWith text)
 
 -- 9: a length is not the one told
-unfoldable pub mendAnswer : (text : List ℕ) (mended notes : ℕ) → ℕ
+unfoldable pub mendAnswer : (text : Bytes) (mended notes : ℕ) → ℕ
 mendAnswer text mended notes =
     if readAnswer text == 0
     then (if mended == length (mendedOf text) && notes == length (notesOf text) then 0 else 9)

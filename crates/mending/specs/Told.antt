@@ -3,6 +3,7 @@ use mathlib.Core.List.{List}
 use Prim.Native.Nat.{ℕ}
 use lib.ListN.{length}
 use Rattle.ground.specs.Plain.{if_then_else_, _==_, _≤?_}
+use Rattle.ground.specs.Types.{Bytes}
 use Rattle.mending.specs.declared.measuring.Lengths.{Lengths}
 use Rattle.mending.specs.Mending.{mendAnswer, mendedOf, notesOf, readAnswer}
 
@@ -23,8 +24,8 @@ lengthsOf text =
 
 -- what is left of the lent buffers: 'no lines are written' under a refusal
 
-unfoldable pub mendedLeft : (text mended notes : List ℕ) → List ℕ
+unfoldable pub mendedLeft : (text mended notes : Bytes) → Bytes
 mendedLeft text mended notes = if mendAnswer text (length mended) (length notes) == 0 then mendedOf text else mended
 
-unfoldable pub notesLeft : (text mended notes : List ℕ) → List ℕ
+unfoldable pub notesLeft : (text mended notes : Bytes) → Bytes
 notesLeft text mended notes = if mendAnswer text (length mended) (length notes) == 0 then notesOf text else notes

@@ -11,11 +11,8 @@ use Rattle.mending.specs.Lines.{Fate as F}
 use Rattle.mending.specs.Mending.{noteBy, noteText, notesFrom}
 use Rattle.recording.specs.declared.record.Record.{Record}
 use Rattle.recording.specs.declared.record.Record.the-variants.{Frame, Malformed, Long, Unfinished, End}
-use Rattle.recording.specs.Record.{flagIn, frameBy, lineRecord}
 use Rattle.text.specs.Ascii.{ascii}
-use Rattle.text.specs.Fields.{digitOf, hexOf, isHex, numberOf}
-use Rattle.text.specs.Output.{numberText}
-use Rattle.text.specs.Text.{fieldsOf, linesOf}
+use Rattle.mending.specs.Opened.{mendingOpen}
 
 -- Good by the last line plus one, broken or not. The request counts on from the last good one; here mending the mended recording changes it again.
 abbrev lineAmong : ℕ → ℕ → List ℕ → Bool
@@ -35,7 +32,7 @@ wrong-line [] = []
 wrong-line (c ∷ cs) = c ∷ byLine c c 1 cs
 
 line-breaks : (wrong-line (0 ∷ 0 ∷ 1 ∷ 2 ∷ []) ≡ 0 ∷ 1 ∷ 1 ∷ 2 ∷ []) × (wrong-line (0 ∷ 1 ∷ 1 ∷ 2 ∷ []) ≡ 0 ∷ 1 ∷ 2 ∷ 2 ∷ []) × (followed (0 ∷ 0 ∷ 1 ∷ 2 ∷ []) ≡ 0 ∷ 0 ∷ 1 ∷ 2 ∷ [])
-unfolding wrong-line followed
+unfolding mendingOpen wrong-line
 line-breaks = (refl, refl, refl)
 
 -- The lines since not counted: good is the last good one plus one, however many broken lines lie between, and a restored one gets the same.
@@ -57,7 +54,7 @@ wrong-since (c ∷ cs) = c ∷ uncountedFrom c 1 cs
 
 since-breaks : (wrong-since (5 ∷ 6 ∷ 0 ∷ 7 ∷ 8 ∷ []) ≡ 5 ∷ 6 ∷ 7 ∷ 7 ∷ 8 ∷ []) × (followed (5 ∷ 6 ∷ 0 ∷ 7 ∷ 8 ∷ []) ≡ 5 ∷ 6 ∷ 0 ∷ 7 ∷ 8 ∷ [])
     × (wrong-since (5 ∷ 6 ∷ 0 ∷ 8 ∷ []) ≡ 5 ∷ 6 ∷ 0 ∷ 8 ∷ []) × (followed (5 ∷ 6 ∷ 0 ∷ 8 ∷ []) ≡ 5 ∷ 6 ∷ 7 ∷ 8 ∷ [])
-unfolding wrong-since followed
+unfolding mendingOpen wrong-since
 since-breaks = (refl, refl, refl, refl)
 
 -- Another number of broken lines at most, and the end taken for a good line or not.
@@ -82,7 +79,7 @@ wrong-end : List ℕ → List ℕ
 wrong-end counts = most true 3 counts
 
 end-breaks : (wrong-end (5 ∷ 6 ∷ 9 ∷ []) ≡ 5 ∷ 6 ∷ 7 ∷ []) × (followed (5 ∷ 6 ∷ 9 ∷ []) ≡ 5 ∷ 6 ∷ 9 ∷ [])
-unfolding wrong-end followed
+unfolding mendingOpen wrong-end
 end-breaks = (refl, refl)
 
 -- Four restored, and two at most: 'One to three'.
@@ -90,14 +87,14 @@ wrong-four : List ℕ → List ℕ
 wrong-four counts = most false 4 counts
 
 four-breaks : (wrong-four (5 ∷ 0 ∷ 0 ∷ 0 ∷ 0 ∷ 10 ∷ []) ≡ 5 ∷ 6 ∷ 7 ∷ 8 ∷ 9 ∷ 10 ∷ []) × (followed (5 ∷ 0 ∷ 0 ∷ 0 ∷ 0 ∷ 10 ∷ []) ≡ 5 ∷ 0 ∷ 0 ∷ 0 ∷ 0 ∷ 10 ∷ [])
-unfolding wrong-four followed
+unfolding mendingOpen wrong-four
 four-breaks = (refl, refl)
 
 wrong-two : List ℕ → List ℕ
 wrong-two counts = most false 2 counts
 
 two-breaks : (wrong-two (5 ∷ 0 ∷ 0 ∷ 0 ∷ 9 ∷ []) ≡ 5 ∷ 0 ∷ 0 ∷ 0 ∷ 9 ∷ []) × (followed (5 ∷ 0 ∷ 0 ∷ 0 ∷ 9 ∷ []) ≡ 5 ∷ 6 ∷ 7 ∷ 8 ∷ 9 ∷ [])
-unfolding wrong-two followed
+unfolding mendingOpen wrong-two
 two-breaks = (refl, refl)
 
 -- Afresh behind the four, which are left: 'afresh at the first broken line'. left: so many lines are passed before one is taken as good.
@@ -114,7 +111,7 @@ wrong-behind : List ℕ → List ℕ
 wrong-behind counts = behindFour 1 0 1 counts
 
 behind-breaks : (wrong-behind (5 ∷ 1 ∷ 9 ∷ 3 ∷ 4 ∷ 5 ∷ []) ≡ 5 ∷ 1 ∷ 9 ∷ 3 ∷ 4 ∷ 5 ∷ []) × (followed (5 ∷ 1 ∷ 9 ∷ 3 ∷ 4 ∷ 5 ∷ []) ≡ 5 ∷ 1 ∷ 2 ∷ 3 ∷ 4 ∷ 5 ∷ [])
-unfolding wrong-behind followed
+unfolding mendingOpen wrong-behind
 behind-breaks = (refl, refl)
 
 -- Afresh at the first of the four, but the other three not judged: the following goes on from the first, so they are lines since.
@@ -131,7 +128,7 @@ wrong-unjudged [] = []
 wrong-unjudged (c ∷ cs) = c ∷ unjudgedFrom 0 c 1 cs
 
 unjudged-breaks : (wrong-unjudged (5 ∷ 1 ∷ 9 ∷ 3 ∷ 4 ∷ 5 ∷ []) ≡ 5 ∷ 1 ∷ 9 ∷ 3 ∷ 4 ∷ 5 ∷ []) × (followed (5 ∷ 1 ∷ 9 ∷ 3 ∷ 4 ∷ 5 ∷ []) ≡ 5 ∷ 1 ∷ 2 ∷ 3 ∷ 4 ∷ 5 ∷ [])
-unfolding wrong-unjudged followed
+unfolding mendingOpen wrong-unjudged
 unjudged-breaks = (refl, refl)
 
 -- Fewer than four broken lines at the end left as they are: 'or at the end' the following starts afresh too.
@@ -148,7 +145,7 @@ wrong-left [] = []
 wrong-left (c ∷ cs) = c ∷ leftFrom c 1 cs
 
 left-breaks : (wrong-left (5 ∷ 0 ∷ 9 ∷ 2 ∷ []) ≡ 5 ∷ 0 ∷ 9 ∷ 2 ∷ []) × (followed (5 ∷ 0 ∷ 9 ∷ 2 ∷ []) ≡ 5 ∷ 0 ∷ 1 ∷ 2 ∷ [])
-unfolding wrong-left followed
+unfolding mendingOpen wrong-left
 left-breaks = (refl, refl)
 
 -- The lines of all ports together: 'follows the H4 count of each port'.
@@ -170,7 +167,7 @@ abbrev interleaved : List Line
 interleaved = linesWith (ascii "0\t00\t0\tAA\n1\t01\t0\tAA\n0\t05\t0\tAA\n1\t02\t0\tAA\n0\t02\t0\tAA\n")
 
 together-breaks : (wrong-together 2 1 interleaved ≡ 0 ∷ 1 ∷ 5 ∷ 2 ∷ 2 ∷ []) × (followed (countsOf 2 1 0 interleaved) ≡ 0 ∷ 1 ∷ 2 ∷ []) × (followed (countsOf 2 1 1 interleaved) ≡ 1 ∷ 2 ∷ [])
-unfolding wrong-together followed linesWith linesOf fieldsOf recordOf lineRecord frameBy numberOf hexOf isHex flagIn digitOf
+unfolding mendingOpen wrong-together
 together-breaks = (refl, refl, refl)
 
 -- Dropped lines counted as the port's, with a count that is never good: whose they were is not known. Here a line is restored that no good one follows.
@@ -188,7 +185,7 @@ abbrev torn : List Line
 torn = linesWith (ascii "0\t00\t0\tAA\n0\t0\n0\t05\t0\tAA\n0\t03\t0\tAA\n")
 
 dropped-breaks : (wrong-dropped 1 1 torn ≡ 0 ∷ 1 ∷ 2 ∷ 3 ∷ []) × (followed (countsOf 1 1 0 torn) ≡ 0 ∷ 5 ∷ 3 ∷ [])
-unfolding wrong-dropped followed linesWith linesOf fieldsOf recordOf lineRecord frameBy numberOf hexOf isHex flagIn digitOf
+unfolding mendingOpen wrong-dropped
 dropped-breaks = (refl, refl)
 
 -- Flagged lines not counted: they are lines of the port, and every flag would break its count. Here a good line becomes a broken one.
@@ -206,7 +203,7 @@ abbrev flagged : List Line
 flagged = linesWith (ascii "0\t00\t0\tAA\n0\t01\t1\tAA\n0\t02\t0\tAA\n0\t02\t0\tAA\n")
 
 plain-breaks : (wrong-plain 1 1 flagged ≡ 0 ∷ 1 ∷ 2 ∷ []) × (followed (countsOf 1 1 0 flagged) ≡ 0 ∷ 1 ∷ 2 ∷ 2 ∷ [])
-unfolding wrong-plain followed linesWith linesOf fieldsOf recordOf lineRecord frameBy numberOf hexOf isHex flagIn digitOf
+unfolding mendingOpen wrong-plain
 plain-breaks = (refl, refl)
 
 -- A note for each line that was kept: notes are 'For each line it dropped or altered'.
@@ -220,7 +217,7 @@ wrong-notes n [] = []
 wrong-notes n (j ∷ js) = wrong-note n (j .line) (j .fate) ++ wrong-notes (suc n) js
 
 notes-break : (notesFrom 1 2 (judged true 1 1 (linesWith (ascii "0\t00\t0\tAA\n"))) ≡ []) × (wrong-notes 2 (judged true 1 1 (linesWith (ascii "0\t00\t0\tAA\n"))) ≡ ascii "2\tline\t0\t00\t0\tAA\t0\t00\t0\tAA\n")
-unfolding judged followed linesWith linesOf fieldsOf recordOf lineRecord frameBy numberOf hexOf isHex flagIn digitOf numberText
+unfolding mendingOpen
 notes-break = (refl, refl)
 
 -- VC-12's lines followed by their second digit as if it were a count (request 2026-01): of its byte one bit is K4's, so that a run of three such bytes can read as a count that broke.
@@ -229,5 +226,5 @@ wrong-kind kind counts = followed counts
 
 kind-breaks : (wrong-kind 1 (0 ∷ 0 ∷ 2 ∷ []) ≡ 0 ∷ 1 ∷ 2 ∷ []) × (followedIf (hasCount 1) (0 ∷ 0 ∷ 2 ∷ []) ≡ 0 ∷ 0 ∷ 2 ∷ [])
     × (followedIf (hasCount 0) (0 ∷ 0 ∷ 2 ∷ []) ≡ 0 ∷ 1 ∷ 2 ∷ []) × (followedIf (hasCount 2) (0 ∷ 0 ∷ 2 ∷ []) ≡ 0 ∷ 1 ∷ 2 ∷ [])
-unfolding wrong-kind followed
+unfolding mendingOpen wrong-kind
 kind-breaks = (refl, refl, refl, refl)

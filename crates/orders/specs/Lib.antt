@@ -1,5 +1,6 @@
 pub mod Folding
 pub mod Laws
+pub mod Opened
 pub mod Orders
 pub mod Shown
 pub mod Singles

@@ -4,21 +4,15 @@ use mathlib.Core.Bool.{Bool, true, false, _&&_}
 use mathlib.Core.List.{List, [], _∷_, _++_}
 use Prim.Native.Nat.{ℕ}
 use Rattle.ground.specs.Plain.{if_then_else_, _==_}
-use Rattle.packet.specs.Kinds.{idleNumber}
-use Rattle.sender.specs.Commands.{addOf, addedTo, fallen, fallenIn, freshOf, idleSlot, removeOf, removedFrom}
-use Rattle.sender.specs.Commands as T
-use Rattle.sender.specs.Epochs.{beginOf, freshSender}
-use Rattle.sender.specs.Table.{membersOf, sizeOf}
 use Rattle.circuits.specs.declared.card.Card.{Card}
-use Rattle.circuits.specs.Commands.{claimOf, commandOf, releaseOf, startOf}
-use Rattle.circuits.specs.Owners.{withOwner}
-use Rattle.circuits.specs.Parts.{groupOutcome, isSlot, isUsed, marked, owns, senderOf, withSender}
+use Rattle.circuits.specs.Parts.{owns}
 use Rattle.circuits.specs.Shown.{after}
 use Rattle.orders.specs.declared.commands.Command.{Command}
 use Rattle.orders.specs.declared.commands.Kind as K
 use Rattle.orders.specs.Folding.{Folded}
 use Rattle.orders.specs.Orders.{numberBy, ordersOf, outcomeBy}
 use Rattle.orders.specs.Shown.{add, claim, release, remove}
+use Rattle.orders.specs.Opened.{ordersOpen}
 
 -- two slots, nobody's
 abbrev fresh : Card
@@ -36,7 +30,7 @@ wrong-stops card (c ∷ cs) = numberBy card c ∷ (if numberBy card c == 0 then 
 stops-breaks :
     (wrong-stops fresh (add 0 0 ∷ claim 0 0 ∷ add 0 0 ∷ []) ≡ 14 ∷ 255 ∷ 255 ∷ [])
     × (ordersOf fresh (add 0 0 ∷ claim 0 0 ∷ add 0 0 ∷ []) .numbers ≡ 14 ∷ 0 ∷ 0 ∷ [])
-unfolding wrong-stops outcomeBy withOwner senderOf withSender isSlot owns marked groupOutcome startOf claimOf commandOf beginOf freshSender T.startOf freshOf idleSlot idleNumber addOf addedTo sizeOf membersOf
+unfolding ordersOpen wrong-stops
 stops-breaks = (refl, refl)
 
 -- Judges each command on the card as it was given. 'calling one by one in that order': an add sees the claim before it.
@@ -47,7 +41,7 @@ wrong-judges card (c ∷ cs) = numberBy card c ∷ wrong-judges card cs
 judges-breaks :
     (wrong-judges fresh (claim 0 0 ∷ add 0 0 ∷ claim 1 0 ∷ []) ≡ 0 ∷ 14 ∷ 0 ∷ [])
     × (ordersOf fresh (claim 0 0 ∷ add 0 0 ∷ claim 1 0 ∷ []) .numbers ≡ 0 ∷ 0 ∷ 14 ∷ [])
-unfolding wrong-judges outcomeBy withOwner senderOf withSender isSlot owns marked groupOutcome startOf claimOf commandOf beginOf freshSender T.startOf freshOf idleSlot idleNumber addOf addedTo sizeOf membersOf
+unfolding ordersOpen wrong-judges
 judges-breaks = (refl, refl)
 
 -- All or nothing: with one refusal the card stays as it was given. One claim is refused here, and the other slot is owned all the same.
@@ -61,7 +55,7 @@ wrong-whole card cs = if all-done (ordersOf card cs .numbers) then ordersOf card
 whole-breaks :
     (owns (wrong-whole fresh (claim 0 0 ∷ claim 0 0 ∷ [])) 0 0 ≡ false)
     × (owns (ordersOf fresh (claim 0 0 ∷ claim 0 0 ∷ []) .state) 0 0 ≡ true)
-unfolding wrong-whole all-done outcomeBy withOwner senderOf isSlot owns marked startOf claimOf beginOf freshSender T.startOf freshOf idleSlot idleNumber sizeOf
+unfolding ordersOpen wrong-whole all-done
 whole-breaks = (refl, refl)
 
 -- Takes the commands by kind, claims first and removes last, as if to help. 'in that order': here the add comes before its claim, and is refused.
@@ -99,10 +93,10 @@ wrong-groups card cs = ordersOf card (of-kind is-claim cs ++ (of-kind is-add cs 
 groups-breaks :
     (wrong-groups fresh (add 0 0 ∷ claim 0 0 ∷ []) .numbers ≡ 0 ∷ 0 ∷ [])
     × (ordersOf fresh (add 0 0 ∷ claim 0 0 ∷ []) .numbers ≡ 14 ∷ 0 ∷ [])
-unfolding wrong-groups of-kind is-claim is-add is-remove is-release outcomeBy withOwner senderOf withSender isSlot owns marked groupOutcome startOf claimOf commandOf beginOf freshSender T.startOf freshOf idleSlot idleNumber addOf addedTo sizeOf membersOf
+unfolding ordersOpen wrong-groups of-kind is-claim is-add is-remove is-release
 groups-breaks = (refl, refl)
 
 -- Beside them the trap, which is no wrong reading: a remove opens the group's wait, and what follows of that group is answered 3. Nothing is sorted or put off for it.
 trap : ordersOf (after 2 []) (claim 0 0 ∷ claim 0 1 ∷ add 0 0 ∷ remove 0 0 ∷ add 0 1 ∷ remove 0 0 ∷ release 0 0 ∷ []) .numbers ≡ 0 ∷ 0 ∷ 0 ∷ 0 ∷ 3 ∷ 3 ∷ 0 ∷ []
-unfolding outcomeBy withOwner senderOf withSender isSlot owns isUsed marked groupOutcome startOf claimOf releaseOf commandOf beginOf freshSender T.startOf freshOf idleSlot idleNumber addOf addedTo removeOf removedFrom fallen fallenIn sizeOf membersOf
+unfolding ordersOpen
 trap = refl

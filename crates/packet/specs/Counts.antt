@@ -2,6 +2,7 @@
 use mathlib.Core.Bool.{Bool, _&&_, not, _||_}
 use Prim.Native.Nat.{ℕ, _+_, _-_, _*_, _/_, _%_, _^_}
 use Rattle.ground.specs.Plain.{if_then_else_, _==_, _<?_}
+use Rattle.ground.specs.Types.{Tag}
 use Rattle.packet.specs.Kinds.{vc12Kind}
 
 -- H4: the first frame of a multiframe, MFI1 is 0
@@ -9,7 +10,7 @@ unfoldable pub startsCount : ℕ → ℕ → Bool
 startsCount kind h = h % 16 == 0
 
 -- the tag after it, as far as it tells: MFI2's high nibble
-unfoldable pub tagByHigh : ℕ → ℕ → ℕ
+unfoldable pub tagByHigh : ℕ → ℕ → Tag
 tagByHigh kind h = h / 16 % 16 * 256 + 1
 
 -- the second frame of a multiframe: MFI1 is 1
@@ -17,7 +18,7 @@ unfoldable pub carriesLow : ℕ → ℕ → Bool
 carriesLow kind h = h % 16 == 1
 
 -- the tag after it, with MFI2's low nibble from this frame and its high one from the frame before
-unfoldable pub tagByLow : (kind tag h4 : ℕ) → ℕ
+unfoldable pub tagByLow : (kind : ℕ) (tag : Tag) (h4 : ℕ) → Tag
 tagByLow kind t h = t / 256 % 16 * 256 + h / 16 % 16 * 16 + 2
 
 -- a frame that counts as the tag t says: MFI1 in every frame, MFI2's high nibble at MFI1 0, its low one at MFI1 1
@@ -41,5 +42,5 @@ vc12Counts t h =
     (if t % 32 == 0 then saysStart h else not (saysStart h))
     && (not (t % 32 <? 5) || h % 2 == toldBits (t % 1024 / 32) (t % 32) % 2)
 
-unfoldable pub counts : (kind tag h4 : ℕ) → Bool
+unfoldable pub counts : (kind : ℕ) (tag : Tag) (h4 : ℕ) → Bool
 counts kind t h = if kind == vc12Kind then vc12Counts t h else h4Counts t h

@@ -4,6 +4,7 @@ use Prim.Native.Nat.{ℕ, zero, suc, _+_, _-_, _*_, _/_, _%_, _^_}
 use Rattle.ground.specs.Bits.{odd}
 use Rattle.ground.specs.Circle.{after}
 use Rattle.ground.specs.Plain.{if_then_else_, _==_}
+use Rattle.ground.specs.Types.{Epoch, Tag}
 
 abbrev pub vc12Kind : ℕ
 vc12Kind = 1
@@ -30,14 +31,14 @@ tags kind = if kind == vc12Kind then 1024 else 4096
 unfoldable pub lead : ℕ → ℕ
 lead kind = if kind == vc12Kind then 0 else 8
 
-unfoldable pub epochAfter : ℕ → ℕ → ℕ
+unfoldable pub epochAfter : ℕ → Epoch → Epoch
 epochAfter kind e = (e + 1) % epochs kind
 
 -- '4,095 is followed by 0'
-unfoldable pub tagAfter : ℕ → ℕ → ℕ
+unfoldable pub tagAfter : ℕ → Tag → Tag
 tagAfter kind t = (t + 1) % tags kind
 
-unfoldable pub tagBefore : ℕ → ℕ → ℕ
+unfoldable pub tagBefore : ℕ → Tag → Tag
 tagBefore kind t = (t + (tags kind - 1)) % tags kind
 
 -- by the tag to come, the tag of the frame that came so many before the latest
@@ -46,17 +47,17 @@ tagBack kind next zero = tagBefore kind next
 tagBack kind next (suc d) = tagBefore kind (tagBack kind next d)
 
 -- how many frames the tag a lies after the tag b
-unfoldable pub distanceOf : (kind a b : ℕ) → ℕ
+unfoldable pub distanceOf : (kind : ℕ) (a b : Tag) → ℕ
 distanceOf kind a b = after (tags kind) a b
 
 -- the place of a tag's frame in its epoch
-unfoldable pub placeOf : ℕ → ℕ → ℕ
+unfoldable pub placeOf : ℕ → Tag → ℕ
 placeOf kind t = (t + lead kind) % frames kind
 
-unfoldable pub startsEpoch : ℕ → ℕ → Bool
+unfoldable pub startsEpoch : ℕ → Tag → Bool
 startsEpoch kind t = placeOf kind t == 0
 
-unfoldable pub epochOf : ℕ → ℕ → ℕ
+unfoldable pub epochOf : ℕ → Tag → Epoch
 epochOf kind t = (t + lead kind) % tags kind / frames kind
 
 -- Of a frame by how far it lies after an epoch's first: how many epochs later it is, and whether it is the last one of its epoch.
@@ -67,7 +68,7 @@ unfoldable pub endsEpoch : ℕ → ℕ → Bool
 endsEpoch kind d = d % frames kind == frames kind - 1
 
 -- the tag with which an epoch starts
-unfoldable pub firstTag : ℕ → ℕ → ℕ
+unfoldable pub firstTag : ℕ → Epoch → Tag
 firstTag kind e = (e * frames kind + (tags kind - lead kind)) % tags kind
 
 -- how many epochs MST takes to speak of every number
@@ -75,7 +76,7 @@ unfoldable pub mstEpochs : ℕ → ℕ
 mstEpochs kind = if kind == vc12Kind then 8 else 32
 
 -- 'MST in epoch e speaks of numbers 8 x (e mod 32)', of VC-12 'of numbers 8 x (count mod 8) onward': the first of them
-unfoldable pub mstFirst : ℕ → ℕ → ℕ
+unfoldable pub mstFirst : ℕ → Epoch → ℕ
 mstFirst kind e = 8 * (e % mstEpochs kind)
 
 -- 'to that plus 7': how many numbers these are

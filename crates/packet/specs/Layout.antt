@@ -3,6 +3,7 @@ use mathlib.Core.List.{List, [], _∷_, _++_}
 use Prim.Native.Nat.{ℕ, _+_, _*_, _/_, _%_, _^_}
 use lib.ListN.{getD}
 use Rattle.ground.specs.Table.{tabulate}
+use Rattle.ground.specs.Types.{Bytes}
 use Rattle.packet.specs.declared.layout.Fields.{Fields}
 use Rattle.packet.specs.Crc.{crcOf}
 use Rattle.packet.specs.Words.{wordOf}
@@ -35,11 +36,11 @@ unfoldable pub nibblesOf : Fields → List ℕ
 nibblesOf f = sealedOf (dataOf f)
 
 -- the H4 bytes that carry sixteen nibbles: the nibble in bits 1 to 4, MFI1 in bits 5 to 8
-unfoldable pub h4Of : List ℕ → List ℕ
+unfoldable pub h4Of : List ℕ → Bytes
 h4Of ns = tabulate 16 (λ i. getD ns i 0 % 16 * 16 + (i + 8) % 16)
 
 -- the nibbles that sixteen H4 bytes carry: 'only the high nibbles are looked at'
-unfoldable pub highsOf : List ℕ → List ℕ
+unfoldable pub highsOf : Bytes → List ℕ
 highsOf s = tabulate 16 (λ i. getD s i 0 / 16)
 
 abbrev pub byteOf : ℕ → ℕ → ℕ

@@ -7,6 +7,7 @@ pub mod Kinds
 pub mod Laws
 pub mod Layout
 pub mod Mst
+pub mod Opened
 pub mod Reading
 pub mod Ruling
 mod Samples

@@ -3,6 +3,7 @@ use mathlib.Core.List.{List, [], _∷_}
 use Prim.Native.Nat.{ℕ}
 use lib.ListN.{length, take}
 use Rattle.ground.specs.Plain.{if_then_else_, _==_}
+use Rattle.ground.specs.Types.{Bytes}
 use Rattle.packet.specs.declared.layout.Fields.{Fields}
 use Rattle.packet.specs.declared.reader.Reading.{Reading}
 use Rattle.packet.specs.declared.reader.Reading.the-variants.{Packet, Length, Crc, Fixed, Unassigned}
@@ -33,5 +34,5 @@ readFields f = if f .word .0 == FIXED then Fixed else if assigned (f .word) then
 unfoldable pub readNibbles : List ℕ → Reading
 readNibbles ns = if crcOf (take 14 ns) == carriedIn ns then readFields (fieldsOf ns) else Crc
 
-unfoldable pub readAnswer : List ℕ → Reading
+unfoldable pub readAnswer : Bytes → Reading
 readAnswer s = if length s == 16 then readNibbles (highsOf s) else Length

@@ -6,6 +6,7 @@ use Rattle.packet.specs.declared.layout.Fields.{Fields}
 use Rattle.packet.specs.declared.reader.Reading.{Reading}
 use Rattle.packet.specs.declared.reader.Reading.the-variants.{Packet, Length, Crc, Fixed, Unassigned}
 use Rattle.ground.specs.Plain.{if_then_else_, _==_}
+use Rattle.ground.specs.Types.{Epoch}
 use Rattle.packet.specs.Kinds.{vc12Kind}
 use Rattle.packet.specs.Layout.{fieldsOf}
 use Rattle.packet.specs.Reading.{readNibbles}
@@ -31,5 +32,5 @@ unfoldable pub fieldsIn : ℕ → List ℕ → Fields
 fieldsIn kind row = if kind == vc12Kind then vc12Fields (rowBits row) else fieldsOf row
 
 -- of the packet of an epoch by the receiver's own count, which is not looked at: the epoch inside the packet is the step rule's to judge
-unfoldable pub rulingOf : (kind epoch : ℕ) (nibbles : List ℕ) → Ruling
+unfoldable pub rulingOf : (kind : ℕ) (epoch : Epoch) (nibbles : List ℕ) → Ruling
 rulingOf kind epoch row = rulingBy (readRow kind row)

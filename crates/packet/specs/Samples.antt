@@ -10,9 +10,10 @@ use Rattle.ground.specs.Table.{tabulate}
 use Rattle.packet.specs.declared.layout.Fields.{Fields}
 use Rattle.packet.specs.declared.reader.Reading.the-variants.{Packet}
 use Rattle.packet.specs.Reading.{readingNumber}
-use Rattle.packet.specs.Vc12.{lowestOf, readVc12Answer, vc12Bits, vc12Bytes, vc12Data, vc12Divisor, vc12Fields, vc12Fits, readVc12Bits, writeVc12Answer, writeVc12Bytes}
-use Rattle.packet.specs.Words.{DNU, EOS, IDLE, NORM, assigned}
+use Rattle.packet.specs.Vc12.{readVc12Answer, vc12Bits, readVc12Bits, writeVc12Answer, writeVc12Bytes}
+use Rattle.packet.specs.Words.{DNU, EOS, IDLE, NORM}
 use Rattle.packet.specs.Writing.{writingNumber}
+use Rattle.packet.specs.Opened.{packetOpen}
 
 -- IDLE, SQ 63, count 0, MST all FAIL
 idle : Fields
@@ -46,20 +47,20 @@ written : (writeVc12Bytes idle (replicate 32 0) ≡ idle-frames)
     × (writeVc12Bytes eos (replicate 32 0) ≡ eos-frames)
     × (writeVc12Bytes norm (replicate 32 0) ≡ norm-frames)
     × (writeVc12Bytes mixed (replicate 32 0) ≡ mixed-frames)
-unfolding writeVc12Bytes vc12Fits vc12Bytes vc12Bits vc12Data vc12Divisor assigned idle idle-frames eos eos-frames norm norm-frames mixed mixed-frames
+unfolding packetOpen idle idle-frames eos eos-frames norm norm-frames mixed mixed-frames
 written = (refl, refl, refl, refl)
 
 read : (readVc12Answer idle-frames ≡ Packet idle)
     × (readVc12Answer eos-frames ≡ Packet eos)
     × (readVc12Answer norm-frames ≡ Packet norm)
     × (readVc12Answer mixed-frames ≡ Packet mixed)
-unfolding readVc12Answer readVc12Bits vc12Fields vc12Divisor lowestOf assigned idle idle-frames eos eos-frames norm norm-frames mixed mixed-frames
+unfolding packetOpen idle idle-frames eos eos-frames norm norm-frames mixed mixed-frames
 read = (refl, refl, refl, refl)
 
 -- all zeros have a right CRC and the word FIXED; all ones have a wrong CRC; a byte too few, one too many
 refused : (readingNumber (readVc12Answer (replicate 32 0)) ≡ 7) × (readingNumber (readVc12Answer (replicate 32 1)) ≡ 5)
     × (readingNumber (readVc12Answer (replicate 31 0)) ≡ 9) × (readingNumber (readVc12Answer (replicate 33 0)) ≡ 9)
-unfolding readVc12Answer readVc12Bits vc12Fields vc12Divisor lowestOf assigned
+unfolding packetOpen
 refused = (refl, refl, refl, refl)
 
 -- the greatest that fits and one more: count, SQ, reserved bits; and FIXED, a word that is unassigned, a byte too few
@@ -71,7 +72,7 @@ answer lent f = writingNumber (writeVc12Answer f (replicate lent 0))
 
 limits : (answer 32 (some 31 63 15 NORM) ≡ 0) × (answer 32 (some 32 63 15 NORM) ≡ 8) × (answer 32 (some 31 64 15 NORM) ≡ 8)
     × (answer 32 (some 31 63 16 NORM) ≡ 8) × (answer 32 (some 31 63 15 0) ≡ 8) × (answer 32 (some 31 63 15 4) ≡ 8) × (answer 31 (some 32 63 15 NORM) ≡ 9)
-unfolding answer some writeVc12Answer vc12Fits assigned
+unfolding packetOpen answer some
 limits = (refl, refl, refl, refl, refl, refl, refl)
 
 -- NORM 9 of count 7 with MST 00, its bits 15 and 22, counted from 1, changed: EOS 9 with MST 80
@@ -79,5 +80,5 @@ nine : ℕ → ℕ → Fields
 nine word mst = record { epoch = 7; word = record { 0 = word }; gid = 0; mst = mst; «rs_ack» = 0; sq = 9; reserved = 0 }
 
 changed : readVc12Bits (tabulate 32 (λ k. plus (k == 14 || k == 21) (getD (vc12Bits (nine NORM 0)) k false))) ≡ Packet (nine EOS 0x80)
-unfolding nine readVc12Bits vc12Bits vc12Data vc12Divisor vc12Fields assigned
+unfolding packetOpen nine
 changed = refl

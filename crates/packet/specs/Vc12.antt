@@ -8,6 +8,7 @@ use Rattle.ground.specs.Finite.{sameBits}
 use Rattle.ground.specs.Plain.{if_then_else_, _==_}
 use Rattle.ground.specs.Polynomial.{check, sealed}
 use Rattle.ground.specs.Table.{tabulate}
+use Rattle.ground.specs.Types.{Bytes}
 use Rattle.packet.specs.declared.layout.Fields.{Fields}
 use Rattle.packet.specs.declared.reader.Reading.{Reading}
 use Rattle.packet.specs.declared.reader.Reading.the-variants.{Crc, Length}
@@ -33,7 +34,7 @@ vc12Bits f = sealed vc12Divisor (vc12Data f)
 abbrev pub frameByte : List Bool → ℕ → ℕ
 frameByte l k = (if k == 0 then 2 else 0) + (if getD l k false then 1 else 0)
 
-unfoldable pub vc12Bytes : List Bool → List ℕ
+unfoldable pub vc12Bytes : List Bool → Bytes
 vc12Bytes l = tabulate 32 (frameByte l)
 
 -- 8 (01): five bits of count, six of SQ and four reserved ones
@@ -41,11 +42,11 @@ unfoldable pub vc12Fits : Fields → Bool
 vc12Fits f = fitsWithin 32 64 16 f
 
 -- 'For writing: 9, 8' (01)
-unfoldable pub writeVc12Answer : Fields → List ℕ → Writing
+unfoldable pub writeVc12Answer : Fields → Bytes → Writing
 writeVc12Answer f s = if length s == 32 then (if vc12Fits f then Done else Field) else Short
 
 -- the lent bytes afterwards: the packet, or as they were
-unfoldable pub writeVc12Bytes : Fields → List ℕ → List ℕ
+unfoldable pub writeVc12Bytes : Fields → Bytes → Bytes
 writeVc12Bytes f s = if length s == 32 then (if vc12Fits f then vc12Bytes (vc12Bits f) else s) else s
 
 -- n bits from a place on, as a number
@@ -70,10 +71,10 @@ unfoldable pub readVc12Bits : List Bool → Reading
 readVc12Bits l = if sameBits (check vc12Divisor (take 29 l)) (drop 29 l) then readFields (vc12Fields l) else Crc
 
 -- the bits that 32 bytes carry: the lowest of each, and no other is looked at
-unfoldable pub lowestOf : List ℕ → List Bool
+unfoldable pub lowestOf : Bytes → List Bool
 lowestOf s = tabulate 32 (λ k. odd (getD s k 0))
 
-unfoldable pub readVc12Answer : List ℕ → Reading
+unfoldable pub readVc12Answer : Bytes → Reading
 readVc12Answer s = if length s == 32 then readVc12Bits (lowestOf s) else Length
 
 -- The receiver keeps sixteen entries of two bits each, the earlier frame's twice as high.

@@ -1,9 +1,9 @@
 -- A packet written (01, 'Answer numbers').
 use mathlib.Core.Bool.{Bool, _&&_, not}
-use mathlib.Core.List.{List}
 use Prim.Native.Nat.{ℕ, _^_}
 use lib.ListN.{length}
 use Rattle.ground.specs.Plain.{if_then_else_, _==_, _<?_}
+use Rattle.ground.specs.Types.{Bytes}
 use Rattle.packet.specs.declared.layout.Fields.{Fields}
 use Rattle.packet.specs.declared.writer.Writing.{Writing}
 use Rattle.packet.specs.declared.writer.Writing.the-variants.{Done, Length, Field}
@@ -32,9 +32,9 @@ unfoldable pub fitting : Fields → Bool
 fitting f = fitsWithin 256 256 (2 ^ 26) f
 
 -- 'For writing: 9, 8.'
-unfoldable pub writeAnswer : Fields → List ℕ → Writing
+unfoldable pub writeAnswer : Fields → Bytes → Writing
 writeAnswer f s = if length s == 16 then (if fitting f then Done else Field) else Length
 
 -- the lent H4 bytes afterwards: the packet, or as they were
-unfoldable pub writeBytes : Fields → List ℕ → List ℕ
+unfoldable pub writeBytes : Fields → Bytes → Bytes
 writeBytes f s = if length s == 16 then (if fitting f then h4Of (nibblesOf f) else s) else s

@@ -12,21 +12,22 @@ use Rattle.ground.specs.Table.{tabulate}
 use Rattle.packet.specs.declared.layout.Fields.{Fields}
 use Rattle.packet.specs.declared.reader.Reading.{Reading}
 use Rattle.packet.specs.declared.reader.Reading.the-variants.{Packet, Crc, Fixed, Unassigned}
-use Rattle.packet.specs.Crc.{crcOf, divisor, nibbleBits}
-use Rattle.packet.specs.Fixed.{fixedFields, fixedNibbles, fixedNibblesWith, readFixedNibbles}
-use Rattle.packet.specs.Kinds.{epochOf, frames, idleNumber, lead, mstEpochs, mstFails, mstFirst, tags, vc12Kind}
-use Rattle.packet.specs.Layout.{byteOf, carriedIn, dataOf, fieldsOf, h4Of, nibblesOf, sealedOf}
+use Rattle.packet.specs.Crc.{crcOf}
+use Rattle.packet.specs.Fixed.{fixedFields, fixedNibbles, readFixedNibbles}
+use Rattle.packet.specs.Kinds.{epochOf, idleNumber, mstFails, mstFirst, vc12Kind}
+use Rattle.packet.specs.Layout.{byteOf, carriedIn, dataOf, fieldsOf, h4Of, nibblesOf}
 use Rattle.packet.specs.Reading.{readNibbles}
 use Rattle.packet.specs.Shares.{byteAt, joinedTo, shareOf}
 use Rattle.packet.specs.Vc12.{lowestOf, readVc12Bits, vc12Bits, vc12Bytes, vc12Data, vc12Divisor, vc12Fields}
 use Rattle.packet.specs.Words.{FIXED, IDLE, NORM, assigned}
+use Rattle.packet.specs.Opened.{packetOpen}
 
 -- The epoch as the multiframe. 'A packet is sixteen nibbles, from MFI1 8 to 15 and on to 0 to 7 of the next multiframe': tag 8 is epoch 1's.
 wrong-epoch : ℕ → ℕ
 wrong-epoch t = t / 16
 
 epoch-breaks : (wrong-epoch 8 ≡ 0) × (epochOf 0 8 ≡ 1)
-unfolding wrong-epoch epochOf lead frames tags
+unfolding packetOpen wrong-epoch
 epoch-breaks = (refl, refl)
 
 -- MST's block one epoch late, as source document 002 has it (table 5, note 2). In P8 epoch 0 speaks of numbers 0 to 7.
@@ -34,7 +35,7 @@ wrong-first : ℕ → ℕ
 wrong-first e = 8 * ((e + 255) % 32)
 
 first-breaks : (wrong-first 0 ≡ 248) × (mstFirst 0 0 ≡ 0)
-unfolding wrong-first mstFirst mstEpochs
+unfolding packetOpen wrong-first
 first-breaks = (refl, refl)
 
 -- MST's last bit as the lowest number. In P8 the byte BF says OK of number 1 alone.
@@ -42,7 +43,7 @@ wrong-fails : ℕ → ℕ → Bool
 wrong-fails mst q = odd (mst / 2 ^ (q % 8))
 
 fails-breaks : (wrong-fails 191 1 ≡ true) × (mstFails 191 1 ≡ false)
-unfolding wrong-fails mstFails
+unfolding packetOpen wrong-fails
 fails-breaks = (refl, refl)
 
 -- The word judged before the CRC. 'For reading a packet: 9, 5, 7, 6': a word FIXED under a wrong CRC is 5.
@@ -53,7 +54,7 @@ wrong-read ns =
     else Unassigned
 
 read-breaks : (wrong-read (1 ∷ replicate 15 0) ≡ Fixed) × (readNibbles (1 ∷ replicate 15 0) ≡ Crc)
-unfolding wrong-read readNibbles fieldsOf carriedIn crcOf divisor nibbleBits
+unfolding packetOpen wrong-read
 read-breaks = (refl, refl)
 
 -- Wrong readings of request 2026-08, on a packet with the three bits beside GID set.
@@ -69,7 +70,7 @@ wrong-reserved ns =
 
 reserved-breaks : (getD (h4Of (nibblesOf (with-reserved (wrong-reserved (nibblesOf (with-reserved 1792)))))) 11 0 ≡ 0x13)
     × (getD (h4Of (nibblesOf (fieldsOf (nibblesOf (with-reserved 1792))))) 11 0 ≡ 0xF3)
-unfolding wrong-reserved with-reserved nibblesOf sealedOf dataOf h4Of fieldsOf crcOf divisor nibbleBits
+unfolding packetOpen wrong-reserved with-reserved
 reserved-breaks = (refl, refl)
 
 -- The bits written but the CRC taken over zeros: what is written does not read.
@@ -79,7 +80,7 @@ wrong-nibbles z =
     dataOf (with-reserved z) ++ ((sum / 16) ∷ (sum % 16) ∷ [])
 
 nibbles-break : (readNibbles (wrong-nibbles 1792) ≡ Crc) × (readNibbles (nibblesOf (with-reserved 1792)) ≡ Packet (with-reserved 1792))
-unfolding wrong-nibbles with-reserved nibblesOf sealedOf dataOf readNibbles fieldsOf carriedIn crcOf divisor nibbleBits assigned
+unfolding packetOpen wrong-nibbles with-reserved
 nibbles-break = (refl, refl)
 
 -- Wrong readings of request 2026-02, on P4 (the last bit alone, CRC 07) and P1 (CRC 99).
@@ -96,7 +97,7 @@ wrong-places zero ns = 0
 wrong-places (suc p) ns = bitXor (wrong-places p ns) (shareOf (6 - p) (byteAt ns p))
 
 places-break : (wrong-places 7 p4-data ≡ 0xDF) × (joinedTo 7 p4-data ≡ 0x07)
-unfolding wrong-places p4-data joinedTo shareOf crcOf divisor nibbleBits
+unfolding packetOpen wrong-places p4-data
 places-break = (refl, refl)
 
 -- A byte made of its two nibbles the wrong way round: P4 gives 70.
@@ -105,7 +106,7 @@ wrong-bytes zero ns = 0
 wrong-bytes (suc p) ns = bitXor (wrong-bytes p ns) (shareOf p (byteOf (getD ns (p * 2 + 1) 0) (getD ns (p * 2) 0)))
 
 bytes-break : (wrong-bytes 7 p4-data ≡ 0x70) × (joinedTo 7 p4-data ≡ 0x07)
-unfolding wrong-bytes p4-data joinedTo shareOf crcOf divisor nibbleBits
+unfolding packetOpen wrong-bytes p4-data
 bytes-break = (refl, refl)
 
 -- The shares added as numbers modulo 256, and not bit by bit: P1 gives 21.
@@ -114,19 +115,19 @@ wrong-sums zero ns = 0
 wrong-sums (suc p) ns = (wrong-sums p ns + shareOf p (byteAt ns p)) % 256
 
 sums-break : (wrong-sums 7 p1-data ≡ 0x21) × (joinedTo 7 p1-data ≡ 0x99)
-unfolding wrong-sums p1-data joinedTo shareOf crcOf divisor nibbleBits
+unfolding packetOpen wrong-sums p1-data
 sums-break = (refl, refl)
 
 -- Wrong readings of request 2026-12.
 
 -- The CRC still checked, on SQ 5 in epoch 58: 5.
 checked-breaks : (readNibbles (fixedNibbles 58 5) ≡ Crc) × (readFixedNibbles (fixedNibbles 58 5) ≡ Packet (fixedFields 58 5))
-unfolding fixedNibbles fixedNibblesWith readFixedNibbles readNibbles fieldsOf carriedIn crcOf divisor nibbleBits assigned
+unfolding packetOpen
 checked-breaks = (refl, refl)
 
 -- The word judged as in LCAS, on SQ 0 in epoch 0, whose CRC is right: 7.
 judged-breaks : (readNibbles (fixedNibbles 0 0) ≡ Fixed) × (readFixedNibbles (fixedNibbles 0 0) ≡ Packet (fixedFields 0 0))
-unfolding fixedNibbles fixedNibblesWith readFixedNibbles readNibbles fieldsOf carriedIn crcOf divisor nibbleBits assigned
+unfolding packetOpen
 judged-breaks = (refl, refl)
 
 -- Wrong readings of request 2026-01.
@@ -140,7 +141,7 @@ wrong-divisor : List Bool
 wrong-divisor = true ∷ false ∷ true ∷ []
 
 divisor-breaks : (check wrong-divisor (vc12Data vc12-idle) ≡ true ∷ false ∷ true ∷ []) × (check vc12Divisor (vc12Data vc12-idle) ≡ false ∷ true ∷ false ∷ [])
-unfolding wrong-divisor vc12-idle vc12Data vc12Divisor
+unfolding packetOpen wrong-divisor vc12-idle
 divisor-breaks = (refl, refl)
 
 -- A frame's whole byte taken for its bit: the first one's 2, which says the start, loses the bit beside it. NORM 63 of count 31 is refused with 5.
@@ -151,7 +152,7 @@ wrong-lowest : List ℕ → List Bool
 wrong-lowest s = tabulate 32 (λ k. getD s k 0 == 1)
 
 lowest-breaks : (readVc12Bits (wrong-lowest (vc12Bytes (vc12Bits vc12-last))) ≡ Crc) × (readVc12Bits (lowestOf (vc12Bytes (vc12Bits vc12-last))) ≡ Packet vc12-last)
-unfolding wrong-lowest vc12-last vc12Bytes vc12Bits vc12Data vc12Divisor lowestOf readVc12Bits vc12Fields assigned
+unfolding packetOpen wrong-lowest vc12-last
 lowest-breaks = (refl, refl)
 
 -- Two changed bits taken for none that passes, as of H4's packets up to three: bits 11 and 18 of NORM 0 and of NORM 1, seven places apart, make each read as the other, with a reserved bit.
@@ -162,7 +163,7 @@ two-changed : List Bool → List Bool
 two-changed l = tabulate 32 (λ k. plus (k == 10 || k == 17) (getD l k false))
 
 changes-pass : (readVc12Bits (two-changed (vc12Bits (vc12-norm 0 0))) ≡ Packet (vc12-norm 1 4)) × (readVc12Bits (two-changed (vc12Bits (vc12-norm 1 0))) ≡ Packet (vc12-norm 0 4))
-unfolding two-changed vc12-norm vc12Bits vc12Data vc12Divisor readVc12Bits vc12Fields assigned
+unfolding packetOpen two-changed vc12-norm
 changes-pass = (refl, refl)
 
 -- MST's block one count late: in count 0 it 'speaks of numbers 8 x (count mod 8) onward', from 0 on and not from 56.
@@ -170,7 +171,7 @@ wrong-vc12-first : ℕ → ℕ
 wrong-vc12-first count = 8 * ((count + 7) % 8)
 
 vc12-first-breaks : (tabulate 3 wrong-vc12-first ≡ 56 ∷ 0 ∷ 8 ∷ []) × (tabulate 3 (mstFirst vc12Kind) ≡ 0 ∷ 8 ∷ 16 ∷ [])
-unfolding wrong-vc12-first mstFirst mstEpochs
+unfolding packetOpen wrong-vc12-first
 vc12-first-breaks = (refl, refl)
 
 -- The epoch led by 8, as H4's is: the last eight frames of a packet would be of the next epoch. 'An epoch is 32 frames .. the host says where it starts', and that is where its packet does.
@@ -178,7 +179,7 @@ wrong-vc12-epoch : ℕ → ℕ
 wrong-vc12-epoch t = (t + 8) % 1024 / 32
 
 vc12-epoch-breaks : (tabulate 32 wrong-vc12-epoch ≡ replicate 24 0 ++ replicate 8 1) × (tabulate 32 (epochOf vc12Kind) ≡ replicate 32 0)
-unfolding wrong-vc12-epoch epochOf lead frames tags
+unfolding packetOpen wrong-vc12-epoch
 vc12-epoch-breaks = (refl, refl)
 
 -- 63 taken for IDLE by its number: the last of 64 members would be none. 'idle SQ is 63 and the word decides'.
@@ -186,5 +187,5 @@ wrong-word : Fields → ℕ
 wrong-word f = if f .sq == idleNumber vc12Kind then IDLE else f .word .0
 
 word-breaks : (wrong-word (vc12Fields (lowestOf (vc12Bytes (vc12Bits vc12-last)))) ≡ IDLE) × (vc12Fields (lowestOf (vc12Bytes (vc12Bits vc12-last))) .word .0 ≡ NORM)
-unfolding wrong-word idleNumber vc12-last vc12Bytes vc12Bits vc12Data vc12Divisor lowestOf vc12Fields
+unfolding packetOpen wrong-word vc12-last
 word-breaks = (refl, refl)

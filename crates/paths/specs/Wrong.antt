@@ -7,10 +7,11 @@ use lib.ListN.{length}
 use Rattle.counting.specs.Words.{every}
 use Rattle.ground.specs.Circle.{after}
 use Rattle.ground.specs.Plain.{_==_, _<?_, _≤?_}
-use Rattle.paths.specs.Checking.{accepts, agree, agreesWith, apart}
-use Rattle.paths.specs.Order.{candidateAt, rankOf, ranksOf, sortedBy}
+use Rattle.paths.specs.Checking.{accepts, agree, apart}
+use Rattle.paths.specs.Order.{ranksOf, sortedBy}
 use Rattle.paths.specs.Paths.{delayAt, pathAt}
-use Rattle.paths.specs.Planning.{proposed, stretchFrom, tightestOf}
+use Rattle.paths.specs.Planning.{proposed, stretchFrom}
+use Rattle.paths.specs.Opened.{pathsOpen}
 
 -- A spread of W in place of W-16: with W 16, delays 0 and 16 are accepted.
 wrong-room : List ℕ → ℕ → ℕ → List ℕ → Bool
@@ -20,7 +21,7 @@ abbrev pair : List ℕ
 pair = 0 ∷ 1 ∷ []
 
 room-breaks : (wrong-room (0 ∷ 16 ∷ []) 2 16 pair ≡ true) × (accepts (0 ∷ 16 ∷ []) 2 (16 - 16) pair ≡ false)
-unfolding wrong-room accepts agreesWith agree
+unfolding pathsOpen wrong-room
 room-breaks = (refl, refl)
 
 -- Delays counted round 4,096: 4,095 and 0 lie 1 apart there, and here 4,095.
@@ -28,7 +29,7 @@ wrong-agree : List ℕ → ℕ → ℕ → ℕ → Bool
 wrong-agree delays s i j = not (i == j) && (after 4096 (delayAt delays i) (delayAt delays j) ≤? s || after 4096 (delayAt delays j) (delayAt delays i) ≤? s)
 
 round-breaks : (wrong-agree (4095 ∷ 0 ∷ []) 2032 0 1 ≡ true) × (agree (4095 ∷ 0 ∷ []) 2032 0 1 ≡ false)
-unfolding wrong-agree agree after
+unfolding pathsOpen wrong-agree
 round-breaks = (refl, refl)
 
 -- A set with a candidate twice: k entries within the spread, and only one path.
@@ -37,7 +38,7 @@ wrong-different delays k s set =
     length set == k && every (length set) (λ a. pathAt set a <? length delays && every a (λ b. apart (delayAt delays (pathAt set b)) (delayAt delays (pathAt set a)) ≤? s))
 
 twice-breaks : (wrong-different (5 ∷ 90 ∷ []) 2 0 (0 ∷ 0 ∷ []) ≡ true) × (accepts (5 ∷ 90 ∷ []) 2 0 (0 ∷ 0 ∷ []) ≡ false)
-unfolding wrong-different accepts agreesWith agree
+unfolding pathsOpen wrong-different
 twice-breaks = (refl, refl)
 
 -- The k earliest alone: with the first candidate far before the rest it says none where there is a set.
@@ -45,7 +46,7 @@ wrong-earliest : List ℕ → ℕ → ℕ → Bool
 wrong-earliest delays k s = stretchFrom (sortedBy delays (ranksOf delays)) (k - 1) 0 .spread ≤? s
 
 earliest-breaks : (wrong-earliest (0 ∷ 100 ∷ 101 ∷ []) 2 4 ≡ false) × (proposed (0 ∷ 100 ∷ 101 ∷ []) 2 4 ≡ 1 ∷ 2 ∷ [])
-unfolding wrong-earliest proposed tightestOf sortedBy ranksOf rankOf candidateAt
+unfolding pathsOpen wrong-earliest
 earliest-breaks = (refl, refl)
 
 -- Neighbours each within the spread, but not the ends: 0, 10 and 20 with a spread of 10.
@@ -53,5 +54,5 @@ wrong-neighbours : List ℕ → ℕ → List ℕ → Bool
 wrong-neighbours delays s set = every (length set - 1) (λ a. agree delays s (pathAt set a) (pathAt set (a + 1)))
 
 neighbours-breaks : (wrong-neighbours (0 ∷ 10 ∷ 20 ∷ []) 10 (0 ∷ 1 ∷ 2 ∷ []) ≡ true) × (accepts (0 ∷ 10 ∷ 20 ∷ []) 3 10 (0 ∷ 1 ∷ 2 ∷ []) ≡ false)
-unfolding wrong-neighbours accepts agreesWith agree
+unfolding pathsOpen wrong-neighbours
 neighbours-breaks = (refl, refl)

@@ -1,8 +1,8 @@
 -- When receiving begins (01, 'Beginning'). That this is 01's sentence is proved in Theorems/Arc.
 use mathlib.Core.Bool.{Bool, not, _&&_, _||_}
-use mathlib.Core.List.{List}
 use Prim.Native.Nat.{ℕ, zero, suc, _+_, _/_}
 use Rattle.ground.specs.Plain.{if_then_else_, _==_, _<?_, _≤?_}
+use Rattle.ground.specs.Types.{Rows, Tag}
 use Rattle.counting.specs.Words.{every}
 use Rattle.packet.specs.Kinds.{distanceOf, frames, tagBefore, tags}
 use Rattle.rows.specs.declared.group.Group.{Group}
@@ -15,27 +15,27 @@ unfoldable pub ready : Group → Step → Bool
 ready g step = flagOf (step .had) && (inStep g step || flagOf (step .failed))
 
 -- the latest tag of a port in step
-unfoldable pub latest : Group → Step → ℕ
+unfoldable pub latest : Group → Step → Tag
 latest g step = tagBefore (g .kind) (step .next)
 
 -- no port in step so far
-unfoldable pub noTag : Group → ℕ
+unfoldable pub noTag : Group → Tag
 noTag g = tags (g .kind)
 
 -- the foremost of the latest tags: a tag takes the place of one that it follows within half a round
-unfoldable pub further : (g : Group) (fore : ℕ) (step : Step) → ℕ
+unfoldable pub further : (g : Group) (fore : Tag) (step : Step) → Tag
 further g fore step =
     if inStep g step && (fore == noTag g || distanceOf (g .kind) (latest g step) fore <? tags (g .kind) / 2) then latest g step else fore
 
-unfoldable pub foremost : (g : Group) (s : List (List ℕ)) (ports : ℕ) → ℕ
+unfoldable pub foremost : (g : Group) (s : Rows) (ports : ℕ) → Tag
 foremost g s zero = noTag g
 foremost g s (suc n) = further g (foremost g s n) (stepAt s n)
 
 -- 'the latest tags of those in step lie within an arc of W-15 tags': none more than W - 16 behind the foremost. Of VC-12 'Latest tags within W-31 begin', and 32 in place of 16: an epoch's frames.
-unfoldable pub within : (g : Group) (fore : ℕ) (step : Step) → Bool
+unfoldable pub within : (g : Group) (fore : Tag) (step : Step) → Bool
 within g fore step = not (inStep g step) || distanceOf (g .kind) fore (latest g step) + frames (g .kind) ≤? g .window
 
-unfoldable pub begins : (g : Group) (s : List (List ℕ)) (ports : ℕ) → Bool
+unfoldable pub begins : (g : Group) (s : Rows) (ports : ℕ) → Bool
 begins g s n =
     every n (λ i. ready g (stepAt s i))
     && not (foremost g s n == noTag g)

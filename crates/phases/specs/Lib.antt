@@ -1,3 +1,4 @@
+pub mod Opened
 pub mod Sizes
 pub mod Due
 pub mod Beginning

@@ -4,6 +4,7 @@ use mathlib.Core.List.{List}
 use Prim.Native.Nat.{ℕ, zero, suc, _-_}
 use lib.ListN.{set}
 use Rattle.ground.specs.Plain.{if_then_else_}
+use Rattle.ground.specs.Types.{Bytes, Rows}
 use Rattle.packet.specs.Kinds.{epochAfter, frames}
 use Rattle.packet.specs.declared.ruling.Ruling.{Ruling}
 use Rattle.step.specs.OwnCount.{ownRuling}
@@ -55,7 +56,7 @@ notedBy m whole r =
       elapsed = m .elapsed;
     }
 
-unfoldable pub passedPort : (g : Group) (store : List ℕ) (port : ℕ) (s : List (List ℕ)) → List (List ℕ)
+unfoldable pub passedPort : (g : Group) (store : Bytes) (port : ℕ) (s : Rows) → Rows
 passedPort g store i s =
     let whole = firstMark (marksAt s i) in
     let nibbles = packetIn g i store in
@@ -64,7 +65,7 @@ passedPort g store i s =
     let c = putStep b i (passedStep (stepAt s i) whole) in
     putMarks c i (passedMarks (marksAt s i))
 
-unfoldable pub passedPorts : (g : Group) (store : List ℕ) (ports : ℕ) (s : List (List ℕ)) → List (List ℕ)
+unfoldable pub passedPorts : (g : Group) (store : Bytes) (ports : ℕ) (s : Rows) → Rows
 passedPorts g store zero s = s
 passedPorts g store (suc n) s = passedPort g store n (passedPorts g store n s)
 
@@ -87,5 +88,5 @@ groupTo g begun gathered oldest origin ack =
 unfoldable pub passedGroup : Group → Group
 passedGroup g = groupTo g (g .begun) 1 (epochAfter (g .kind) (g .oldest)) (ringOf (g .origin) (frames (g .kind)) (g .window)) (g .«rs_ack»)
 
-unfoldable pub passedOf : (g : Group) (store : List ℕ) (ports : ℕ) (s : List (List ℕ)) → List (List ℕ)
+unfoldable pub passedOf : (g : Group) (store : Bytes) (ports : ℕ) (s : Rows) → Rows
 passedOf g store n s = putGroup (passedPorts g store n s) (passedGroup g)

@@ -1,9 +1,9 @@
 -- What follows from a frame for all ports (01, 'Beginning'): stopping comes first, then the beginning, then gathering.
 use mathlib.Core.Bool.{Bool, true, false, not, _&&_}
-use mathlib.Core.List.{List}
 use Prim.Native.Nat.{ℕ, zero, suc}
 use lib.ListN.{replicate}
 use Rattle.ground.specs.Plain.{if_then_else_}
+use Rattle.ground.specs.Types.{Bytes, Rows}
 use Rattle.packet.specs.Kinds.{epochAfter, epochOf}
 use Rattle.phases.specs.Beginning.{begins, foremost}
 use Rattle.phases.specs.Due.{brought, silent}
@@ -33,34 +33,34 @@ clearedStep s since =
       bits = s .bits;
     }
 
-unfoldable pub clearedPort : (g : Group) (beginning : Bool) (port : ℕ) (s : List (List ℕ)) → List (List ℕ)
+unfoldable pub clearedPort : (g : Group) (beginning : Bool) (port : ℕ) (s : Rows) → Rows
 clearedPort g beginning i s = putMarks (putStep s i (clearedStep (stepAt s i) (beginning && inStep g (stepAt s i)))) i (replicate 16 0)
 
-unfoldable pub clearedPorts : (g : Group) (beginning : Bool) (ports : ℕ) (s : List (List ℕ)) → List (List ℕ)
+unfoldable pub clearedPorts : (g : Group) (beginning : Bool) (ports : ℕ) (s : Rows) → Rows
 clearedPorts g beginning zero s = s
 clearedPorts g beginning (suc n) s = clearedPort g beginning n (clearedPorts g beginning n s)
 
 -- 'When no port is readable any more, receiving stops, unreported epochs are dropped'; 'member states and RS-Ack stay'
-unfoldable pub stoppedOf : (g : Group) (ports : ℕ) (s : List (List ℕ)) → List (List ℕ)
+unfoldable pub stoppedOf : (g : Group) (ports : ℕ) (s : Rows) → Rows
 stoppedOf g n s = putGroup (clearedPorts g false n s) (groupTo g 0 0 0 (g .origin) (g .«rs_ack»))
 
-unfoldable pub stopBy : (g : Group) (ports : ℕ) (s : List (List ℕ)) → List (List ℕ)
+unfoldable pub stopBy : (g : Group) (ports : ℕ) (s : Rows) → Rows
 stopBy g n s = if flagOf (g .begun) && silent g s n then stoppedOf g n s else s
 
 -- 'The next epoch to start after the foremost tag is gathered'
-unfoldable pub begunOf : (g : Group) (ports : ℕ) (s : List (List ℕ)) → List (List ℕ)
+unfoldable pub begunOf : (g : Group) (ports : ℕ) (s : Rows) → Rows
 begunOf g n s =
     putGroup (clearedPorts g true n s) (groupTo g 1 0 (epochAfter (g .kind) (epochOf (g .kind) (foremost g s n))) (g .origin) (g .«rs_ack»))
 
-unfoldable pub beginBy : (g : Group) (ports : ℕ) (s : List (List ℕ)) → List (List ℕ)
+unfoldable pub beginBy : (g : Group) (ports : ℕ) (s : Rows) → Rows
 beginBy g n s = if not (flagOf (g .begun)) && begins g s n then begunOf g n s else s
 
 -- 'gathered, in the call that makes it due, and not reported'
-unfoldable pub gatherBy : (g : Group) (store : List ℕ) (ports : ℕ) (s : List (List ℕ)) → List (List ℕ)
+unfoldable pub gatherBy : (g : Group) (store : Bytes) (ports : ℕ) (s : Rows) → Rows
 gatherBy g store n s = if flagOf (g .begun) && not (flagOf (g .gathered)) && brought g s n then passedOf g store n s else s
 
 -- each on the state that the one before left
-unfoldable pub settledOf : (ports : ℕ) (store : List ℕ) (s : List (List ℕ)) → List (List ℕ)
+unfoldable pub settledOf : (ports : ℕ) (store : Bytes) (s : Rows) → Rows
 settledOf n store s =
     let a = stopBy (groupAt s) n s in
     let b = beginBy (groupAt a) n a in

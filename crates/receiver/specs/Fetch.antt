@@ -4,6 +4,7 @@ use mathlib.Core.List.{List, [], _∷_}
 use Prim.Native.Nat.{ℕ, _/_, _%_}
 use lib.ListN.{length}
 use Rattle.ground.specs.Plain.{if_then_else_, _<?_}
+use Rattle.ground.specs.Types.{Bytes, Rows}
 use Rattle.phases.specs.Due.{brought}
 use Rattle.phases.specs.Sizes.{portsIn}
 use Rattle.receiver.specs.declared.report.Report.{Report}
@@ -14,14 +15,14 @@ use Rattle.rows.specs.Group.{groupAt}
 use Rattle.step.specs.Arrival.{flagOf}
 
 -- a report is due
-unfoldable pub dueIn : (g : Group) (ports : ℕ) (s : List (List ℕ)) → Bool
+unfoldable pub dueIn : (g : Group) (ports : ℕ) (s : Rows) → Bool
 dueIn g n s = 0 <? n && flagOf (g .begun) && flagOf (g .gathered) && brought g s n
 
 abbrev pub noneDue : Report
 noneDue = record { mark = 0; epoch = 0; x = 0; bytes = 0 }
 
 -- the record's eight bytes: mark, epoch, X, a zero, and the byte count, highest byte first
-unfoldable pub recordOf : Report → List ℕ
+unfoldable pub recordOf : Report → Bytes
 recordOf r =
     (r .mark)
     ∷ (r .epoch)
@@ -35,13 +36,13 @@ recordOf r =
 
 -- 'A fetch with none due answers 0, says so, and changes nothing.'
 
-unfoldable pub reportIfDue : (g : Group) (ports : ℕ) (s : List (List ℕ)) → Report
+unfoldable pub reportIfDue : (g : Group) (ports : ℕ) (s : Rows) → Report
 reportIfDue g n s = if dueIn g n s then reportOf g (seenAll g s n) n else noneDue
 
-unfoldable pub rowsIfDue : (g : Group) (ports : ℕ) (s : List (List ℕ)) (store : List ℕ) → List (List ℕ)
+unfoldable pub rowsIfDue : (g : Group) (ports : ℕ) (s : Rows) (store : Bytes) → Rows
 rowsIfDue g n s store = if dueIn g n s then reportedOf g store n s else s
 
-unfoldable pub outIfDue : (g : Group) (ports : ℕ) (s : List (List ℕ)) (store out : List ℕ) → List ℕ
+unfoldable pub outIfDue : (g : Group) (ports : ℕ) (s : Rows) (store out : Bytes) → Bytes
 outIfDue g n s store out = if dueIn g n s then outputOf g (seenAll g s n) n store out else out
 
 module _ (s : List (List ℕ)) (store out report : List ℕ) where
@@ -51,10 +52,10 @@ module _ (s : List (List ℕ)) (store out report : List ℕ) where
   unfoldable pub fetchAnswer : ℕ
   fetchAnswer = if fits then 0 else 9
 
-  unfoldable pub fetchRows : List (List ℕ)
+  unfoldable pub fetchRows : Rows
   fetchRows = if fits then rowsIfDue (groupAt s) (portsIn (groupAt s)) s store else s
 
-  unfoldable pub fetchOut : List ℕ
+  unfoldable pub fetchOut : Bytes
   fetchOut = if fits then outIfDue (groupAt s) (portsIn (groupAt s)) s store out else out
 
   unfoldable pub fetchRecord : List ℕ

@@ -1,5 +1,6 @@
 pub mod Laws
 pub mod Lengths
+pub mod Opened
 pub mod Starting
 pub mod Frame
 pub mod Report

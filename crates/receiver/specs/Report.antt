@@ -4,6 +4,7 @@ use mathlib.Core.List.{List, []}
 use Prim.Native.Nat.{ℕ, zero, suc, _*_}
 use lib.ListN.{getD, replicate}
 use Rattle.ground.specs.Plain.{if_then_else_, _==_}
+use Rattle.ground.specs.Types.{Bytes, Epoch, Rows}
 use Rattle.counting.specs.Each.{each}
 use Rattle.judge.specs.declared.order.Order.{Order}
 use Rattle.judge.specs.declared.seen.Seen.{Seen}
@@ -30,11 +31,11 @@ use Rattle.store.specs.Frames.{placeIn}
 use Rattle.store.specs.Marks.{firstMark}
 
 -- 'The packets of one epoch rule the payload of the next': the epoch before the oldest
-unfoldable pub rulingEpoch : Group → ℕ
+unfoldable pub rulingEpoch : Group → Epoch
 rulingEpoch g = epochOf (g .kind) (tagBefore (g .kind) (firstTag (g .kind) (g .oldest)))
 
 -- what is seen of port i
-unfoldable pub seenOf : (g : Group) (s : List (List ℕ)) (port : ℕ) → Seen
+unfoldable pub seenOf : (g : Group) (s : Rows) (port : ℕ) → Seen
 seenOf g s i =
     let r = ownRuling (g .kind) (rulingEpoch g) (getD (packetsAt s i) 1 []) in
     record {
@@ -49,7 +50,7 @@ seenOf g s i =
 abbrev pub noSeen : Seen
 noSeen = record { whole = false; good = false; word = 0; number = 0; gid = 0; here = false }
 
-unfoldable pub seenAll : (g : Group) (s : List (List ℕ)) (ports : ℕ) → List Seen
+unfoldable pub seenAll : (g : Group) (s : Rows) (ports : ℕ) → List Seen
 seenAll g s n = each (sizeOf n) (seenOf g s) (replicate 64 noSeen)
 
 -- the starts of the ranked ports' frames, k after the window's first
@@ -57,11 +58,11 @@ unfoldable pub startsOf : (g : Group) (order : List ℕ) (x k : ℕ) → List �
 startsOf g order x k = each (sizeOf x) (λ r. placeIn g (getD order r 0) k) (replicate 64 0)
 
 -- group frame k at its place in the output
-unfoldable pub frameInto : (g : Group) (o : Order) (store : List ℕ) (k : ℕ) (out : List ℕ) → List ℕ
+unfoldable pub frameInto : (g : Group) (o : Order) (store : Bytes) (k : ℕ) (out : Bytes) → Bytes
 frameInto g o store k out = joinedFrom (o .x) (g .payload) (startsOf g (o .ports) (o .x) k) store (k * (o .x * g .payload)) out
 
 -- the first k group frames, one after the other from the output's start on
-unfoldable pub framesInto : (g : Group) (o : Order) (store : List ℕ) (k : ℕ) (out : List ℕ) → List ℕ
+unfoldable pub framesInto : (g : Group) (o : Order) (store : Bytes) (k : ℕ) (out : Bytes) → Bytes
 framesInto g o store zero out = out
 framesInto g o store (suc k) out = frameInto g o store k (framesInto g o store k out)
 
@@ -75,14 +76,14 @@ unfoldable pub reportOf : (g : Group) (seen : List Seen) (ports : ℕ) → Repor
 reportOf g seen n = reportBy g (judgeOf (g .kind) seen (sizeOf n)) (orderOf seen (sizeOf n))
 
 -- held: 'No bytes.' Otherwise 'Sixteen group frames from the active ports seen.' 'Output beyond those bytes stays.'
-unfoldable pub outputBy : (g : Group) (mark : ℕ) (o : Order) (store out : List ℕ) → List ℕ
+unfoldable pub outputBy : (g : Group) (mark : ℕ) (o : Order) (store out : Bytes) → Bytes
 outputBy g mark o store out = if mark == HELD then out else framesInto g o store (frames (g .kind)) out
 
-unfoldable pub outputOf : (g : Group) (seen : List Seen) (ports : ℕ) (store out : List ℕ) → List ℕ
+unfoldable pub outputOf : (g : Group) (seen : List Seen) (ports : ℕ) (store out : Bytes) → Bytes
 outputOf g seen n store out = outputBy g (judgeOf (g .kind) seen (sizeOf n)) (orderOf seen (sizeOf n)) store out
 
 -- a port as its member state is worked out; readable at the moment of the fetch
-unfoldable pub replyPort : (g : Group) (s : List (List ℕ)) (port : ℕ) → Port
+unfoldable pub replyPort : (g : Group) (s : Rows) (port : ℕ) → Port
 replyPort g s i =
     let m = memberAt s i in
     record {
@@ -113,7 +114,7 @@ noPort =
       elapsed = 0;
     }
 
-unfoldable pub replyPorts : (g : Group) (s : List (List ℕ)) (ports : ℕ) → List Port
+unfoldable pub replyPorts : (g : Group) (s : Rows) (ports : ℕ) → List Port
 replyPorts g s n = each (sizeOf n) (replyPort g s) (replicate 64 noPort)
 
 -- 'Worked out at each report'
@@ -132,20 +133,20 @@ withState m left =
       elapsed = left .elapsed;
     }
 
-unfoldable pub statePut : (states : List Standing) (port : ℕ) (s : List (List ℕ)) → List (List ℕ)
+unfoldable pub statePut : (states : List Standing) (port : ℕ) (s : Rows) → Rows
 statePut states i s = putMember s i (withState (memberAt s i) (getD states i noStanding))
 
-unfoldable pub statesPut : (states : List Standing) (ports : ℕ) (s : List (List ℕ)) → List (List ℕ)
+unfoldable pub statesPut : (states : List Standing) (ports : ℕ) (s : Rows) → Rows
 statesPut states zero s = s
 statesPut states (suc n) s = statePut states n (statesPut states n s)
 
-unfoldable pub statesWorkedOut : (g : Group) (ports : ℕ) (s : List (List ℕ)) → List (List ℕ)
+unfoldable pub statesWorkedOut : (g : Group) (ports : ℕ) (s : Rows) → Rows
 statesWorkedOut g n s =
     let ports = replyPorts g s n in
     putGroup (statesPut (standingsOf ports (sizeOf n)) n s) (groupTo g (g .begun) (g .gathered) (g .oldest) (g .origin) (ackOf ports (sizeOf n) (g .«rs_ack»)))
 
 -- the state after a report: the epoch is passed, then states and RS-Ack are worked out from the good packets up to its own
-unfoldable pub reportedOf : (g : Group) (store : List ℕ) (ports : ℕ) (s : List (List ℕ)) → List (List ℕ)
+unfoldable pub reportedOf : (g : Group) (store : Bytes) (ports : ℕ) (s : Rows) → Rows
 reportedOf g store n s =
     let a = passedOf g store n s in
     statesWorkedOut (groupAt a) n a

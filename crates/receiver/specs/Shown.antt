@@ -6,6 +6,7 @@ use lib.ListN.{length}
 use Rattle.counting.specs.Each.{each}
 use Rattle.ground.specs.Flags.{oneIf}
 use Rattle.ground.specs.Plain.{if_then_else_, _==_}
+use Rattle.ground.specs.Types.{Bytes, Epoch, Rows}
 use Rattle.judge.specs.Seen.{sizeOf}
 use Rattle.packet.specs.Kinds.{fixedKind, idleNumber}
 use Rattle.phases.specs.Sizes.{portsIn}
@@ -30,7 +31,7 @@ abbrev pub waitingByte : Member → ℕ
 waitingByte m = if m .elapsed == 0 then 0 else if m .state == okState then 1 else if m .state == failState then 2 else 0
 
 -- eight bytes a port: state, number, in step, joined, readable, flagged failed, the last good word, waiting
-unfoldable pub portShown : (g : Group) (step : Step) (m : Member) → List ℕ
+unfoldable pub portShown : (g : Group) (step : Step) (m : Member) → Bytes
 portShown g step m =
     (m .state)
     ∷ shownNumber (g .kind) m
@@ -42,16 +43,16 @@ portShown g step m =
     ∷ waitingByte m
     ∷ []
 
-unfoldable pub portIn : (g : Group) (s : List (List ℕ)) (port : ℕ) → List ℕ
+unfoldable pub portIn : (g : Group) (s : Rows) (port : ℕ) → Bytes
 portIn g s i = portShown g (stepAt s i) (memberAt s i)
 
 unfoldable pub shownFit : (ports rows out : ℕ) → Bool
 shownFit n rows out = rowsFit n rows && out == n
 
-unfoldable pub portsAnswer : List (List ℕ) → ℕ → ℕ
+unfoldable pub portsAnswer : Rows → ℕ → ℕ
 portsAnswer s out = if shownFit (portsIn (groupAt s)) (length s) out then 0 else 9
 
-unfoldable pub portsOut : List (List ℕ) → List (List ℕ) → List (List ℕ)
+unfoldable pub portsOut : Rows → List (List ℕ) → List (List ℕ)
 portsOut s out =
     if shownFit (portsIn (groupAt s)) (length s) (length out)
     then each (portsIn (groupAt s)) (portIn (groupAt s) s) out
@@ -62,7 +63,7 @@ abbrev pub replyByte : ℕ → ℕ → ℕ
 replyByte kind byte = if kind == fixedKind then 0 else byte
 
 -- 'MST for q is 0 exactly if an OK port holds q', of the numbers that the epoch speaks of; and RS-Ack beside it
-unfoldable pub replyOf : List (List ℕ) → ℕ → List ℕ
+unfoldable pub replyOf : Rows → Epoch → Bytes
 replyOf s e =
     let g = groupAt s in
     replyByte (g .kind) (mstOf (g .kind) (replyPorts g s (portsIn g)) (sizeOf (portsIn g)) e) ∷ replyByte (g .kind) (oneIf (flagOf (g .«rs_ack»))) ∷ []
@@ -70,8 +71,8 @@ replyOf s e =
 unfoldable pub replyFit : (ports rows out : ℕ) → Bool
 replyFit n rows out = rowsFit n rows && out == 2
 
-unfoldable pub replyAnswer : List (List ℕ) → ℕ → ℕ
+unfoldable pub replyAnswer : Rows → ℕ → ℕ
 replyAnswer s out = if replyFit (portsIn (groupAt s)) (length s) out then 0 else 9
 
-unfoldable pub replyOut : (s : List (List ℕ)) (epoch : ℕ) (out : List ℕ) → List ℕ
+unfoldable pub replyOut : (s : Rows) (epoch : Epoch) (out : Bytes) → Bytes
 replyOut s e out = if replyFit (portsIn (groupAt s)) (length s) (length out) then replyOf s e else out

@@ -4,6 +4,7 @@ use mathlib.Core.List.{List, [], _∷_}
 use Prim.Native.Nat.{ℕ, zero, suc, _+_, _*_}
 use lib.ListN.{getD, length, replicate}
 use Rattle.ground.specs.Plain.{if_then_else_, _==_, _<?_, _≤?_}
+use Rattle.ground.specs.Types.{Rows}
 use Rattle.counting.specs.Words.{every}
 use Rattle.packet.specs.Kinds.{idleNumber}
 use Rattle.phases.specs.Sizes.{startSized}
@@ -81,12 +82,12 @@ freshMember kind hold restore =
 abbrev pub zeroRow : List ℕ
 zeroRow = replicate 16 0
 
-unfoldable pub freshPort : (kind : ℕ) (hold restore : List ℕ) (port : ℕ) (s : List (List ℕ)) → List (List ℕ)
+unfoldable pub freshPort : (kind : ℕ) (hold restore : List ℕ) (port : ℕ) (s : Rows) → Rows
 freshPort kind hold restore i s =
     putMarks
     (putPackets (putMember (putStep s i freshStep) i (freshMember kind (timeOf hold i) (timeOf restore i))) i (zeroRow ∷ zeroRow ∷ [])) i zeroRow
 
-unfoldable pub freshPorts : (kind : ℕ) (hold restore : List ℕ) (ports : ℕ) (s : List (List ℕ)) → List (List ℕ)
+unfoldable pub freshPorts : (kind : ℕ) (hold restore : List ℕ) (ports : ℕ) (s : Rows) → Rows
 freshPorts kind hold restore zero s = s
 freshPorts kind hold restore (suc n) s = freshPort kind hold restore n (freshPorts kind hold restore n s)
 
@@ -107,7 +108,7 @@ sizedFits count P W store hold restore rows = listFits hold count && listFits re
 unfoldable pub sizedAnswer : (count P W store : ℕ) (hold restore : List ℕ) (rows : ℕ) → ℕ
 sizedAnswer count P W store hold restore rows = if sizedFits count P W store hold restore rows then 0 else 9
 
-unfoldable pub sizedRows : (kind count P W store : ℕ) (hold restore : List ℕ) (s : List (List ℕ)) → List (List ℕ)
+unfoldable pub sizedRows : (kind count P W store : ℕ) (hold restore : List ℕ) (s : Rows) → Rows
 sizedRows kind count P W store hold restore s =
     if sizedFits count P W store hold restore (length s) then putGroup (freshPorts kind hold restore count s) (groupWith kind count P W) else s
 
@@ -119,7 +120,7 @@ unfoldable pub startAsAnswer : (kind count P W store : ℕ) (hold restore : List
 startAsAnswer kind count P W store hold restore rows =
     if startRight kind count P W hold restore then sizedAnswer count P W store hold restore rows else 4
 
-unfoldable pub startAsRows : (kind count P W store : ℕ) (hold restore : List ℕ) (s : List (List ℕ)) → List (List ℕ)
+unfoldable pub startAsRows : (kind count P W store : ℕ) (hold restore : List ℕ) (s : Rows) → Rows
 startAsRows kind count P W store hold restore s =
     if startRight kind count P W hold restore then sizedRows kind count P W store hold restore s else putGroup s (emptyGroup kind)
 
@@ -127,5 +128,5 @@ startAsRows kind count P W store hold restore s =
 abbrev pub startAnswer : (kind count P W store rows : ℕ) → ℕ
 startAnswer kind count P W store rows = startAsAnswer kind count P W store [] [] rows
 
-abbrev pub startRows : (kind count P W store : ℕ) (s : List (List ℕ)) → List (List ℕ)
+abbrev pub startRows : (kind count P W store : ℕ) (s : Rows) → Rows
 startRows kind count P W store s = startAsRows kind count P W store [] [] s

@@ -1,5 +1,6 @@
 pub mod Laws
 pub mod Line
+pub mod Opened
 pub mod Opening
 pub mod Pairs
 pub mod Reader

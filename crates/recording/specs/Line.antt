@@ -1,9 +1,9 @@
 -- Where a line of a recording ends (2026-05).
 use mathlib.Core.Bool.{Bool}
-use mathlib.Core.List.{List}
 use Prim.Native.Nat.{ℕ, _+_}
 use lib.ListN.{length, take}
 use Rattle.ground.specs.Plain.{if_then_else_, _==_, _<?_}
+use Rattle.ground.specs.Types.{Bytes}
 use Rattle.bytes.specs.Bytes.{indexOf}
 use Rattle.recording.specs.declared.line.Found.{Found}
 use Rattle.recording.specs.declared.line.Found.the-variants.{Nothing, Open, TooLong, Ends}
@@ -13,15 +13,15 @@ use Rattle.text.specs.Text.{LINE-END}
 abbrev pub MOST : ℕ
 MOST = 8192
 
-abbrev pub hasEnd : List ℕ → Bool
+abbrev pub hasEnd : Bytes → Bool
 hasEnd rest = indexOf LINE-END rest <? length rest
 
 -- the first line of a text, without its end
-abbrev pub firstLine : List ℕ → List ℕ
+abbrev pub firstLine : Bytes → Bytes
 firstLine rest = take (indexOf LINE-END rest) rest
 
 -- of what is left of a text from a place on
-unfoldable pub foundOf : ℕ → List ℕ → Found
+unfoldable pub foundOf : ℕ → Bytes → Found
 foundOf at rest =
     if length rest == 0 then Nothing
     else if hasEnd rest then Ends (at + indexOf LINE-END rest)

@@ -4,6 +4,7 @@ use mathlib.Core.List.{List, [], _∷_}
 use Prim.Native.Nat.{ℕ, _+_}
 use lib.ListN.{length}
 use Rattle.ground.specs.Plain.{if_then_else_, _≤?_}
+use Rattle.ground.specs.Types.{Bytes}
 use Rattle.recording.specs.declared.opening.First.{First}
 use Rattle.recording.specs.declared.opening.FirstLine.{FirstLine}
 use Rattle.recording.specs.declared.opening.FirstLine.the-variants as F
@@ -62,15 +63,15 @@ openingBy next (a ∷ []) = Malformed
 openingBy next (a ∷ b ∷ []) = Malformed
 openingBy next (ports ∷ size ∷ window ∷ pairs) = settingsBy (numberOf 9 ports) (numberOf 9 size) (numberOf 9 window) pairs next
 
-unfoldable pub lineOpening : ℕ → List ℕ → Opening
+unfoldable pub lineOpening : ℕ → Bytes → Opening
 lineOpening next line = if length line ≤? MOST then openingBy next (fieldsOf line) else Malformed
 
 -- what is left of a text from a place on; its last line may lack its end
-abbrev pub openingFound : (at : ℕ) (last : Bool) (rest : List ℕ) (found : Found) → Opening
+abbrev pub openingFound : (at : ℕ) (last : Bool) (rest : Bytes) (found : Found) → Opening
 openingFound at last rest Nothing = End
 openingFound at last rest Open = if last then lineOpening (at + length rest) rest else Unfinished
 openingFound at last rest TooLong = Malformed
 openingFound at last rest (Ends end) = lineOpening (end + 1) (firstLine rest)
 
-unfoldable pub openingIn : (at : ℕ) (last : Bool) (rest : List ℕ) → Opening
+unfoldable pub openingIn : (at : ℕ) (last : Bool) (rest : Bytes) → Opening
 openingIn at last rest = openingFound at last rest (foundOf at rest)

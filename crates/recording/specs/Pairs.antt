@@ -5,6 +5,7 @@ use mathlib.Core.List.{List, [], _∷_}
 use Prim.Native.Nat.{ℕ, _+_}
 use lib.ListN.{replicate, set}
 use Rattle.ground.specs.Plain.{if_then_else_, _<?_}
+use Rattle.ground.specs.Types.{Bytes}
 use Rattle.recording.specs.declared.pairs.Awaited.{Awaited}
 use Rattle.recording.specs.declared.pairs.Awaited.the-variants.{Name, Kind, HoldOff, Restore, Nothing}
 use Rattle.recording.specs.declared.pairs.Pairs.{Pairs}
@@ -49,7 +50,7 @@ abbrev pub restoreNamed : Pairs → Pairs
 restoreNamed p =
     record { settings = p .settings; awaited = restoreFrom (p .settings .ports) 0; «has_kind» = p .«has_kind»; «has_hold_off» = p .«has_hold_off»; «has_restore» = true }
 
-unfoldable pub named : Pairs → List ℕ → Pairs
+unfoldable pub named : Pairs → Bytes → Pairs
 named p field =
     if sameBytes field (ascii "kind") && not (p .«has_kind») then kindNamed p
     else if sameBytes field (ascii "hold-off") && not (p .«has_hold_off») then holdNamed p
@@ -77,7 +78,7 @@ countPut counts i n = if i <? 64 then set counts i n else counts
 abbrev pub kindTo : Pairs → ℕ → Pairs
 kindTo p kind = settingsTo (withKind (p .settings) kind) Name p
 
-unfoldable pub kindRead : Pairs → List ℕ → Pairs
+unfoldable pub kindRead : Pairs → Bytes → Pairs
 kindRead p field =
     if sameBytes field (ascii "H4") then kindTo p 0
     else if sameBytes field (ascii "FIXED") then kindTo p fixedKind
@@ -93,14 +94,14 @@ restoreRead p i (Value n) = settingsTo (withRestore (p .settings) (countPut (p .
 restoreRead p i Unreadable = wrongField p
 
 -- one field
-abbrev pub fieldBy : (awaited : Awaited) (p : Pairs) (field : List ℕ) → Pairs
+abbrev pub fieldBy : (awaited : Awaited) (p : Pairs) (field : Bytes) → Pairs
 fieldBy Name p field = named p field
 fieldBy Kind p field = kindRead p field
 fieldBy (HoldOff i) p field = holdRead p i (numberOf 9 field)
 fieldBy (Restore i) p field = restoreRead p i (numberOf 9 field)
 fieldBy Nothing p field = p
 
-unfoldable pub fieldIn : Pairs → List ℕ → Pairs
+unfoldable pub fieldIn : Pairs → Bytes → Pairs
 fieldIn p field = fieldBy (p .awaited) p field
 
 -- one after the other

@@ -4,6 +4,7 @@ use mathlib.Core.List.{List, [], _∷_}
 use Prim.Native.Nat.{ℕ, _+_, _-_}
 use lib.ListN.{length}
 use Rattle.ground.specs.Plain.{if_then_else_, _==_, _<?_, _≤?_}
+use Rattle.ground.specs.Types.{Bytes}
 use Rattle.recording.specs.declared.record.Record.{Record}
 use Rattle.recording.specs.declared.record.Record.the-variants.{Frame, Malformed, Long, Unfinished, End}
 use Rattle.recording.specs.declared.line.Found.{Found}
@@ -16,7 +17,7 @@ use Rattle.text.specs.Fields.{hexOf, isHex, numberOf, sameBytes}
 use Rattle.text.specs.Text.{fieldsOf}
 
 -- the flag is 0 or 1 and nothing else
-unfoldable pub flagIn : List ℕ → ℕ
+unfoldable pub flagIn : Bytes → ℕ
 flagIn field = if sameBytes field (ascii "0") then 0 else if sameBytes field (ascii "1") then 1 else 2
 
 -- a port below the count, an H4 byte, a flag and the payload of P bytes
@@ -37,19 +38,19 @@ recordBy ports size end next (port ∷ h4 ∷ flag ∷ payload ∷ []) =
 recordBy ports size end next (a ∷ b ∷ c ∷ d ∷ e ∷ rest) = Malformed next
 
 -- a line that begins at a place, and the place of the next one
-unfoldable pub lineRecord : (ports size at next : ℕ) (line : List ℕ) → Record
+unfoldable pub lineRecord : (ports size at next : ℕ) (line : Bytes) → Record
 lineRecord ports size at next line = if length line ≤? MOST then recordBy ports size (at + length line) next (fieldsOf line) else Malformed next
 
 -- what is left of a text from a place on, by its first line's end
-abbrev pub recordFound : (ports size at : ℕ) (rest : List ℕ) (found : Found) → Record
+abbrev pub recordFound : (ports size at : ℕ) (rest : Bytes) (found : Found) → Record
 recordFound ports size at rest Nothing = End
 recordFound ports size at rest Open = Unfinished
 recordFound ports size at rest TooLong = Long
 recordFound ports size at rest (Ends end) = lineRecord ports size at (end + 1) (firstLine rest)
 
-unfoldable pub recordIn : (ports size at : ℕ) (rest : List ℕ) → Record
+unfoldable pub recordIn : (ports size at : ℕ) (rest : Bytes) → Record
 recordIn ports size at rest = recordFound ports size at rest (foundOf at rest)
 
 -- a last line that lacks its end
-unfoldable pub lastRecord : (ports size at : ℕ) (rest : List ℕ) → Record
+unfoldable pub lastRecord : (ports size at : ℕ) (rest : Bytes) → Record
 lastRecord ports size at rest = if length rest == 0 then End else lineRecord ports size at (at + length rest) rest

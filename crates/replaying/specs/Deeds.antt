@@ -4,6 +4,7 @@ use mathlib.Core.List.{List, [], _∷_, _++_}
 use Prim.Native.Nat.{ℕ, zero, suc, _+_, _*_}
 use lib.ListN.{length}
 use Rattle.ground.specs.Plain.{if_then_else_, _==_}
+use Rattle.ground.specs.Types.{Bytes, Rows}
 use Rattle.replaying.specs.declared.replay.Phase.{Phase}
 use Rattle.replaying.specs.declared.replay.Phase.the-variants.{Settings, Reading, Fetching, Skipping, Ended}
 use Rattle.replaying.specs.declared.replay.Replay.{Replay}
@@ -13,7 +14,7 @@ use Rattle.replaying.specs.Turn.{turnOf}
 use Rattle.text.specs.Text.{LINE-END}
 
 -- a host that begins
-abbrev pub beginsWith : (rows : List (List ℕ)) (store out buffer : List ℕ) → Host
+abbrev pub beginsWith : (rows : Rows) (store out buffer : Bytes) → Host
 beginsWith rows store out buffer = record { replay = beginning; rows = rows; store = store; out = out; buffer = buffer; text = []; said = [] }
 
 -- a call wants more text, at the latest after so many others

@@ -4,6 +4,7 @@ use Prim.Native.Nat.{ℕ, zero, suc, _+_, _*_, _/_, _%_}
 use lib.ListN.{getD}
 use Rattle.ground.specs.Plain.{if_then_else_, _==_}
 use Rattle.ground.specs.Table.{tabulate}
+use Rattle.ground.specs.Types.{Bytes, Epoch, Rows}
 use Rattle.receiver.specs.Shown.{shownNumber}
 use Rattle.rows.specs.Member.{memberAt}
 use Rattle.text.specs.Ascii.{ascii}
@@ -11,40 +12,40 @@ use Rattle.text.specs.Output.{decimalText, ended, numberText}
 use Rattle.text.specs.Text.{LINE-END, TAB}
 
 -- held 1, doubtful 2, sure 3
-unfoldable pub markText : ℕ → List ℕ
+unfoldable pub markText : ℕ → Bytes
 markText mark = if mark == 1 then ascii "held" else if mark == 2 then ascii "doubtful" else ascii "sure"
 
 -- IDLE 0, FAIL 1, OK 2
-unfoldable pub stateText : ℕ → List ℕ
+unfoldable pub stateText : ℕ → Bytes
 stateText state = if state == 0 then ascii "IDLE" else if state == 1 then ascii "FAIL" else ascii "OK"
 
 -- a refusal 'is printed with its line number'
-unfoldable pub answerText : ℕ → ℕ → List ℕ
+unfoldable pub answerText : ℕ → ℕ → Bytes
 answerText number line = ended (ascii "answer") TAB ++ ended (decimalText number) TAB ++ ended (ascii "line") TAB ++ ended (numberText line) LINE-END
 
-unfoldable pub epochText : (epoch mark bytes line : ℕ) → List ℕ
+unfoldable pub epochText : (epoch : Epoch) (mark bytes line : ℕ) → Bytes
 epochText epoch mark bytes line =
     ended (ascii "epoch") TAB ++ ended (decimalText epoch) TAB ++ ended (markText mark) TAB ++ ended (ascii "bytes") TAB ++ ended (numberText bytes) TAB ++ ended (ascii "line") TAB ++ ended (numberText line) LINE-END
 
-unfoldable pub portText : (port state number : ℕ) → List ℕ
+unfoldable pub portText : (port state number : ℕ) → Bytes
 portText port state number = ended (ascii "port") TAB ++ ended (decimalText port) TAB ++ ended (stateText state) TAB ++ ended (decimalText number) LINE-END
 
 -- a port's member state and its number, as one
-unfoldable pub stateAt : (kind : ℕ) (rows : List (List ℕ)) (port : ℕ) → ℕ
+unfoldable pub stateAt : (kind : ℕ) (rows : Rows) (port : ℕ) → ℕ
 stateAt kind rows i = memberAt rows i .state * 256 + shownNumber kind (memberAt rows i)
 
-unfoldable pub statesIn : ℕ → List (List ℕ) → List ℕ
+unfoldable pub statesIn : ℕ → Rows → List ℕ
 statesIn kind rows = tabulate 64 (stateAt kind rows)
 
 unfoldable pub stateLine : ℕ → ℕ → List ℕ
 stateLine port state = portText port (state / 256) (state % 256)
 
 -- nothing for a port whose state stayed
-abbrev pub changeText : (port old new : ℕ) → List ℕ
+abbrev pub changeText : (port old new : ℕ) → Bytes
 changeText port old new = if old == new then [] else stateLine port new
 
 -- a line for each of the first n ports whose state is another, in order
-abbrev pub changesText : (before after : List ℕ) (n : ℕ) → List ℕ
+abbrev pub changesText : (before after : List ℕ) (n : ℕ) → Bytes
 changesText before after zero = []
 changesText before after (suc n) = changesText before after n ++ changeText n (getD before n 0) (getD after n 0)
 
@@ -53,7 +54,7 @@ unfoldable pub countIn : List ℕ → ℕ
 countIn rec = getD rec 4 0 * 16777216 + getD rec 5 0 * 65536 + getD rec 6 0 * 256 + getD rec 7 0
 
 -- a report, and then the states that it changed
-unfoldable pub reportText : (rec : List ℕ) (line : ℕ) (before after : List ℕ) (ports : ℕ) → List ℕ
+unfoldable pub reportText : (rec : List ℕ) (line : ℕ) (before after : List ℕ) (ports : ℕ) → Bytes
 reportText rec line before after ports = epochText (getD rec 1 0) (getD rec 0 0) (countIn rec) line ++ changesText before after ports
 
 -- room for what one call writes: a report of at most 72 bytes and 64 ports of at most 17

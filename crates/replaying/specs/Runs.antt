@@ -4,6 +4,7 @@ use mathlib.Core.List.{List, [], _∷_, _++_}
 use Prim.Native.Nat.{ℕ, zero, suc}
 use lib.ListN.{drop, length, take}
 use Rattle.ground.specs.Plain.{if_then_else_}
+use Rattle.ground.specs.Types.{Bytes, Rows}
 use Rattle.recording.specs.Opening.{Opening}
 use Rattle.recording.specs.Opening.{Opening as O}
 use Rattle.recording.specs.declared.record.Record.{Record}
@@ -60,14 +61,14 @@ module _ (out : List ℕ) where
   openedBy d O.Unfinished = d
   openedBy d O.End = d
 
-  abbrev pub openingText : Desk → Opening → List ℕ
+  abbrev pub openingText : Desk → Opening → Bytes
   openingText d (O.Settings s next) = if startable s (length (d .store)) then [] else refusal d 4
   openingText d O.Malformed = refusal d 13
   openingText d O.Unfinished = []
   openingText d O.End = []
 
   -- a frame handed to the receiver
-  abbrev pub framed : (d : Desk) (line : List ℕ) (port h4 flag place : ℕ) → Desk
+  abbrev pub framed : (d : Desk) (line : Bytes) (port h4 flag place : ℕ) → Desk
   framed d line port h4 flag place =
       record {
         replay = within (d .replay) Reading (nextLine (d .replay .line)) 0;
@@ -76,42 +77,42 @@ module _ (out : List ℕ) where
       }
 
   -- a line: its frame once, then reports until none is due
-  abbrev pub readBy : (d : Desk) (line : List ℕ) (read : Record) → Desk
+  abbrev pub readBy : (d : Desk) (line : Bytes) (read : Record) → Desk
   readBy d line (Frame port h4 flag place next) = reported (d .replay .window) (framed d line port h4 flag place)
   readBy d line (Malformed next) = standing d Reading
   readBy d line Long = standing d Reading
   readBy d line Unfinished = d
   readBy d line End = d
 
-  abbrev pub readText : (d : Desk) (line : List ℕ) (read : Record) → List ℕ
+  abbrev pub readText : (d : Desk) (line : Bytes) (read : Record) → Bytes
   readText d line (Frame port h4 flag place next) = reports (d .replay .window) (framed d line port h4 flag place)
   readText d line (Malformed next) = refusal d 13
   readText d line Long = refusal d 13
   readText d line Unfinished = []
   readText d line End = []
 
-  abbrev pub lineIn : Desk → List ℕ → Record
+  abbrev pub lineIn : Desk → Bytes → Record
   lineIn d line = lineRecord (d .replay .ports) (d .replay .size) 0 0 line
 
   -- by the phase; between two lines nothing is fetched or skipped
-  abbrev pub deskBy : (phase : Phase) (d : Desk) (line : List ℕ) → Desk
+  abbrev pub deskBy : (phase : Phase) (d : Desk) (line : Bytes) → Desk
   deskBy Settings d line = openedBy d (lineOpening 0 line)
   deskBy Reading d line = readBy d line (lineIn d line)
   deskBy Fetching d line = d
   deskBy Skipping d line = d
   deskBy Ended d line = d
 
-  abbrev pub textBy : (phase : Phase) (d : Desk) (line : List ℕ) → List ℕ
+  abbrev pub textBy : (phase : Phase) (d : Desk) (line : Bytes) → Bytes
   textBy Settings d line = openingText d (lineOpening 0 line)
   textBy Reading d line = readText d line (lineIn d line)
   textBy Fetching d line = []
   textBy Skipping d line = []
   textBy Ended d line = []
 
-  unfoldable pub deskAfter : Desk → List ℕ → Desk
+  unfoldable pub deskAfter : Desk → Bytes → Desk
   deskAfter d line = deskBy (d .replay .phase) d line
 
-  unfoldable pub saidTo : Desk → List ℕ → List ℕ
+  unfoldable pub saidTo : Desk → Bytes → Bytes
   saidTo d line = textBy (d .replay .phase) d line
 
   -- what is printed of lines, one behind the other, and what they leave
@@ -124,7 +125,7 @@ module _ (out : List ℕ) where
   deskThrough d (l ∷ ls) = deskThrough (deskAfter d l) ls
 
   -- 'in the order they arise': the whole output of a recording, over the rows and the store that are lent
-  unfoldable pub wholeOutput : (rows : List (List ℕ)) (store recording : List ℕ) → List ℕ
+  unfoldable pub wholeOutput : (rows : Rows) (store recording : Bytes) → Bytes
   wholeOutput rows store recording = outputFrom (record { replay = beginning; rows = rows; store = store }) (linesOf recording)
 
 -- a host: the replay, what it lends to each call, the text that is not used yet and what it has written

@@ -5,6 +5,7 @@ use Prim.Native.Nat.{ℕ, _+_, _-_}
 use lib.ListN.{drop, getD, length, replicate, take}
 use lib.Seq.{slice}
 use Rattle.ground.specs.Plain.{if_then_else_, _==_, _<?_, _≤?_}
+use Rattle.ground.specs.Types.{Bytes, Rows}
 use Rattle.bytes.specs.Bytes.{indexOf}
 use Rattle.phases.specs.Sizes.{startSized}
 use Rattle.receiver.specs.Fetch.{fetchOut, fetchRecord, fetchRows}
@@ -28,7 +29,7 @@ use Rattle.text.specs.Fields.{bytesIn}
 use Rattle.text.specs.Text.{LINE-END}
 
 -- a text at a buffer's front; the bytes behind it stay
-abbrev pub over : List ℕ → List ℕ → List ℕ
+abbrev pub over : Bytes → Bytes → Bytes
 over text out = text ++ drop (length text) out
 
 -- in another phase, with so many lines and fetches
@@ -50,15 +51,15 @@ waitingTurn r = turned r 0 0 true
 unfoldable pub answeredTurn : (r : Replay) (phase : Phase) (number used : ℕ) → Replayed
 answeredTurn r phase number used = turned (within r phase (nextLine (r .line)) 0) used (length (answerText number (nextLine (r .line)))) false
 
-unfoldable pub answeredSaid : (r : Replay) (number : ℕ) (said : List ℕ) → List ℕ
+unfoldable pub answeredSaid : (r : Replay) (number : ℕ) (said : Bytes) → Bytes
 answeredSaid r number said = over (answerText number (nextLine (r .line))) said
 
 -- What is lent holds zeros when a group starts: a replay does not go by what lay there before.
 
-abbrev pub clearedRows : List (List ℕ) → List (List ℕ)
+abbrev pub clearedRows : Rows → Rows
 clearedRows rows = replicate (length rows) (replicate 16 0)
 
-abbrev pub clearedStore : List ℕ → List ℕ
+abbrev pub clearedStore : Bytes → Bytes
 clearedStore store = replicate (length store) 0
 
 -- the first line: 'a bad first line ends the run', and 'Settings out of range, or a store above' what is lent 'are 4 and end it'
@@ -84,23 +85,23 @@ unfoldable pub startable : GroupSettings → ℕ → Bool
 startable s store = isSized s && timesFit s && storeIn s ≤? store
 
 -- the group's own rows, as a receiver's start with these times leaves them
-unfoldable pub startedRows : GroupSettings → List (List ℕ) → List (List ℕ)
+unfoldable pub startedRows : GroupSettings → Rows → Rows
 startedRows s rows = startAsRows (s .kind) (s .ports) (s .size) (s .window) (storeIn s) (holdOffs s) (restores s) rows
 
 abbrev pub startedTurn : (r : Replay) (s : GroupSettings) (next : ℕ) → Replayed
 startedTurn r s next =
     turned (record { phase = Reading; line = nextLine (r .line); left = 0; kind = s .kind; ports = s .ports; size = s .size; window = s .window }) next 0 false
 
-abbrev pub rowsStarted : GroupSettings → List (List ℕ) → List (List ℕ)
+abbrev pub rowsStarted : GroupSettings → Rows → Rows
 rowsStarted s rows = startedRows s (take (rowsFor (s .ports)) (clearedRows rows)) ++ drop (rowsFor (s .ports)) (clearedRows rows)
 
 unfoldable pub openWithTurn : (r : Replay) (s : GroupSettings) (next store : ℕ) → Replayed
 openWithTurn r s next store = if startable s store then startedTurn r s next else answeredTurn r Ended 4 0
 
-unfoldable pub openWithRows : (s : GroupSettings) (store : ℕ) (rows : List (List ℕ)) → List (List ℕ)
+unfoldable pub openWithRows : (s : GroupSettings) (store : ℕ) (rows : Rows) → Rows
 openWithRows s store rows = if startable s store then rowsStarted s rows else rows
 
-unfoldable pub openWithSaid : (r : Replay) (s : GroupSettings) (store : ℕ) (said : List ℕ) → List ℕ
+unfoldable pub openWithSaid : (r : Replay) (s : GroupSettings) (store : ℕ) (said : Bytes) → Bytes
 openWithSaid r s store said = if startable s store then said else answeredSaid r 4 said
 
 abbrev pub openTurnBy : (r : Replay) (store : ℕ) (opening : Opening) → Replayed
@@ -109,13 +110,13 @@ openTurnBy r store O.Malformed = answeredTurn r Ended 13 0
 openTurnBy r store O.Unfinished = waitingTurn r
 openTurnBy r store O.End = waitingTurn r
 
-abbrev pub openRowsBy : (store : ℕ) (rows : List (List ℕ)) (opening : Opening) → List (List ℕ)
+abbrev pub openRowsBy : (store : ℕ) (rows : Rows) (opening : Opening) → Rows
 openRowsBy store rows (O.Settings s next) = openWithRows s store rows
 openRowsBy store rows O.Malformed = rows
 openRowsBy store rows O.Unfinished = rows
 openRowsBy store rows O.End = rows
 
-abbrev pub openSaidBy : (r : Replay) (store : ℕ) (said : List ℕ) (opening : Opening) → List ℕ
+abbrev pub openSaidBy : (r : Replay) (store : ℕ) (said : Bytes) (opening : Opening) → Bytes
 openSaidBy r store said (O.Settings s next) = openWithSaid r s store said
 openSaidBy r store said O.Malformed = answeredSaid r 13 said
 openSaidBy r store said O.Unfinished = said
@@ -125,17 +126,17 @@ openSaidBy r store said O.End = said
 abbrev pub openLent : ℕ → ℕ → Bool
 openLent rows said = ROOM ≤? said && 321 ≤? rows
 
-unfoldable pub openTurn : (r : Replay) (text : List ℕ) (last : Bool) (rows store said : ℕ) → Replayed
+unfoldable pub openTurn : (r : Replay) (text : Bytes) (last : Bool) (rows store said : ℕ) → Replayed
 openTurn r text last rows store said = if openLent rows said then openTurnBy r store (openingIn 0 last text) else refusedTurn r
 
-unfoldable pub openRows : (text : List ℕ) (last : Bool) (rows : List (List ℕ)) (store said : ℕ) → List (List ℕ)
+unfoldable pub openRows : (text : Bytes) (last : Bool) (rows : Rows) (store said : ℕ) → Rows
 openRows text last rows store said = if openLent (length rows) said then openRowsBy store rows (openingIn 0 last text) else rows
 
-unfoldable pub openSaid : (r : Replay) (text : List ℕ) (last : Bool) (rows store : ℕ) (said : List ℕ) → List ℕ
+unfoldable pub openSaid : (r : Replay) (text : Bytes) (last : Bool) (rows store : ℕ) (said : Bytes) → Bytes
 openSaid r text last rows store said = if openLent rows (length said) then openSaidBy r store said (openingIn 0 last text) else said
 
 -- lines are read next where a group has started
-abbrev pub storeBy : Phase → List ℕ → List ℕ
+abbrev pub storeBy : Phase → Bytes → Bytes
 storeBy Settings store = store
 storeBy Reading store = clearedStore store
 storeBy Fetching store = store
@@ -156,11 +157,11 @@ isOpen Unfinished = true
 isOpen End = false
 
 -- the record at the beginning of a text; the last line may lack its end
-unfoldable pub recordNow : (ports size : ℕ) (last : Bool) (text : List ℕ) → Record
+unfoldable pub recordNow : (ports size : ℕ) (last : Bool) (text : Bytes) → Record
 recordNow ports size last text = if isOpen (recordIn ports size 0 text) && last then lastRecord ports size 0 text else recordIn ports size 0 text
 
 -- the payload's digits as bytes
-unfoldable pub payloadAt : (size place : ℕ) (text : List ℕ) → List ℕ
+unfoldable pub payloadAt : (size place : ℕ) (text : Bytes) → Bytes
 payloadAt size place text = bytesIn (slice place (place + size + size) text) (replicate size 0)
 
 -- the frame handed to the receiver, on the parts of rows and store that are its own
@@ -169,7 +170,7 @@ module _ (r : Replay) (port h4 flag : ℕ) (payload : List ℕ) (rows : List (Li
   framedRows =
       frameRows (take (rowsFor (r .ports)) rows) port (flag == 1) h4 payload (take (storeOf (r .ports) (r .size) (r .window)) store) ++ drop (rowsFor (r .ports)) rows
 
-  unfoldable pub framedStore : List ℕ
+  unfoldable pub framedStore : Bytes
   framedStore =
       frameStore (take (rowsFor (r .ports)) rows) port (flag == 1) h4 payload (take (storeOf (r .ports) (r .size) (r .window)) store)
       ++ drop (storeOf (r .ports) (r .size) (r .window)) store
@@ -187,42 +188,41 @@ module _ (r : Replay) (text : List ℕ) where
   readBy Unfinished = waitingTurn r
   readBy End = waitingTurn r
 
-  abbrev pub readRowsBy : (rows : List (List ℕ)) (store : List ℕ) (read : Record) → List (List ℕ)
+  abbrev pub readRowsBy : (rows : Rows) (store : Bytes) (read : Record) → Rows
   readRowsBy rows store (Frame port h4 flag place next) = framedRows r port h4 flag (payloadAt (r .size) place text) rows store
   readRowsBy rows store (Malformed next) = rows
   readRowsBy rows store Long = rows
   readRowsBy rows store Unfinished = rows
   readRowsBy rows store End = rows
 
-  abbrev pub readStoreBy : (rows : List (List ℕ)) (store : List ℕ) (read : Record) → List ℕ
+  abbrev pub readStoreBy : (rows : Rows) (store : Bytes) (read : Record) → Bytes
   readStoreBy rows store (Frame port h4 flag place next) = framedStore r port h4 flag (payloadAt (r .size) place text) rows store
   readStoreBy rows store (Malformed next) = store
   readStoreBy rows store Long = store
   readStoreBy rows store Unfinished = store
   readStoreBy rows store End = store
 
-  abbrev pub readSaidBy : List ℕ → Record → List ℕ
+  abbrev pub readSaidBy : Bytes → Record → Bytes
   readSaidBy said (Frame port h4 flag place next) = said
   readSaidBy said (Malformed next) = answeredSaid r 13 said
   readSaidBy said Long = answeredSaid r 13 said
   readSaidBy said Unfinished = said
   readSaidBy said End = said
 
-abbrev pub nowIn : (r : Replay) (text : List ℕ) (last : Bool) → Record
+abbrev pub nowIn : (r : Replay) (text : Bytes) (last : Bool) → Record
 nowIn r text last = recordNow (r .ports) (r .size) last text
 
-unfoldable pub readTurn : (r : Replay) (text : List ℕ) (last : Bool) (rows store out said : ℕ) → Replayed
+unfoldable pub readTurn : (r : Replay) (text : Bytes) (last : Bool) (rows store out said : ℕ) → Replayed
 readTurn r text last rows store out said = if isLent r rows store out said then readBy r text (nowIn r text last) else refusedTurn r
 
-unfoldable pub readRows :
-    (r : Replay) (text : List ℕ) (last : Bool) (rows : List (List ℕ)) (store : List ℕ) (out said : ℕ) → List (List ℕ)
+unfoldable pub readRows : (r : Replay) (text : Bytes) (last : Bool) (rows : Rows) (store : Bytes) (out said : ℕ) → Rows
 readRows r text last rows store out said = if isLent r (length rows) (length store) out said then readRowsBy r text rows store (nowIn r text last) else rows
 
 unfoldable pub readStore :
-    (r : Replay) (text : List ℕ) (last : Bool) (rows : List (List ℕ)) (store : List ℕ) (out said : ℕ) → List ℕ
+    (r : Replay) (text : Bytes) (last : Bool) (rows : Rows) (store : Bytes) (out said : ℕ) → Bytes
 readStore r text last rows store out said = if isLent r (length rows) (length store) out said then readStoreBy r text rows store (nowIn r text last) else store
 
-unfoldable pub readSaid : (r : Replay) (text : List ℕ) (last : Bool) (rows store out : ℕ) (said : List ℕ) → List ℕ
+unfoldable pub readSaid : (r : Replay) (text : Bytes) (last : Bool) (rows store out : ℕ) (said : Bytes) → Bytes
 readSaid r text last rows store out said = if isLent r rows store out (length said) then readSaidBy r text said (nowIn r text last) else said
 
 -- a report
@@ -241,7 +241,7 @@ module _ (r : Replay) (rows : List (List ℕ)) (store out : List ℕ) where
   fetchRowsBy =
       fetchRows (take (rowsFor (r .ports)) rows) (take (storeOf (r .ports) (r .size) (r .window)) store) out (replicate 8 0) ++ drop (rowsFor (r .ports)) rows
 
-  unfoldable pub fetchOutBy : List ℕ
+  unfoldable pub fetchOutBy : Bytes
   fetchOutBy = fetchOut (take (rowsFor (r .ports)) rows) (take (storeOf (r .ports) (r .size) (r .window)) store) out (replicate 8 0)
 
   -- none is due where the mark is 0
@@ -255,7 +255,7 @@ module _ (r : Replay) (rows : List (List ℕ)) (store out : List ℕ) where
   unfoldable pub fetchedTurn : Replayed
   fetchedTurn = if isDue then reportedTurn r (length reportOf) else readOnTurn r
 
-  unfoldable pub fetchedSaid : List ℕ → List ℕ
+  unfoldable pub fetchedSaid : Bytes → Bytes
   fetchedSaid said = if isDue then over reportOf said else said
 
   module _ (said : ℕ) where
@@ -272,10 +272,10 @@ module _ (r : Replay) (rows : List (List ℕ)) (store out : List ℕ) where
     unfoldable pub reportRows : List (List ℕ)
     reportRows = if fetches then fetchRowsBy else rows
 
-    unfoldable pub reportOut : List ℕ
+    unfoldable pub reportOut : Bytes
     reportOut = if fetches then fetchOutBy else out
 
-  unfoldable pub reportSaid : List ℕ → List ℕ
+  unfoldable pub reportSaid : Bytes → Bytes
   reportSaid said = if fetches (length said) then fetchedSaid said else said
 
 -- the rest of a line that is too long
@@ -283,7 +283,7 @@ module _ (r : Replay) (rows : List (List ℕ)) (store out : List ℕ) where
 abbrev pub skippedTo : Bool → Phase
 skippedTo last = if last then Reading else Skipping
 
-unfoldable pub skipTurn : (r : Replay) (text : List ℕ) (last : Bool) → Replayed
+unfoldable pub skipTurn : (r : Replay) (text : Bytes) (last : Bool) → Replayed
 skipTurn r text last =
     if indexOf LINE-END text <? length text then turned (within r Reading (r .line) 0) (indexOf LINE-END text + 1) 0 false
     else turned (within r (skippedTo last) (r .line) 0) (length text) 0 true
@@ -295,8 +295,7 @@ endedTurn r text = turned r text 0 true
 -- by the phase
 
 abbrev pub turnBy :
-    (phase : Phase) (r : Replay) (text : List ℕ) (last : Bool) (rows : List (List ℕ)) (store out : List ℕ) (said : ℕ)
-    → Replayed
+    (phase : Phase) (r : Replay) (text : Bytes) (last : Bool) (rows : Rows) (store out : Bytes) (said : ℕ) → Replayed
 turnBy Settings r text last rows store out said = openTurn r text last (length rows) (length store) said
 turnBy Reading r text last rows store out said = readTurn r text last (length rows) (length store) (length out) said
 turnBy Fetching r text last rows store out said = reportTurn r rows store out said
@@ -304,8 +303,7 @@ turnBy Skipping r text last rows store out said = skipTurn r text last
 turnBy Ended r text last rows store out said = endedTurn r (length text)
 
 abbrev pub turnRowsBy :
-    (phase : Phase) (r : Replay) (text : List ℕ) (last : Bool) (rows : List (List ℕ)) (store out : List ℕ) (said : ℕ)
-    → List (List ℕ)
+    (phase : Phase) (r : Replay) (text : Bytes) (last : Bool) (rows : Rows) (store out : Bytes) (said : ℕ) → Rows
 turnRowsBy Settings r text last rows store out said = openRows text last rows (length store) said
 turnRowsBy Reading r text last rows store out said = readRows r text last rows store (length out) said
 turnRowsBy Fetching r text last rows store out said = reportRows r rows store out said
@@ -313,15 +311,14 @@ turnRowsBy Skipping r text last rows store out said = rows
 turnRowsBy Ended r text last rows store out said = rows
 
 abbrev pub turnStoreBy :
-    (phase : Phase) (r : Replay) (text : List ℕ) (last : Bool) (rows : List (List ℕ)) (store out : List ℕ) (said : ℕ)
-    → List ℕ
+    (phase : Phase) (r : Replay) (text : Bytes) (last : Bool) (rows : Rows) (store out : Bytes) (said : ℕ) → Bytes
 turnStoreBy Settings r text last rows store out said = storeBy (openTurn r text last (length rows) (length store) said .replay .phase) store
 turnStoreBy Reading r text last rows store out said = readStore r text last rows store (length out) said
 turnStoreBy Fetching r text last rows store out said = store
 turnStoreBy Skipping r text last rows store out said = store
 turnStoreBy Ended r text last rows store out said = store
 
-abbrev pub turnOutBy : (phase : Phase) (r : Replay) (rows : List (List ℕ)) (store out : List ℕ) (said : ℕ) → List ℕ
+abbrev pub turnOutBy : (phase : Phase) (r : Replay) (rows : Rows) (store out : Bytes) (said : ℕ) → Bytes
 turnOutBy Settings r rows store out said = out
 turnOutBy Reading r rows store out said = out
 turnOutBy Fetching r rows store out said = reportOut r rows store out said
@@ -329,7 +326,7 @@ turnOutBy Skipping r rows store out said = out
 turnOutBy Ended r rows store out said = out
 
 abbrev pub turnSaidBy :
-    (phase : Phase) (r : Replay) (text : List ℕ) (last : Bool) (rows : List (List ℕ)) (store out said : List ℕ) → List ℕ
+    (phase : Phase) (r : Replay) (text : Bytes) (last : Bool) (rows : Rows) (store out said : Bytes) → Bytes
 turnSaidBy Settings r text last rows store out said = openSaid r text last (length rows) (length store) said
 turnSaidBy Reading r text last rows store out said = readSaid r text last (length rows) (length store) (length out) said
 turnSaidBy Fetching r text last rows store out said = reportSaid r rows store out said
@@ -337,20 +334,18 @@ turnSaidBy Skipping r text last rows store out said = said
 turnSaidBy Ended r text last rows store out said = said
 
 unfoldable pub turnOf :
-    (r : Replay) (text : List ℕ) (last : Bool) (rows : List (List ℕ)) (store out : List ℕ) (said : ℕ) → Replayed
+    (r : Replay) (text : Bytes) (last : Bool) (rows : Rows) (store out : Bytes) (said : ℕ) → Replayed
 turnOf r text last rows store out said = turnBy (r .phase) r text last rows store out said
 
-unfoldable pub turnRows :
-    (r : Replay) (text : List ℕ) (last : Bool) (rows : List (List ℕ)) (store out : List ℕ) (said : ℕ) → List (List ℕ)
+unfoldable pub turnRows : (r : Replay) (text : Bytes) (last : Bool) (rows : Rows) (store out : Bytes) (said : ℕ) → Rows
 turnRows r text last rows store out said = turnRowsBy (r .phase) r text last rows store out said
 
 unfoldable pub turnStore :
-    (r : Replay) (text : List ℕ) (last : Bool) (rows : List (List ℕ)) (store out : List ℕ) (said : ℕ) → List ℕ
+    (r : Replay) (text : Bytes) (last : Bool) (rows : Rows) (store out : Bytes) (said : ℕ) → Bytes
 turnStore r text last rows store out said = turnStoreBy (r .phase) r text last rows store out said
 
-unfoldable pub turnOut : (r : Replay) (rows : List (List ℕ)) (store out : List ℕ) (said : ℕ) → List ℕ
+unfoldable pub turnOut : (r : Replay) (rows : Rows) (store out : Bytes) (said : ℕ) → Bytes
 turnOut r rows store out said = turnOutBy (r .phase) r rows store out said
 
-unfoldable pub turnSaid : (r : Replay) (text : List ℕ) (last : Bool) (rows : List (List ℕ)) (store out said : List ℕ)
-    → List ℕ
+unfoldable pub turnSaid : (r : Replay) (text : Bytes) (last : Bool) (rows : Rows) (store out said : Bytes) → Bytes
 turnSaid r text last rows store out said = turnSaidBy (r .phase) r text last rows store out said

@@ -4,26 +4,18 @@ use mathlib.Core.Path.{_≡_, refl}
 use mathlib.Core.List.{List, [], _∷_, _++_}
 use Prim.Native.Nat.{ℕ}
 use lib.ListN.{getD, replicate, take}
-use Rattle.packet.specs.Kinds.{frames, idleNumber, payloadRight, tags}
-use Rattle.phases.specs.Sizes.{knownKind, sized, startSized}
-use Rattle.receiver.specs.Starting.{freshPort, freshPorts, sizedFits, sizedRows, startAsRows, startFits, startRight, timesWithin}
-use Rattle.rows.specs.Group.{groupAt, groupOf, groupRow, putGroup}
-use Rattle.rows.specs.Member.{memberAt, memberOf, memberRow, putMember}
-use Rattle.rows.specs.Packets.{putMarks, putPackets}
-use Rattle.rows.specs.Rows.{putRow, rowIn}
-use Rattle.rows.specs.Step.{putStep, stepRow}
+use Rattle.ground.specs.Types.{Rows}
+use Rattle.receiver.specs.Starting.{startAsRows}
+use Rattle.rows.specs.Group.{groupAt}
+use Rattle.rows.specs.Member.{memberAt}
 use Rattle.recording.specs.declared.pairs.Settings as S
-use Rattle.recording.specs.Opening.{lineOpening, settingsBy}
-use Rattle.recording.specs.Record.{lineRecord}
 use Rattle.replaying.specs.declared.replay.Phase.the-variants.{Reading, Settings}
-use Rattle.replaying.specs.Output.{answerText, changesText, countIn, epochText, markText, portText, reportText, stateLine, stateText}
+use Rattle.replaying.specs.Output.{answerText, changesText, countIn, epochText, reportText}
 use Rattle.replaying.specs.Replay.{beginning}
 use Rattle.replaying.specs.Runs.{Desk, deskAfter, saidTo, standing}
 use Rattle.replaying.specs.Turn.{holdOffs, restores, startedRows, storeIn, within}
 use Rattle.text.specs.Ascii.{ascii}
-use Rattle.text.specs.Fields.{digitOf, numberOf}
-use Rattle.text.specs.Output.{decimalText, numberText}
-use Rattle.text.specs.Text.{fieldsOf}
+use Rattle.replaying.specs.Opened.{replayingOpen}
 
 abbrev fresh : Desk
 fresh = record { replay = beginning; rows = []; store = [] }
@@ -33,7 +25,7 @@ wrong-after : Desk → Desk
 wrong-after d = standing [] d Settings
 
 ended-breaks : (saidTo [] (wrong-after fresh) (ascii "y") ≡ answerText 13 2) × (saidTo [] (deskAfter [] fresh (ascii "x")) (ascii "y") ≡ [])
-unfolding wrong-after saidTo deskAfter lineOpening fieldsOf settingsBy numberOf digitOf
+unfolding replayingOpen wrong-after
 ended-breaks = (refl, refl)
 
 -- Lines numbered from 1 in each part. The state is 'carried over', and the number counts on with it.
@@ -45,7 +37,7 @@ abbrev opened : Desk
 opened = record { replay = record { phase = Reading; line = 1; left = 0; kind = 0; ports = 1; size = 1; window = 16 }; rows = []; store = [] }
 
 numbers-break : (saidTo [] (wrong-part opened) (ascii "y") ≡ answerText 13 1) × (saidTo [] opened (ascii "y") ≡ answerText 13 2)
-unfolding wrong-part saidTo lineRecord fieldsOf
+unfolding replayingOpen wrong-part
 numbers-break = (refl, refl)
 
 -- The changed states printed before their report. They are printed 'in the order they arise', and states change at the report.
@@ -56,12 +48,12 @@ abbrev sure : List ℕ
 sure = 3 ∷ 33 ∷ 1 ∷ 0 ∷ 0 ∷ 0 ∷ 0 ∷ 16 ∷ []
 
 order-breaks : (take 4 (wrong-report sure 812 (255 ∷ []) (513 ∷ []) 1) ≡ ascii "port") × (take 5 (reportText sure 812 (255 ∷ []) (513 ∷ []) 1) ≡ ascii "epoch")
-unfolding wrong-report reportText epochText stateLine portText stateText markText countIn decimalText numberText
+unfolding replayingOpen wrong-report
 order-breaks = (refl, refl)
 
 -- a report whole, and the state that it changed
 report-is : reportText sure 812 (255 ∷ []) (513 ∷ []) 1 ≡ ascii "epoch\t33\tsure\tbytes\t16\tline\t812\nport\t0\tOK\t1\n"
-unfolding reportText epochText stateLine portText stateText markText countIn decimalText numberText
+unfolding replayingOpen
 report-is = refl
 
 -- Hold-off and wait-to-restore exchanged at the start. A pair's name says which of them it is.
@@ -72,9 +64,9 @@ wrong-started s rows = startAsRows (s .kind) (s .ports) (s .size) (s .window) (s
 abbrev timed : S.Settings
 timed = record { «hold_off» = 5 ∷ replicate 63 0; restore = 2 ∷ replicate 63 0; kind = 2; ports = 1; size = 1; window = 16 }
 
-abbrev timesIn : List (List ℕ) → List ℕ
+abbrev timesIn : Rows → List ℕ
 timesIn rows = (groupAt rows .kind) ∷ (memberAt rows 0 .«hold_off») ∷ (memberAt rows 0 .restore) ∷ []
 
 times-break : (timesIn (startedRows timed (replicate 6 (replicate 16 0))) ≡ 2 ∷ 5 ∷ 2 ∷ []) × (timesIn (wrong-started timed (replicate 6 (replicate 16 0))) ≡ 2 ∷ 2 ∷ 5 ∷ [])
-unfolding wrong-started frames idleNumber tags knownKind sized freshPort freshPorts sizedFits sizedRows startAsRows startFits payloadRight startRight startSized timesWithin groupAt groupOf groupRow putGroup memberAt memberOf memberRow putMember putMarks putPackets putRow rowIn putStep stepRow startedRows
+unfolding replayingOpen wrong-started
 times-break = (refl, refl)

@@ -1,6 +1,7 @@
 pub mod Choosing
 pub mod Laws
 pub mod Members
+pub mod Opened
 pub mod Telling
 pub mod Theorems
 pub mod Waiting

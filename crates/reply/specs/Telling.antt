@@ -3,6 +3,7 @@ use mathlib.Core.Bool.{Bool, not, _&&_, _||_, Bool·beq}
 use mathlib.Core.List.{List}
 use Prim.Native.Nat.{ℕ, _+_, _*_}
 use Rattle.ground.specs.Plain.{if_then_else_, _==_}
+use Rattle.ground.specs.Types.{Epoch}
 use Rattle.counting.specs.Words.{some}
 use Rattle.packet.specs.Kinds.{mstFirst}
 use Rattle.packet.specs.Words.{ADD, DNU, EOS, IDLE, NORM}
@@ -29,7 +30,7 @@ mstFrom ports n q =
     + failBit ports n (q + 6) * 2
     + failBit ports n (q + 7)
 
-unfoldable pub mstOf : (kind : ℕ) (ports : List Port) (count epoch : ℕ) → ℕ
+unfoldable pub mstOf : (kind : ℕ) (ports : List Port) (count : ℕ) (epoch : Epoch) → ℕ
 mstOf kind ports n e = mstFrom ports n (mstFirst kind e)
 
 -- 'the list of active and DNU ports'

@@ -10,12 +10,13 @@ use Rattle.ground.specs.Table.{tabulate}
 use Rattle.packet.specs.Words.{ADD, IDLE, NORM}
 use Rattle.reply.specs.declared.members.Port.{Port}
 use Rattle.reply.specs.declared.waiting.Standing.{Standing}
-use Rattle.reply.specs.Choosing.{FREE, claims, grant, granted, holderOf, holders, allFree}
+use Rattle.reply.specs.Choosing.{FREE, claims, granted, holderOf, holders, allFree}
 use Rattle.reply.specs.Members.{failState, hasHoldOff, idleState, isCandidate, okState, portAt}
-use Rattle.reply.specs.Waiting.{chosenOf, hasClaim, keepsNumber, keptNumbers, moreKept, rounds, someJoin, standing, standingAt, standingBy, standingsOf, withClaim, withoutClaim}
+use Rattle.reply.specs.Waiting.{hasClaim, keepsNumber, standing, standingAt, standingBy, withClaim, withoutClaim}
+use Rattle.reply.specs.Opened.{replyOpen}
 
 -- a port that sends a word under a number, with what the last report left of it and its times
-abbrev port : ℕ → ℕ → Bool → Standing → ℕ → ℕ → Port
+abbrev port : (word number : ℕ) (readable : Bool) (last : Standing) (hold restore : ℕ) → Port
 port word number readable last hold restore =
     record {
       word = word;
@@ -31,7 +32,7 @@ port word number readable last hold restore =
     }
 
 -- what is left of the n ports by a table of holders, and by the definition
-abbrev leftBy : List ℕ → List Port → ℕ → List Standing
+abbrev leftBy : (chosen : List ℕ) (ports : List Port) (count : ℕ) → List Standing
 leftBy chosen ports n = tabulate n (λ i. standingBy chosen i (portAt ports i))
 
 abbrev left : List Port → ℕ → List Standing
@@ -48,7 +49,7 @@ wrong-order ports n = claims true ports n (claims false ports n allFree)
 order-breaks :
     (leftBy (wrong-order newcomer 2) newcomer 2 ≡ standing okState 0 0 ∷ standing failState 0 0 ∷ [])
     × (left newcomer 2 ≡ standing failState 0 0 ∷ standing okState 0 0 ∷ [])
-unfolding newcomer wrong-order claims grant granted holders rounds someJoin moreKept keptNumbers chosenOf standingBy standingsOf
+unfolding replyOpen newcomer wrong-order
 order-breaks = (refl, refl)
 
 -- one round for all, in port order alone
@@ -58,7 +59,7 @@ wrong-round ports n = granted (λ i. isCandidate (portAt ports i)) (λ i. portAt
 round-breaks :
     (leftBy (wrong-round newcomer 2) newcomer 2 ≡ standing okState 0 0 ∷ standing failState 0 0 ∷ [])
     × (left newcomer 2 ≡ standing failState 0 0 ∷ standing okState 0 0 ∷ [])
-unfolding newcomer wrong-round claims grant granted holders rounds someJoin moreKept keptNumbers chosenOf standingBy standingsOf
+unfolding replyOpen newcomer wrong-round
 round-breaks = (refl, refl)
 
 -- Every OK port that has not chosen yet reserves the number it had, whether or not it has lost its claim.
@@ -88,7 +89,7 @@ falling = port NORM 2 true (standing okState 3 0) 9 0 ∷ port NORM 1 true (stan
 reserve-breaks :
     (reserving falling 3 ≡ standing okState 3 1 ∷ standing okState 2 1 ∷ standing okState 0 0 ∷ [])
     × (left falling 3 ≡ standing okState 2 0 ∷ standing okState 1 0 ∷ standing okState 0 0 ∷ [])
-unfolding falling wrong-reserve claims grant granted holders rounds someJoin moreKept keptNumbers chosenOf standingBy standingsOf
+unfolding replyOpen falling wrong-reserve
 reserve-breaks = (refl, refl)
 
 -- two members exchange numbers
@@ -99,7 +100,7 @@ swapped = port NORM 1 true (standing okState 0 0) 9 0 ∷ port NORM 0 true (stan
 swap-breaks :
     (reserving swapped 2 ≡ standing okState 0 1 ∷ standing okState 1 1 ∷ [])
     × (left swapped 2 ≡ standing okState 1 0 ∷ standing okState 0 0 ∷ [])
-unfolding swapped wrong-reserve claims grant granted holders rounds someJoin moreKept keptNumbers chosenOf standingBy standingsOf
+unfolding replyOpen swapped wrong-reserve
 swap-breaks = (refl, refl)
 
 -- a port alone, OK under 0 with hold-off 2, that is not readable, with its counter
@@ -111,7 +112,7 @@ wrong-late : Port → Standing
 wrong-late p = if p .elapsed ≤? p .«hold_off» then standing okState (p .«state_number») (p .elapsed + 1) else standing failState (p .number) 0
 
 late-breaks : (wrong-late (portAt (lost 2) 0) ≡ standing okState 0 3) × (standingAt (lost 2) 1 0 ≡ standing failState 0 0)
-unfolding lost wrong-late claims grant granted holders rounds someJoin moreKept keptNumbers chosenOf standingBy standingsOf
+unfolding replyOpen lost wrong-late
 late-breaks = (refl, refl)
 
 -- IDLE waits for the hold-off
@@ -124,7 +125,7 @@ turned-idle = port IDLE 255 true (standing okState 0 0) 2 0 ∷ []
 idle-breaks :
     (wrong-idle (set allFree 0 0) 0 (portAt turned-idle 0) ≡ standing okState 0 1)
     × (standingAt turned-idle 1 0 ≡ standing idleState 255 0)
-unfolding turned-idle wrong-idle claims grant granted holders rounds someJoin moreKept keptNumbers chosenOf standingBy standingsOf
+unfolding replyOpen turned-idle wrong-idle
 idle-breaks = (refl, refl)
 
 -- a port that comes from IDLE waits to restore
@@ -135,7 +136,7 @@ added : List Port
 added = port ADD 0 true (standing idleState 255 0) 0 3 ∷ []
 
 first-breaks : (wrong-first (portAt added 0) ≡ standing failState 0 1) × (standingAt added 1 0 ≡ standing okState 0 0)
-unfolding added wrong-first claims grant granted holders rounds someJoin moreKept keptNumbers chosenOf standingBy standingsOf
+unfolding replyOpen added wrong-first
 first-breaks = (refl, refl)
 
 -- the number that a port keeps is the one that it now sends: its own is given away
@@ -149,7 +150,7 @@ renumbered = port NORM 1 false (standing okState 0 0) 2 0 ∷ port NORM 0 true (
 kept-breaks :
     (tabulate 2 (λ i. wrong-kept (holders renumbered 2 allFree) i (portAt renumbered i)) ≡ standing okState 1 1 ∷ standing okState 0 0 ∷ [])
     × (left renumbered 2 ≡ standing okState 0 1 ∷ standing okState 1 1 ∷ [])
-unfolding renumbered wrong-kept claims grant granted holders rounds someJoin moreKept keptNumbers chosenOf standingBy standingsOf
+unfolding replyOpen renumbered wrong-kept
 kept-breaks = (refl, refl)
 
 -- The hold-off counted by the epoch's number, which goes round after 256: 300 reports after the loss at epoch 0 it is epoch 44.
@@ -161,5 +162,5 @@ long : List Port
 long = port NORM 0 false (standing okState 0 300) 300 0 ∷ []
 
 epochs-break : (wrong-epochs (portAt long 0) 0 44 ≡ standing okState 0 0) × (standingAt long 1 0 ≡ standing failState 0 0)
-unfolding long wrong-epochs claims grant granted holders rounds someJoin moreKept keptNumbers chosenOf standingBy standingsOf
+unfolding replyOpen long wrong-epochs
 epochs-break = (refl, refl)

@@ -1,11 +1,12 @@
 -- The group's row.
-use mathlib.Core.List.{List, _∷_}
-use Prim.Native.Nat.{ℕ, _+_, _*_, _/_, _%_}
+use mathlib.Core.List.{_∷_}
+use Prim.Native.Nat.{_+_, _*_, _/_, _%_}
 use lib.ListN.{drop, getD}
+use Rattle.ground.specs.Types.{Bytes, Rows}
 use Rattle.rows.specs.declared.group.Group.{Group}
 use Rattle.rows.specs.Rows.{rowIn, putRow}
 
-unfoldable pub groupOf : List ℕ → Group
+unfoldable pub groupOf : Bytes → Group
 groupOf row =
     record {
       spare = drop 12 row;
@@ -20,7 +21,7 @@ groupOf row =
       «rs_ack» = getD row 11 0;
     }
 
-unfoldable pub groupRow : Group → List ℕ
+unfoldable pub groupRow : Group → Bytes
 groupRow g =
     (g .kind)
     ∷ (g .count)
@@ -36,8 +37,8 @@ groupRow g =
     ∷ (g .«rs_ack»)
     ∷ (g .spare)
 
-unfoldable pub groupAt : List (List ℕ) → Group
+unfoldable pub groupAt : Rows → Group
 groupAt s = groupOf (rowIn s 0)
 
-unfoldable pub putGroup : List (List ℕ) → Group → List (List ℕ)
+unfoldable pub putGroup : Rows → Group → Rows
 putGroup s g = putRow s 0 (groupRow g)

@@ -1,3 +1,4 @@
+pub mod Opened
 pub mod Rows
 pub mod Group
 pub mod Step

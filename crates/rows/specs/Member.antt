@@ -1,11 +1,12 @@
 -- The row of a port's member.
-use mathlib.Core.List.{List, _∷_}
+use mathlib.Core.List.{_∷_}
 use Prim.Native.Nat.{ℕ, _+_, _*_, _/_, _%_}
 use lib.ListN.{drop, getD}
+use Rattle.ground.specs.Types.{Bytes, Rows}
 use Rattle.rows.specs.declared.member.Member.{Member}
 use Rattle.rows.specs.Rows.{PORT-ROWS, rowIn, putRow}
 
-unfoldable pub memberOf : List ℕ → Member
+unfoldable pub memberOf : Bytes → Member
 memberOf row =
     record {
       spare = drop 12 row;
@@ -20,7 +21,7 @@ memberOf row =
       elapsed = getD row 10 0 * 256 + getD row 11 0;
     }
 
-unfoldable pub memberRow : Member → List ℕ
+unfoldable pub memberRow : Member → Bytes
 memberRow m =
     (m .word)
     ∷ (m .number)
@@ -36,8 +37,8 @@ memberRow m =
     ∷ m .elapsed % 256
     ∷ (m .spare)
 
-unfoldable pub memberAt : List (List ℕ) → ℕ → Member
+unfoldable pub memberAt : Rows → ℕ → Member
 memberAt s i = memberOf (rowIn s (i * PORT-ROWS + 2))
 
-unfoldable pub putMember : (s : List (List ℕ)) (port : ℕ) (m : Member) → List (List ℕ)
+unfoldable pub putMember : (s : Rows) (port : ℕ) (m : Member) → Rows
 putMember s i m = putRow s (i * PORT-ROWS + 2) (memberRow m)

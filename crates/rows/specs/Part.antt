@@ -1,6 +1,7 @@
 -- A part of a port, with what is put there.
 use mathlib.Core.List.{List}
 use Prim.Native.Nat.{ℕ}
+use Rattle.ground.specs.Types.{Rows}
 use Rattle.rows.specs.declared.member.Member.{Member}
 use Rattle.rows.specs.declared.step.Step.{Step}
 use Rattle.rows.specs.Member.{memberAt, putMember}
@@ -14,7 +15,7 @@ pub data Part : Type 0 where
   ThePackets : List (List ℕ) → Part
   TheMarks : List ℕ → Part
 
-abbrev pub put : (s : List (List ℕ)) (port : ℕ) (part : Part) → List (List ℕ)
+abbrev pub put : (s : Rows) (port : ℕ) (part : Part) → Rows
 put s i (TheStep q) = putStep s i q
 put s i (TheMember m) = putMember s i m
 put s i (ThePackets pair) = putPackets s i pair
@@ -28,7 +29,7 @@ with p (ThePackets pair) = withPackets p pair
 with p (TheMarks row) = withMarks p row
 
 -- and that part as it is read
-abbrev pub again : (s : List (List ℕ)) (port : ℕ) (part : Part) → Part
+abbrev pub again : (s : Rows) (port : ℕ) (part : Part) → Part
 again s i (TheStep q) = TheStep (stepAt s i)
 again s i (TheMember m) = TheMember (memberAt s i)
 again s i (ThePackets pair) = ThePackets (packetsAt s i)

@@ -2,6 +2,7 @@
 use mathlib.Core.List.{List, []}
 use Prim.Native.Nat.{ℕ}
 use lib.ListN.{getD}
+use Rattle.ground.specs.Types.{Bytes, Rows}
 use Rattle.rows.specs.declared.member.Member.{Member}
 use Rattle.rows.specs.declared.step.Step.{Step}
 use Rattle.rows.specs.Member.{memberAt}
@@ -15,7 +16,7 @@ pub record Port : Type 0 where
   pub ruling : List ℕ
   pub marks : List ℕ
 
-unfoldable pub portAt : List (List ℕ) → ℕ → Port
+unfoldable pub portAt : Rows → ℕ → Port
 portAt s i =
     record {
       step = stepAt s i;
@@ -35,5 +36,5 @@ abbrev pub withPackets : Port → List (List ℕ) → Port
 withPackets p pair =
     record { step = p .step; member = p .member; gathering = getD pair 0 []; ruling = getD pair 1 []; marks = p .marks }
 
-abbrev pub withMarks : Port → List ℕ → Port
+abbrev pub withMarks : Port → Bytes → Port
 withMarks p row = record { step = p .step; member = p .member; gathering = p .gathering; ruling = p .ruling; marks = row }

@@ -3,13 +3,14 @@ use mathlib.Core.Path.{_≡_}
 use mathlib.Core.List.{List}
 use Prim.Native.Nat.{ℕ, _+_, _*_, _<_}
 use lib.ListN.{length, getD, replicate, set}
+use Rattle.ground.specs.Types.{Bytes, Rows}
 
 -- a row that is not there reads as zeros
-unfoldable pub rowIn : List (List ℕ) → ℕ → List ℕ
+unfoldable pub rowIn : Rows → ℕ → Bytes
 rowIn s k = getD s k (replicate 16 0)
 
 -- and what is put there is dropped
-unfoldable pub putRow : (s : List (List ℕ)) (k : ℕ) (row : List ℕ) → List (List ℕ)
+unfoldable pub putRow : (s : Rows) (k : ℕ) (row : Bytes) → Rows
 putRow s k row = set s k row
 
 -- how many rows a port has

@@ -1,11 +1,12 @@
 -- The row of a port's step.
-use mathlib.Core.List.{List, _∷_}
+use mathlib.Core.List.{_∷_}
 use Prim.Native.Nat.{ℕ, _+_, _*_, _/_, _%_}
 use lib.ListN.{drop, getD}
+use Rattle.ground.specs.Types.{Bytes, Rows}
 use Rattle.rows.specs.declared.step.Step.{Step}
 use Rattle.rows.specs.Rows.{PORT-ROWS, rowIn, putRow}
 
-unfoldable pub stepOf : List ℕ → Step
+unfoldable pub stepOf : Bytes → Step
 stepOf row =
     record {
       spare = drop 12 row;
@@ -22,7 +23,7 @@ stepOf row =
       bits = getD row 11 0;
     }
 
-unfoldable pub stepRow : Step → List ℕ
+unfoldable pub stepRow : Step → Bytes
 stepRow s =
     (s .had)
     ∷ (s .failed)
@@ -38,7 +39,7 @@ stepRow s =
     ∷ (s .bits)
     ∷ (s .spare)
 
-unfoldable pub stepAt : List (List ℕ) → ℕ → Step
+unfoldable pub stepAt : Rows → ℕ → Step
 stepAt s i = stepOf (rowIn s (i * PORT-ROWS + 1))
 
 -- a step that waits for another tag
@@ -59,5 +60,5 @@ withNext q n =
       bits = q .bits;
     }
 
-unfoldable pub putStep : (s : List (List ℕ)) (port : ℕ) (q : Step) → List (List ℕ)
+unfoldable pub putStep : (s : Rows) (port : ℕ) (q : Step) → Rows
 putStep s i q = putRow s (i * PORT-ROWS + 1) (stepRow q)

@@ -4,6 +4,7 @@ use mathlib.Core.List.{List, [], _∷_}
 use Prim.Native.Nat.{ℕ}
 use lib.ListN.{length}
 use Rattle.ground.specs.Plain.{if_then_else_, _==_, _<?_}
+use Rattle.ground.specs.Types.{Bytes, Epoch}
 use Rattle.packet.specs.declared.layout.Fields.{Fields}
 use Rattle.packet.specs.Kinds.{epochAfter, frames, payloadRight}
 use Rattle.packet.specs.Sent.{sentAnswer, sentBytes}
@@ -23,10 +24,10 @@ use Rattle.sender.specs.Ranks.{carriersIn, rankAt, ranksIn, rowAt}
 use Rattle.sender.specs.Table.{sizeOf}
 
 -- no epoch has started: nothing has gone out, so 'a sender's first epoch has X = 0'
-unfoldable pub freshSender : Table → ℕ → Sender
+unfoldable pub freshSender : Table → Epoch → Sender
 freshSender t e = record { table = t; outgoing = boardOf t; ruling = boardOf t; epoch = e; begun = false; gid = 0; mst = 0; «rs_ack» = 0 }
 
-unfoldable pub beginOf : (kind count epoch : ℕ) → SenderOutcome
+unfoldable pub beginOf : (kind count : ℕ) (epoch : Epoch) → SenderOutcome
 beginOf kind count e = record { sender = freshSender (startOf kind count .table) e; answer = startOf kind count .answer }
 
 -- a call on the table leaves what the epoch's start fixed
@@ -38,7 +39,7 @@ withOutcome s r =
     }
 
 -- the number of the epoch that starts: the first one's is given, then each is one more
-unfoldable pub startedEpoch : Sender → ℕ
+unfoldable pub startedEpoch : Sender → Epoch
 startedEpoch s = if s .begun then epochAfter (s .table .kind) (s .epoch) else s .epoch
 
 -- 'The packets of one epoch rule the payload of the next epoch'
@@ -70,13 +71,13 @@ packetFields s i =
     record { epoch = s .epoch; word = row .word; gid = s .gid; mst = s .mst; «rs_ack» = s .«rs_ack»; sq = row .number; reserved = 0 }
 
 -- The packet of a slot: 1, 9, 2.
-unfoldable pub packetAnswer : (s : Sender) (slot : ℕ) (h4 : List ℕ) → Answer
+unfoldable pub packetAnswer : (s : Sender) (slot : ℕ) (h4 : Bytes) → Answer
 packetAnswer s i h4 =
     if i <? sizeOf (s .table .count)
     then (if length h4 == frames (s .table .kind) then (if s .begun then written (sentAnswer (s .table .kind) (packetFields s i) h4) else NotAllowed) else Length)
     else NoSlot
 
-unfoldable pub packetBytes : (s : Sender) (slot : ℕ) (h4 : List ℕ) → List ℕ
+unfoldable pub packetBytes : (s : Sender) (slot : ℕ) (h4 : Bytes) → Bytes
 packetBytes s i h4 =
     if i <? sizeOf (s .table .count) && length h4 == frames (s .table .kind) && s .begun then sentBytes (s .table .kind) (packetFields s i) h4 else h4
 
@@ -96,7 +97,7 @@ payloadAnswer s i P frame member =
     else OutOfRange)
     else NoSlot
 
-unfoldable pub payloadBytes : (s : Sender) (slot P : ℕ) (frame member : List ℕ) → List ℕ
+unfoldable pub payloadBytes : (s : Sender) (slot P : ℕ) (frame member : Bytes) → Bytes
 payloadBytes s i P frame member =
     if i <? sizeOf (s .table .count) && payloadRight (s .table .kind) P && s .begun then spreadOne (xOf s) P (rankIn s i) frame member else member
 

@@ -4,6 +4,7 @@ pub mod Commands
 pub mod Epochs
 pub mod Laws
 pub mod Numbering
+pub mod Opened
 pub mod Outcomes
 pub mod Ranks
 pub mod Reports

@@ -7,25 +7,22 @@ use lib.ListN.{getD, replicate, set}
 use Rattle.ground.specs.Plain.{if_then_else_}
 use Rattle.ground.specs.Table.{tabulate}
 use Rattle.packet.specs.declared.layout.Fields.{Fields}
-use Rattle.packet.specs.Crc.{crcOf, divisor, nibbleBits}
-use Rattle.packet.specs.Kinds.{epochAfter, epochs, frames, idleNumber, mstEpochs, mstFails, mstFirst, mstNumbers}
-use Rattle.packet.specs.Layout.{dataOf, h4Of, nibblesOf, sealedOf}
-use Rattle.packet.specs.Sent.{sentBytes}
-use Rattle.packet.specs.Words.{ADD, EOS, NORM, assigned}
-use Rattle.packet.specs.Writing.{fitting, writeBytes}
+use Rattle.packet.specs.Kinds.{mstFails, mstFirst, mstNumbers}
+use Rattle.packet.specs.Layout.{h4Of, nibblesOf}
+use Rattle.packet.specs.Words.{ADD, EOS, NORM}
 use Rattle.sender.specs.declared.epochs.Sender.{Sender}
 use Rattle.sender.specs.declared.table.Slot.{Slot}
 use Rattle.sender.specs.declared.table.Table.{Table}
-use Rattle.sender.specs.Board.{boardOf, highest, noRow, rowOf, rowsOf}
 use Rattle.sender.specs.Calls.{Call}
 use Rattle.sender.specs.Calls.Call.{AddSlot, Lapse, RemoveSlot, Report}
-use Rattle.sender.specs.Commands.{addOf, addedTo, fallen, fallenIn, freshOf, idleSlot, lapseOf, removeOf, removedFrom, startOf, withSlots}
-use Rattle.sender.specs.Epochs.{beginOf, freshSender, packetBytes, packetFields, rankIn, senderRun, startEpochOf, startedEpoch, startedSender, xOf}
-use Rattle.sender.specs.Ranks.{carriersIn, carries, noRank, rankAt, rankOf, rowAt}
-use Rattle.sender.specs.Reports.{actedOn, comesBefore, mstApplied, numberAfter, opensWait, renumbered, reportOf, slotAfter, becomes, numberApplied, turnOf, waited}
+use Rattle.sender.specs.Commands.{withSlots}
+use Rattle.sender.specs.Epochs.{beginOf, packetBytes, packetFields, rankIn, senderRun, startEpochOf, xOf}
+use Rattle.sender.specs.Ranks.{carries, noRank, rankAt, rowAt}
+use Rattle.sender.specs.Reports.{mstApplied, renumbered, becomes}
 use Rattle.sender.specs.Shown.{after, shown}
-use Rattle.sender.specs.Table.{holderOf, membersOf, sizeOf, slotAt}
+use Rattle.sender.specs.Table.{sizeOf, slotAt}
 use Rattle.sender.specs.Theorems.Epochs.{onTable}
+use Rattle.sender.specs.Opened.{senderOpen}
 
 -- Slip 3: 'Giving the two members of P8 their asked numbers, so EOS lands on 1 and 0 is unused.' Nothing is numbered anew.
 wrong-numbers : Table → ℕ → ℕ → Table
@@ -34,7 +31,7 @@ wrong-numbers t e mst = withSlots t (mstApplied (t .slots) (sizeOf (t .count)) (
 numbers-break :
     (shown (wrong-numbers (after 2 (AddSlot 0 ∷ AddSlot 1 ∷ [])) 0 0xBF) ≡ ADD ∷ 0 ∷ EOS ∷ 1 ∷ 1 ∷ [])
     × (shown (after 2 (AddSlot 0 ∷ AddSlot 1 ∷ Report 0 0xBF 0 ∷ [])) ≡ ADD ∷ 1 ∷ EOS ∷ 0 ∷ 1 ∷ [])
-unfolding wrong-numbers boardOf rowsOf rowOf noRow highest startOf freshOf idleSlot idleNumber addOf addedTo reportOf actedOn mstApplied numberApplied holderOf renumbered slotAfter numberAfter comesBefore turnOf opensWait sizeOf membersOf mstFails mstFirst mstEpochs mstNumbers
+unfolding senderOpen wrong-numbers
 numbers-break = (refl, refl)
 
 -- Slip 4: 'Reading MST through numbers already moved by the same report.' Slot by slot, each by the number it has by then, and numbered anew at once.
@@ -49,11 +46,11 @@ wrong-reading slots n mst (suc i) =
 reading-breaks :
     (let t = after 2 (AddSlot 1 ∷ AddSlot 0 ∷ []) in shown (withSlots t (wrong-reading (t .slots) 2 0xBF 2) true) ≡ NORM ∷ 0 ∷ EOS ∷ 1 ∷ 1 ∷ [])
     × (shown (after 2 (AddSlot 1 ∷ AddSlot 0 ∷ Report 0 0xBF 0 ∷ [])) ≡ EOS ∷ 0 ∷ ADD ∷ 1 ∷ 1 ∷ [])
-unfolding wrong-reading boardOf rowsOf rowOf noRow highest startOf freshOf idleSlot idleNumber addOf addedTo reportOf actedOn mstApplied numberApplied holderOf renumbered slotAfter numberAfter comesBefore turnOf opensWait sizeOf membersOf mstFails mstFirst mstEpochs mstNumbers
+unfolding senderOpen wrong-reading
 reading-breaks = (refl, refl)
 
 -- this epoch's X, then the rank of each of n slots
-abbrev told : (Sender → ℕ → ℕ) → ℕ → Sender → List ℕ
+abbrev told : (rank : Sender → ℕ → ℕ) (count : ℕ) (s : Sender) → List ℕ
 told rank n s = xOf s ∷ tabulate n (rank s)
 
 -- two epochs started, with calls on the table before each
@@ -72,7 +69,7 @@ wrong-rank s i = if carries (rowAt (s .ruling .rows) i) then rowAt (s .ruling .r
 rank-breaks :
     (told wrong-rank 3 (twice (joined 0 (joined 1 (joined 2 (Report 0 0x80 0 ∷ [])))) []) ≡ 2 ∷ 255 ∷ 1 ∷ 2 ∷ [])
     × (told rankIn 3 (twice (joined 0 (joined 1 (joined 2 (Report 0 0x80 0 ∷ [])))) []) ≡ 2 ∷ 255 ∷ 0 ∷ 1 ∷ [])
-unfolding wrong-rank beginOf freshSender startEpochOf startedSender startedEpoch carriersIn rankAt rankOf boardOf rowsOf rowOf noRow highest startOf freshOf idleSlot idleNumber addOf addedTo lapseOf reportOf waited actedOn mstApplied numberApplied holderOf renumbered slotAfter numberAfter comesBefore turnOf opensWait sizeOf membersOf mstFails mstFirst mstEpochs mstNumbers
+unfolding senderOpen wrong-rank
 rank-breaks = (refl, refl)
 
 -- Slip 2: 'Using a new packet's numbers for its own epoch.' Three members carry by packets of the epoch before; the middle one is removed, which shows in this epoch's packets and rules the next.
@@ -82,7 +79,7 @@ wrong-epoch s i = rankAt (s .outgoing .rows) (sizeOf (s .outgoing .count)) i
 epoch-breaks :
     (told wrong-epoch 3 (twice (joined 0 (joined 1 (joined 2 []))) (RemoveSlot 1 ∷ [])) ≡ 3 ∷ 0 ∷ 255 ∷ 1 ∷ [])
     × (told rankIn 3 (twice (joined 0 (joined 1 (joined 2 []))) (RemoveSlot 1 ∷ [])) ≡ 3 ∷ 0 ∷ 1 ∷ 2 ∷ [])
-unfolding wrong-epoch beginOf freshSender startEpochOf startedSender startedEpoch carriersIn rankAt rankOf boardOf rowsOf rowOf noRow highest startOf freshOf idleSlot idleNumber addOf addedTo removeOf removedFrom fallen fallenIn lapseOf reportOf waited actedOn mstApplied numberApplied holderOf renumbered slotAfter numberAfter comesBefore turnOf opensWait sizeOf membersOf mstFails mstFirst mstEpochs mstNumbers
+unfolding senderOpen wrong-epoch
 epoch-breaks = (refl, refl)
 
 -- The reserved bits kept by the sender from the last packet read. 'Our sender still writes zeros' (request 2026-08): of the byte of MFI1 3 the first three bits are 0.
@@ -97,5 +94,5 @@ last-read = record { epoch = 5; word = record { 0 = NORM }; gid = 1; mst = 0xBF;
 packet-breaks :
     (let s = twice (joined 0 []) [] in getD (wrong-packet last-read s 0) 11 0 / 32 ≡ 7)
     × (let s = twice (joined 0 []) [] in getD (packetBytes s 0 (replicate 16 0)) 11 0 / 32 ≡ 0)
-unfolding wrong-packet packetFields packetBytes sentBytes writeBytes fitting assigned frames h4Of nibblesOf sealedOf dataOf crcOf divisor nibbleBits beginOf freshSender startEpochOf startedSender startedEpoch epochAfter epochs boardOf rowsOf rowOf noRow highest startOf freshOf idleSlot idleNumber addOf addedTo lapseOf reportOf waited actedOn mstApplied numberApplied holderOf renumbered slotAfter numberAfter comesBefore turnOf opensWait sizeOf membersOf mstFails mstEpochs mstFirst mstNumbers
+unfolding senderOpen wrong-packet
 packet-breaks = (refl, refl)

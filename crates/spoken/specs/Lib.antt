@@ -3,6 +3,7 @@ pub mod Changes
 pub mod Fitting
 pub mod Laws
 pub mod Listening
+pub mod Opened
 pub mod Shown
 pub mod Speaking
 pub mod Taking

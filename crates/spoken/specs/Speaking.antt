@@ -4,6 +4,7 @@ use mathlib.Core.List.{List, [], _++_}
 use Prim.Native.Nat.{ℕ, zero, suc}
 use lib.ListN.{drop, length}
 use Rattle.ground.specs.Plain.{if_then_else_, _==_, _<?_, _≤?_}
+use Rattle.ground.specs.Types.{Bytes}
 use Rattle.counting.specs.Words.{every}
 use Rattle.packet.specs.declared.words.Word.{Word}
 use Rattle.packet.specs.Words.{ADD, DNU, EOS, IDLE, NORM}
@@ -22,21 +23,21 @@ use Rattle.spoken.specs.Applying.{changeIn, risesAt}
 use Rattle.spoken.specs.Changes.{sameRow}
 
 -- `slot 3`, with a tab behind it
-unfoldable pub slotText : ℕ → List ℕ
+unfoldable pub slotText : ℕ → Bytes
 slotText slot = ended (ascii "slot") TAB ++ ended (decimalText slot) TAB
 
 -- `NORM 2`, with a mark behind it
-unfoldable pub rowText : Row → ℕ → List ℕ
+unfoldable pub rowText : Row → ℕ → Bytes
 rowText r mark = ended (wordText (r .word)) TAB ++ ended (decimalText (r .number)) mark
 
-unfoldable pub wasText : Row → List ℕ
+unfoldable pub wasText : Row → Bytes
 wasText r = ended (ascii "was") TAB ++ rowText r TAB
 
-unfoldable pub nowText : Row → List ℕ
+unfoldable pub nowText : Row → Bytes
 nowText r = ended (ascii "now") TAB ++ rowText r LINE-END
 
 -- `slot 3 was NORM 2 now EOS 2`, spaces standing for tabs
-unfoldable pub changeText : Change → List ℕ
+unfoldable pub changeText : Change → Bytes
 changeText c = slotText (c .slot) ++ wasText (c .old) ++ nowText (c .new)
 
 -- the lines of the first n changes
@@ -50,7 +51,7 @@ waitLine Same = []
 waitLine Opened = ascii "wait\topen\n"
 waitLine Closed = ascii "wait\tclosed\n"
 
-unfoldable pub spokenText : Changes → List ℕ
+unfoldable pub spokenText : Changes → Bytes
 spokenText cs = changeLines (cs .list) (cs .count) ++ waitLine (cs .wait)
 
 -- room for the lines of any changes: 64 of at most 34 bytes (`slot 63 was NORM 255 now NORM 254`) and `wait closed`
@@ -72,15 +73,15 @@ unfoldable pub canSpeak : Changes → Bool
 canSpeak cs = if cs .count ≤? 64 then changesSpeak (cs .list) (cs .count) else false
 
 -- 9, 2
-unfoldable pub speakAnswer : Changes → List ℕ → Answer
+unfoldable pub speakAnswer : Changes → Bytes → Answer
 speakAnswer cs out = if length out <? SPEECH-ROOM then Length else if canSpeak cs then Done else Unfit
 
-abbrev pub isSpoken : Changes → List ℕ → Bool
+abbrev pub isSpoken : Changes → Bytes → Bool
 isSpoken cs out = if length out <? SPEECH-ROOM then false else canSpeak cs
 
-unfoldable pub speechOf : Changes → List ℕ → Speech
+unfoldable pub speechOf : Changes → Bytes → Speech
 speechOf cs out = record { answer = speakAnswer cs out; written = if isSpoken cs out then length (spokenText cs) else 0 }
 
 -- the lines at the front of the buffer; the rest stays
-unfoldable pub speechBytes : Changes → List ℕ → List ℕ
+unfoldable pub speechBytes : Changes → Bytes → Bytes
 speechBytes cs out = if isSpoken cs out then spokenText cs ++ drop (length (spokenText cs)) out else out

@@ -5,10 +5,8 @@ use mathlib.Core.List.{List, [], _∷_, _++_}
 use Prim.Native.Nat.{ℕ, zero, suc}
 use lib.ListN.{replicate, set}
 use Rattle.ground.specs.Plain.{if_then_else_, _==_}
-use Rattle.packet.specs.Kinds.{idleNumber, mstEpochs, mstFails, mstFirst, mstNumbers}
 use Rattle.packet.specs.Words.{ADD, DNU, EOS, IDLE, NORM}
-use Rattle.sender.specs.Board.{boardOf, highest, noRow, rowOf, rowsOf, word}
-use Rattle.sender.specs.Commands.{addOf, addedTo, fallen, fallenIn, freshOf, idleSlot, lapseOf, removeOf, removedFrom, startOf}
+use Rattle.sender.specs.Board.{boardOf, word}
 use Rattle.sender.specs.declared.board.Board.{Board}
 use Rattle.sender.specs.declared.board.Row.{Row}
 use Rattle.sender.specs.declared.epochs.Sender.{Sender}
@@ -17,22 +15,22 @@ use Rattle.sender.specs.declared.table.State.the-variants.{Idle, Add, Active, D
 use Rattle.sender.specs.declared.table.Table.{Table}
 use Rattle.sender.specs.Calls.{Call}
 use Rattle.sender.specs.Calls.Call.{AddSlot, Lapse, RemoveSlot, Report}
-use Rattle.sender.specs.Epochs.{SenderCall, beginOf, freshSender, senderOutcomeOf, senderRun, startEpochOf, startedEpoch, startedSender}
+use Rattle.sender.specs.Epochs.{SenderCall, beginOf, senderOutcomeOf, senderRun}
 use Rattle.sender.specs.Epochs.SenderCall.{OnTable, StartEpoch}
 use Rattle.sender.specs.Ranks.{rowAt}
-use Rattle.sender.specs.Reports.{actedOn, comesBefore, mstApplied, numberAfter, numberApplied, opensWait, renumbered, reportOf, slotAfter, turnOf, waited}
 use Rattle.sender.specs.Shown.{after, numbers}
-use Rattle.sender.specs.Table.{holderOf, membersOf, sizeOf, slotAt}
+use Rattle.sender.specs.Table.{slotAt}
 use Rattle.spoken.specs.declared.applying.Applied.{Applied}
 use Rattle.spoken.specs.declared.lists.Answer.the-variants.{Done, Unfit}
 use Rattle.spoken.specs.declared.lists.Change.{Change}
 use Rattle.spoken.specs.declared.lists.Changes.{Changes}
 use Rattle.spoken.specs.declared.lists.WaitChange.{WaitChange}
 use Rattle.spoken.specs.declared.lists.WaitChange.the-variants.{Same, Opened, Closed}
-use Rattle.spoken.specs.Applying.{appliedOf, changeIn, changesFit, fits, fitsBy, risesAt, withChanges}
-use Rattle.spoken.specs.Changes.{answerNumber, changed, changesIn, changesOf, comparedOf, listOf, noChange}
+use Rattle.spoken.specs.Applying.{changeIn, fitsBy, risesAt}
+use Rattle.spoken.specs.Changes.{answerNumber, changed, changesIn, noChange}
 use Rattle.spoken.specs.Shown.{appliedNumbers, comparedNumbers, spokenNumbers}
 use Rattle.spoken.specs.Taking.{takenOf}
+use Rattle.spoken.specs.Opened.{spokenOpen}
 
 -- the slots below n at which a test holds
 abbrev slotsWhere : ℕ → (ℕ → Bool) → List ℕ
@@ -66,7 +64,7 @@ wrong-states old new i =
 states-break :
     (slotsWhere 2 (wrong-states p10-before p10-after) ≡ 1 ∷ [])
     × (slotsWhere 2 (changed (boardOf p10-before .rows) (boardOf p10-after .rows)) ≡ 0 ∷ 1 ∷ [])
-unfolding wrong-states boardOf rowsOf rowOf noRow highest startOf freshOf idleSlot idleNumber addOf addedTo lapseOf reportOf waited actedOn mstApplied numberApplied holderOf renumbered slotAfter numberAfter comesBefore turnOf opensWait sizeOf membersOf mstFails mstFirst mstEpochs mstNumbers
+unfolding spokenOpen wrong-states
 states-break = (refl, refl)
 
 -- Numbers alone. Then a member that is set aside is not spoken, since DNU keeps its number.
@@ -76,7 +74,7 @@ wrong-numbers old new i = not (rowAt old i .number == rowAt new i .number)
 numbers-break :
     (slotsWhere 2 (wrong-numbers (boardOf p10-before .rows) (boardOf p10-after .rows)) ≡ [])
     × (slotsWhere 2 (changed (boardOf p10-before .rows) (boardOf p10-after .rows)) ≡ 0 ∷ 1 ∷ [])
-unfolding wrong-numbers boardOf rowsOf rowOf noRow highest startOf freshOf idleSlot idleNumber addOf addedTo lapseOf reportOf waited actedOn mstApplied numberApplied holderOf renumbered slotAfter numberAfter comesBefore turnOf opensWait sizeOf membersOf mstFails mstFirst mstEpochs mstNumbers
+unfolding spokenOpen wrong-numbers
 numbers-break = (refl, refl)
 
 -- Boards of the table now, and not of what goes out. Then a slot that is added and removed within one epoch is spoken forth and back, and the wait with it.
@@ -84,7 +82,7 @@ wrong-taken : Sender → Board
 wrong-taken s = boardOf (s .table)
 
 -- what is told with each call, where boards are taken so
-abbrev told : (Sender → Board) → Sender → List SenderCall → List (List ℕ)
+abbrev told : (taken : Sender → Board) (s : Sender) (cs : List SenderCall) → List (List ℕ)
 told taken s [] = []
 told taken s (c ∷ cs) = comparedNumbers (taken s) (taken (senderOutcomeOf s c .sender)) ∷ told taken (senderOutcomeOf s c .sender) cs
 
@@ -95,7 +93,7 @@ taken-breaks :
     (told wrong-taken (beginOf 0 1 0 .sender) within-epoch
     ≡ (0 ∷ 0 ∷ []) ∷ (0 ∷ 0 ∷ IDLE ∷ 255 ∷ ADD ∷ 0 ∷ 0 ∷ []) ∷ (0 ∷ 0 ∷ ADD ∷ 0 ∷ IDLE ∷ 255 ∷ 1 ∷ []) ∷ (0 ∷ 2 ∷ []) ∷ [])
     × (told takenOf (beginOf 0 1 0 .sender) within-epoch ≡ (0 ∷ 0 ∷ []) ∷ (0 ∷ 0 ∷ []) ∷ (0 ∷ 0 ∷ []) ∷ (0 ∷ 0 ∷ []) ∷ [])
-unfolding wrong-taken comparedOf changesOf changesIn listOf beginOf freshSender startEpochOf startedSender startedEpoch removeOf removedFrom fallen fallenIn boardOf rowsOf rowOf noRow highest startOf freshOf idleSlot idleNumber addOf addedTo lapseOf reportOf waited actedOn mstApplied numberApplied holderOf renumbered slotAfter numberAfter comesBefore turnOf opensWait sizeOf membersOf mstFails mstFirst mstEpochs mstNumbers
+unfolding spokenOpen wrong-taken
 taken-breaks = (refl, refl)
 
 -- The old board of the table now, the new one going out. Then what is asked for and has not gone out is spoken backwards.
@@ -103,11 +101,11 @@ wrong-sides : Sender → List ℕ
 wrong-sides s = comparedNumbers (boardOf (s .table)) (takenOf s)
 
 sides-break : wrong-sides (senderRun (beginOf 0 1 0 .sender) (StartEpoch 0 0xFF 0 ∷ OnTable (AddSlot 0) ∷ [])) ≡ 0 ∷ 0 ∷ ADD ∷ 0 ∷ IDLE ∷ 255 ∷ 0 ∷ []
-unfolding wrong-sides comparedOf changesOf changesIn listOf beginOf freshSender startEpochOf startedSender startedEpoch boardOf rowsOf rowOf noRow highest startOf freshOf idleSlot idleNumber addOf addedTo lapseOf reportOf waited actedOn mstApplied numberApplied holderOf renumbered slotAfter numberAfter comesBefore turnOf opensWait sizeOf membersOf mstFails mstFirst mstEpochs mstNumbers
+unfolding spokenOpen wrong-sides
 sides-break = refl
 
 -- Each change judged and laid on at once. Then one that does not fit is answered 2 with those before it laid on: half a board.
-abbrev wrong-one : Applied → Change → Bool → Applied
+abbrev wrong-one : (r : Applied) (c : Change) (rises : Bool) → Applied
 wrong-one r c rises =
     let b = r .board in
     if answerNumber (r .answer) == 0 && fitsBy c (rowAt (b .rows) (c .slot)) (b .count) rises
@@ -133,7 +131,7 @@ half =
 apply-breaks :
     (let r = wrong-apply (boardOf p10-before) (half .list) 2 in answerNumber (r .answer) ∷ numbers (r .board) ≡ 2 ∷ EOS ∷ 0 ∷ EOS ∷ 1 ∷ 0 ∷ [])
     × (appliedNumbers (boardOf p10-before) half ≡ 2 ∷ NORM ∷ 0 ∷ EOS ∷ 1 ∷ 0 ∷ [])
-unfolding wrong-apply appliedOf fits changesFit withChanges boardOf rowsOf rowOf noRow highest startOf freshOf idleSlot idleNumber addOf addedTo lapseOf reportOf waited actedOn mstApplied numberApplied holderOf renumbered slotAfter numberAfter comesBefore turnOf opensWait sizeOf membersOf mstFails mstFirst mstEpochs mstNumbers
+unfolding spokenOpen wrong-apply
 apply-breaks = (refl, refl)
 
 -- The wait spoken always. Then equal boards are not silent, and what is told does not fit.
@@ -147,5 +145,5 @@ wait-breaks :
     (spokenNumbers (wrong-same (boardOf p10-before)) ≡ 2 ∷ [])
     × (appliedNumbers (boardOf p10-before) (wrong-same (boardOf p10-before)) ≡ 2 ∷ NORM ∷ 0 ∷ EOS ∷ 1 ∷ 0 ∷ [])
     × (comparedNumbers (boardOf p10-before) (boardOf p10-before) ≡ 0 ∷ 0 ∷ [])
-unfolding wrong-wait comparedOf changesOf changesIn listOf appliedOf fits changesFit withChanges boardOf rowsOf rowOf noRow highest startOf freshOf idleSlot idleNumber addOf addedTo lapseOf reportOf waited actedOn mstApplied numberApplied holderOf renumbered slotAfter numberAfter comesBefore turnOf opensWait sizeOf membersOf mstFails mstFirst mstEpochs mstNumbers
+unfolding spokenOpen wrong-wait
 wait-breaks = (refl, refl, refl)

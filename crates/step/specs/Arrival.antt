@@ -3,6 +3,7 @@ use mathlib.Core.Bool.{Bool, true, false, not, _&&_, _||_}
 use Prim.Native.Nat.{ℕ}
 pub use Rattle.ground.specs.Flags.{flagOf}
 use Rattle.ground.specs.Plain.{if_then_else_, _==_, _<?_}
+use Rattle.ground.specs.Types.{Tag}
 use Rattle.packet.specs.Kinds.{distanceOf, endsEpoch, epochsIn, firstTag, startsEpoch}
 use Rattle.rows.specs.declared.group.Group.{Group}
 use Rattle.rows.specs.declared.step.Step.{Step}
@@ -21,7 +22,7 @@ unfoldable pub readable : Group → Step → Bool
 readable g s = flagOf (g .begun) && inStep g s && (flagOf (s .joined) || flagOf (s .since))
 
 -- how far a tag lies after the first frame of the oldest epoch not yet reported or gathered
-unfoldable pub distanceIn : Group → ℕ → ℕ
+unfoldable pub distanceIn : Group → Tag → ℕ
 distanceIn g tag = distanceOf (g .kind) tag (firstTag (g .kind) (g .oldest))
 
 -- The step record afterwards. 'losing step undoes' joining; what was stored and what rules stay.

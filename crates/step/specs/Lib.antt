@@ -5,5 +5,6 @@ pub mod Starts
 pub mod OwnCount
 pub mod Arrival
 pub mod Steady
+pub mod Opened
 pub mod Laws
 pub mod Theorems

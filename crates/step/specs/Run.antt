@@ -2,6 +2,7 @@
 use mathlib.Core.Bool.{Bool, not, _&&_, _||_}
 use Prim.Native.Nat.{ℕ, _+_, _*_}
 use Rattle.ground.specs.Plain.{if_then_else_, _==_, _≤?_}
+use Rattle.ground.specs.Types.{Tag}
 use Rattle.packet.specs.Counts.{startsCount, tagByHigh, carriesLow, tagByLow, h4Counts}
 use Rattle.packet.specs.Kinds.{endsEpoch, frames, placeOf, tagAfter, vc12Kind}
 use Rattle.step.specs.declared.run.Run.{Run}
@@ -33,7 +34,7 @@ gainedRun kind run h = if run .count == 0 then begunRun kind h else if run .coun
 -- In step 'the receiver goes on counting by itself' (request 2026-04): a frame has the tag to come, whatever it carries.
 
 -- the last frame of an epoch ends its packet
-unfoldable pub endsPacket : ℕ → ℕ → Bool
+unfoldable pub endsPacket : ℕ → Tag → Bool
 endsPacket kind tag = endsEpoch kind (placeOf kind tag)
 
 -- the frames in a row that break the count, after one that does or does not

@@ -7,13 +7,13 @@ use lib.ListN.{drop, replicate, take}
 use Rattle.ground.specs.Plain.{if_then_else_, _==_, _<?_}
 use Rattle.ground.specs.Table.{tabulate}
 use Rattle.packet.specs.Counts.{saysStart, toldBits}
-use Rattle.packet.specs.Kinds.{frames, vc12Kind}
+use Rattle.packet.specs.Kinds.{vc12Kind}
 use Rattle.packet.specs.Ruling.{fieldsIn}
-use Rattle.packet.specs.Symbols.{entryFrom, packetRow, rowFrom}
-use Rattle.packet.specs.Vc12.{rowBits, vc12Fields}
+use Rattle.packet.specs.Symbols.{packetRow}
 use Rattle.step.specs.declared.run.Run.{Run}
 use Rattle.step.specs.Run.{inStepAt, noRun, runOn}
-use Rattle.step.specs.Starts.{begunPacket, bitsAfter, countAfter, fifthBit, firstOfTwo, goesOn, startsRun}
+use Rattle.step.specs.Starts.{bitsAfter, goesOn, startsRun}
+use Rattle.step.specs.Opened.{stepOpen}
 
 -- by a rule
 abbrev answersBy : (Run → ℕ → Run) → Run → List ℕ → List ℕ
@@ -34,31 +34,31 @@ times n answer = replicate n answer
 
 -- nine frames with no start, then packets 5, 6 and 7
 late-start : answers (replicate 9 0 ++ packet 5 ++ packet 6 ++ packet 7) ≡ times 72 12 ++ times 33 0
-unfolding packet runOn inStepAt frames begunPacket bitsAfter countAfter fifthBit firstOfTwo goesOn startsRun saysStart toldBits
+unfolding stepOpen packet
 late-start = refl
 
 -- a wrong count is in step up to its fifth bit, and its packet is the first of a new two
 other-count : answers (packet 5 ++ packet 6 ++ packet 9 ++ packet 10) ≡ times 63 12 ++ (0 ∷ 0 ∷ 0 ∷ 0 ∷ 0 ∷ []) ++ times 28 12 ++ times 31 12 ++ (0 ∷ [])
-unfolding packet runOn inStepAt frames begunPacket bitsAfter countAfter fifthBit firstOfTwo goesOn startsRun saysStart toldBits
+unfolding stepOpen packet
 other-count = refl
 
 -- one more, and not one less
 differ : (answers (packet 5 ++ packet 7 ++ packet 8) ≡ times 95 12 ++ (0 ∷ [])) × (answers (packet 5 ++ packet 4 ++ packet 6) ≡ times 96 12)
-unfolding packet runOn inStepAt frames begunPacket bitsAfter countAfter fifthBit firstOfTwo goesOn startsRun saysStart toldBits
+unfolding stepOpen packet
 differ = (refl, refl)
 
 -- 31 is followed by 0
 around : answers (packet 30 ++ packet 31 ++ packet 0 ++ packet 1) ≡ times 63 12 ++ times 65 0
-unfolding packet runOn inStepAt frames begunPacket bitsAfter countAfter fifthBit firstOfTwo goesOn startsRun saysStart toldBits
+unfolding stepOpen packet
 around = refl
 
 -- a start at place 9 of the third packet, and one left out
 early : answers (packet 5 ++ packet 6 ++ take 9 (packet 7) ++ packet 20 ++ packet 21) ≡ times 63 12 ++ times 10 0 ++ times 63 12 ++ (0 ∷ [])
-unfolding packet runOn inStepAt frames begunPacket bitsAfter countAfter fifthBit firstOfTwo goesOn startsRun saysStart toldBits
+unfolding stepOpen packet
 early = refl
 
 left-out : answers (packet 5 ++ packet 6 ++ (0 ∷ drop 1 (packet 7)) ++ packet 8 ++ packet 9) ≡ times 63 12 ++ (0 ∷ []) ++ times 32 12 ++ times 63 12 ++ (0 ∷ [])
-unfolding packet runOn inStepAt frames begunPacket bitsAfter countAfter fifthBit firstOfTwo goesOn startsRun saysStart toldBits
+unfolding stepOpen packet
 left-out = refl
 
 -- Wrong readings, each with frames on which it breaks.
@@ -71,7 +71,7 @@ bit-by-bit run byte =
 
 bit-by-bit-breaks : (take 4 (drop 64 (answersBy bit-by-bit noRun (packet 5 ++ packet 6 ++ packet 9))) ≡ 0 ∷ 12 ∷ 12 ∷ 12 ∷ [])
     × (take 4 (drop 64 (answers (packet 5 ++ packet 6 ++ packet 9))) ≡ 0 ∷ 0 ∷ 0 ∷ 0 ∷ [])
-unfolding bit-by-bit packet runOn inStepAt frames begunPacket bitsAfter countAfter fifthBit firstOfTwo goesOn startsRun saysStart toldBits
+unfolding stepOpen bit-by-bit packet
 bit-by-bit-breaks = (refl, refl)
 
 -- The count judged at the packet's end: the port would stay in step for all of a packet with a wrong count.
@@ -83,7 +83,7 @@ at-end run byte =
 
 at-end-breaks : (take 32 (drop 64 (answersBy at-end noRun (packet 5 ++ packet 6 ++ packet 9))) ≡ times 31 0 ++ (12 ∷ []))
     × (take 32 (drop 64 (answers (packet 5 ++ packet 6 ++ packet 9))) ≡ times 4 0 ++ times 28 12)
-unfolding at-end packet runOn inStepAt frames begunPacket bitsAfter countAfter fifthBit firstOfTwo goesOn startsRun saysStart toldBits
+unfolding stepOpen at-end packet
 at-end-breaks = (refl, refl)
 
 -- The count not judged in step: 9 would be whole in the epoch of 7, and rule under that number.
@@ -95,7 +95,7 @@ unjudged run byte =
 unjudged-breaks : (take 32 (drop 64 (answersBy unjudged noRun (packet 5 ++ packet 6 ++ packet 9))) ≡ times 32 0)
     × (fieldsIn vc12Kind (packetRow vc12Kind (packet 9)) .epoch ≡ 9)
     × (take 32 (drop 64 (answers (packet 5 ++ packet 6 ++ packet 9))) ≡ times 4 0 ++ times 28 12)
-unfolding unjudged packet runOn inStepAt frames begunPacket bitsAfter countAfter fifthBit firstOfTwo goesOn startsRun saysStart toldBits fieldsIn vc12Fields rowBits rowFrom entryFrom
+unfolding stepOpen unjudged packet
 unjudged-breaks = (refl, refl, refl)
 
 -- Counts that differ by one either way: 5 and then 4 would be two in a row.
@@ -106,7 +106,7 @@ either-way run byte =
     if place == 4 && not (run .count <? 5) && (bits + 2) % 32 == run .next % 1024 / 32 then goesOn run bits else startsRun run byte
 
 either-way-breaks : (take 1 (drop 63 (answersBy either-way noRun (packet 5 ++ packet 4))) ≡ 0 ∷ []) × (take 1 (drop 63 (answers (packet 5 ++ packet 4))) ≡ 12 ∷ [])
-unfolding either-way packet runOn inStepAt frames begunPacket bitsAfter countAfter fifthBit firstOfTwo goesOn startsRun saysStart toldBits
+unfolding stepOpen either-way packet
 either-way-breaks = (refl, refl)
 
 -- The packet that breaks the count no first of two: 9 and 10 after 6 would not be enough.
@@ -118,7 +118,7 @@ not-first run byte =
 
 not-first-breaks : (take 1 (drop 127 (answersBy not-first noRun (packet 5 ++ packet 6 ++ packet 9 ++ packet 10))) ≡ 12 ∷ [])
     × (take 1 (drop 127 (answers (packet 5 ++ packet 6 ++ packet 9 ++ packet 10))) ≡ 0 ∷ [])
-unfolding not-first packet runOn inStepAt frames begunPacket bitsAfter countAfter fifthBit firstOfTwo goesOn startsRun saysStart toldBits
+unfolding stepOpen not-first packet
 not-first-breaks = (refl, refl)
 
 -- A start said early not taken as a first bit: its own two packets would be one too few.
@@ -127,5 +127,5 @@ not-taken run byte = if not (run .count == 0) && saysStart byte && not (run .nex
 
 not-taken-breaks : (take 1 (drop 136 (answersBy not-taken noRun (packet 5 ++ packet 6 ++ take 9 (packet 7) ++ packet 20 ++ packet 21))) ≡ 12 ∷ [])
     × (take 1 (drop 136 (answers (packet 5 ++ packet 6 ++ take 9 (packet 7) ++ packet 20 ++ packet 21))) ≡ 0 ∷ [])
-unfolding not-taken packet runOn inStepAt frames begunPacket bitsAfter countAfter fifthBit firstOfTwo goesOn startsRun saysStart toldBits
+unfolding stepOpen not-taken packet
 not-taken-breaks = (refl, refl)

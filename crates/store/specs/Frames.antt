@@ -4,6 +4,7 @@ use Prim.Native.Nat.{ℕ, _+_, _*_, _%_}
 use lib.ListN.{length, getD}
 use Rattle.ground.specs.Drawn.{fillAt}
 use Rattle.ground.specs.Plain.{if_then_else_, _==_, _<?_}
+use Rattle.ground.specs.Types.{Bytes}
 use Rattle.packet.specs.Symbols.{rowFrom}
 use Rattle.rows.specs.declared.group.Group.{Group}
 
@@ -16,16 +17,16 @@ unfoldable pub placeIn : (g : Group) (port distance : ℕ) → ℕ
 placeIn g port d = (port * g .window + ringOf (g .origin) d (g .window)) * (g .payload + 1)
 
 -- a frame's payload, then its H4, from a place on; one that would go beyond the end is dropped
-unfoldable pub storedAt : (s : List ℕ) (place : ℕ) (payload : List ℕ) (h4 : ℕ) → List ℕ
+unfoldable pub storedAt : (s : Bytes) (place : ℕ) (payload : Bytes) (h4 : ℕ) → Bytes
 storedAt s place payload h = if place + length payload <? length s then fillAt place (length payload + 1) (λ j. getD payload j h) s else s
 
-unfoldable pub byteAt : List ℕ → ℕ → ℕ
+unfoldable pub byteAt : Bytes → ℕ → ℕ
 byteAt s place = getD s place 0
 
 -- the H4 byte of the frame that lies d after the window's first
-unfoldable pub h4At : (g : Group) (port distance : ℕ) (s : List ℕ) → ℕ
+unfoldable pub h4At : (g : Group) (port distance : ℕ) (s : Bytes) → ℕ
 h4At g port d s = byteAt s (placeIn g port d + g .payload)
 
 -- the packet that came with the frames of the oldest epoch
-unfoldable pub packetIn : (g : Group) (port : ℕ) (s : List ℕ) → List ℕ
+unfoldable pub packetIn : (g : Group) (port : ℕ) (s : Bytes) → List ℕ
 packetIn g port s = rowFrom (g .kind) (λ k. h4At g port k s)

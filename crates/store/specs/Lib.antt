@@ -1,3 +1,4 @@
 pub mod Marks
 pub mod Frames
+pub mod Opened
 pub mod Laws

@@ -5,6 +5,7 @@ use Prim.Native.Nat.{ℕ, _+_, _-_, _*_}
 use lib.ListN.{length}
 pub use Rattle.ground.specs.Finite.{sameBytes}
 use Rattle.ground.specs.Plain.{if_then_else_, _==_, _<?_, _≤?_}
+use Rattle.ground.specs.Types.{Bytes}
 use Rattle.text.specs.declared.fields.Number.{Number}
 use Rattle.text.specs.declared.fields.Number.the-variants.{Value, Unreadable}
 
@@ -23,25 +24,25 @@ valueOf base n [] = n
 valueOf base n (b ∷ digits) = valueOf base (n * base + digitOf b) digits
 
 -- a number of one decimal digit or more, at most so many, and nine at the very most
-unfoldable pub numberOf : ℕ → List ℕ → Number
+unfoldable pub numberOf : ℕ → Bytes → Number
 numberOf most field =
     if 0 <? length field && length field ≤? most && length field ≤? 9 && areDigits 10 field then Value (valueOf 10 0 field) else Unreadable
 
 -- a number of exactly so many hex digits, one to eight
-unfoldable pub hexOf : ℕ → List ℕ → Number
+unfoldable pub hexOf : ℕ → Bytes → Number
 hexOf digits field =
     if 0 <? length field && length field == digits && length field ≤? 8 && areDigits 16 field then Value (valueOf 16 0 field) else Unreadable
 
 -- whether a field is exactly so many hex digits
-unfoldable pub isHex : ℕ → List ℕ → Bool
+unfoldable pub isHex : ℕ → Bytes → Bool
 isHex digits field = length field == digits && areDigits 16 field
 
 -- the bytes that hex digits stand for, two digits a byte
-abbrev pub bytesOf : List ℕ → List ℕ
+abbrev pub bytesOf : List ℕ → Bytes
 bytesOf [] = []
 bytesOf (a ∷ []) = []
 bytesOf (a ∷ b ∷ digits) = (digitOf a * 16 + digitOf b) ∷ bytesOf digits
 
 -- a lent slice into which a field is read: its bytes, if it has two hex digits for each
-unfoldable pub bytesIn : List ℕ → List ℕ → List ℕ
+unfoldable pub bytesIn : Bytes → Bytes → List ℕ
 bytesIn field out = if isHex (2 * length out) field then bytesOf field else out

@@ -1,6 +1,7 @@
 pub mod Ascii
 pub mod Fields
 pub mod Laws
+pub mod Opened
 pub mod Output
 pub mod Text
 mod Wrong

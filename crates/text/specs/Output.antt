@@ -6,28 +6,29 @@ use Prim.Native.Nat.{ℕ, zero, suc, _+_, _/_, _%_}
 use lib.ListN.{length}
 use lib.Seq.{sets}
 use Rattle.ground.specs.Plain.{if_then_else_, _==_, _<?_, _≤?_}
+use Rattle.ground.specs.Types.{Bytes}
 use Rattle.packet.specs.declared.words.Word.{Word}
 use Rattle.packet.specs.Words.{ADD, DNU, EOS, NORM}
 use Rattle.text.specs.Ascii.{ascii}
 
 -- a byte in decimal, with no zero before it
-unfoldable pub decimalText : ℕ → List ℕ
+unfoldable pub decimalText : ℕ → Bytes
 decimalText n =
     if n <? 10 then (48 + n) ∷ []
     else if n <? 100 then (48 + n / 10) ∷ (48 + n % 10) ∷ []
     else (48 + n / 100) ∷ (48 + n / 10 % 10) ∷ (48 + n % 10) ∷ []
 
 -- the digits of a number before a text, none for 0, and at most so many
-abbrev pub digitsBefore : (most n : ℕ) (text : List ℕ) → List ℕ
+abbrev pub digitsBefore : (most n : ℕ) (text : Bytes) → Bytes
 digitsBefore zero n text = text
 digitsBefore (suc most) n text = if 0 <? n then digitsBefore most (n / 10) ((48 + n % 10) ∷ text) else text
 
 -- a number of at most twenty digits in decimal, with no zero before it
-unfoldable pub numberText : ℕ → List ℕ
+unfoldable pub numberText : ℕ → Bytes
 numberText n = digitsBefore 19 (n / 10) ((48 + n % 10) ∷ [])
 
 -- five control words by name: ADD, NORM, EOS, DNU, IDLE
-unfoldable pub wordText : Word → List ℕ
+unfoldable pub wordText : Word → Bytes
 wordText w =
     if w .0 == ADD then ascii "ADD"
     else if w .0 == NORM then ascii "NORM"
@@ -36,7 +37,7 @@ wordText w =
     else ascii "IDLE"
 
 -- a field with the mark behind it
-abbrev pub ended : List ℕ → ℕ → List ℕ
+abbrev pub ended : Bytes → ℕ → List ℕ
 ended field mark = field ++ (mark ∷ [])
 
 -- a text put at a place of a buffer, where the next one goes and the buffer afterwards
@@ -46,11 +47,11 @@ pub record Put (text : List ℕ) (at : ℕ) (out : List ℕ) (next : ℕ) (new :
   pub kept : length new ≡ length out
 
 -- the same for any place and any buffer: a text that does not fit is left out
-abbrev pub fits : (text : List ℕ) (at : ℕ) (out : List ℕ) → Bool
+abbrev pub fits : (text : Bytes) (at : ℕ) (out : Bytes) → Bool
 fits text at out = at + length text ≤? length out
 
-unfoldable pub putNext : (text : List ℕ) (at : ℕ) (out : List ℕ) → ℕ
+unfoldable pub putNext : (text : Bytes) (at : ℕ) (out : Bytes) → ℕ
 putNext text at out = if fits text at out then at + length text else at
 
-unfoldable pub putBytes : (text : List ℕ) (at : ℕ) (out : List ℕ) → List ℕ
+unfoldable pub putBytes : (text : Bytes) (at : ℕ) (out : Bytes) → Bytes
 putBytes text at out = if fits text at out then sets out at text else out

@@ -5,6 +5,7 @@ use mathlib.Core.List.{List, [], _∷_, _++_}
 use Prim.Native.Nat.{ℕ, _+_, _-_, _*_}
 use lib.ListN.{getD, replicate}
 use Rattle.ground.specs.Table.{tabulate}
+use Rattle.ground.specs.Types.{Epoch}
 use Rattle.packet.specs.Changes.{bringsMfi2, changed, keptPart, mostChanges}
 use Rattle.packet.specs.Counts.{counts, tagByHigh, tagByLow}
 use Rattle.packet.specs.declared.layout.Fields.{Fields}
@@ -116,7 +117,7 @@ packet :
 unfolding allOpen
 packet = (refl, refl, refl, refl, refl, refl, refl, refl, refl, refl, refl, refl, refl)
 
-abbrev wrote : (epoch word gid mst ack sq reserved : ℕ) → ℕ
+abbrev wrote : (epoch : Epoch) (word gid mst ack sq reserved : ℕ) → ℕ
 wrote epoch word gid mst ack sq reserved =
     writingNumber (writeAnswer (record { epoch = epoch; word = record { 0 = word }; gid = gid; mst = mst; «rs_ack» = ack; sq = sq; reserved = reserved }) (replicate 16 7))
 

@@ -6,6 +6,7 @@ use Prim.Native.Nat.{ℕ}
 use lib.ListN.{drop, getD, replicate, take}
 use Rattle.conformance.specs.Clauses.Filled.{nines, zeros}
 use Rattle.ground.specs.Table.{tabulate}
+use Rattle.ground.specs.Types.{Rows}
 use Rattle.receiver.specs.Fetch.{fetchOut, fetchRecord, fetchRows}
 use Rattle.receiver.specs.Frame.{frameAnswer, frameRows, frameStore}
 use Rattle.rows.specs.Group.{groupAt, putGroup}
@@ -72,7 +73,7 @@ abbrev empty : List (List ℕ)
 empty = putGroup (replicate 16 (zeros 16)) (group 1)
 
 -- a port's step, the packet that it gathers, its ruling packet and the first byte of its marks
-abbrev withPort : (port : ℕ) (now : Step) (gathers ruling : List ℕ) (mark : ℕ) (s : List (List ℕ)) → List (List ℕ)
+abbrev withPort : (port : ℕ) (now : Step) (gathers ruling : List ℕ) (mark : ℕ) (s : Rows) → Rows
 withPort i now gathers ruling mark s = putMarks (putPackets (putStep s i now) i (gathers ∷ ruling ∷ [])) i (mark ∷ zeros 15)
 
 abbrev sixteen : ℕ → List ℕ
@@ -93,14 +94,14 @@ abbrev now₂ : List (List ℕ)
 now₂ = frameRows gathering 2 false 0xC7 (8 ∷ []) (nines 96)
 
 -- each port's tag to come, and what it gathers
-abbrev waiting : List (List ℕ) → List ℕ
+abbrev waiting : Rows → List ℕ
 waiting s = stepAt s 0 .next ∷ stepAt s 1 .next ∷ stepAt s 2 .next ∷ []
 
-abbrev gathered : List (List ℕ) → List (List ℕ)
+abbrev gathered : Rows → Rows
 gathered s = packetsAt s 0 ++ packetsAt s 1 ++ packetsAt s 2
 
 -- the first byte of each port's marks
-abbrev marked : List (List ℕ) → List ℕ
+abbrev marked : Rows → List ℕ
 marked s = take 1 (marksAt s 0) ++ take 1 (marksAt s 1) ++ take 1 (marksAt s 2)
 
 -- A frame goes by its own port and changes that port alone. Tags 925, 933 and 935 lie 5, 13 and 15 behind the window's first, at places 10, 2 and 4 of the ports' rings of 32 bytes each; their nibbles go to places 5, 13 and 15. The last frame of the epoch marks it.
@@ -179,7 +180,7 @@ abbrev fetched : List (List ℕ)
 fetched = fetchRows due store (nines 50) (nines 8)
 
 -- what is left of a port: its state, number and what was told of it
-abbrev told : List (List ℕ) → ℕ → List ℕ
+abbrev told : Rows → ℕ → List ℕ
 told s i = memberAt s i .state ∷ memberAt s i .«state_number» ∷ memberAt s i .«told_word» ∷ memberAt s i .«told_number» ∷ []
 
 -- A report is of all ports: sure, X 3, 48 bytes, those of ports 1, 2 and 0 by turns, from place 5 of each ring on. All three are OK under their numbers, and RS-Ack turns for port 2. Nothing is due while port 2 lacks its frames, whatever rules it; with ADD it has no rank, and X is 2.

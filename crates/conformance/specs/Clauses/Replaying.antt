@@ -4,6 +4,7 @@ use mathlib.Core.Bool.{Bool, true, false}
 use mathlib.Core.List.{List, [], _∷_, _++_}
 use Prim.Native.Nat.{ℕ}
 use lib.ListN.{drop, replicate, take}
+use Rattle.ground.specs.Types.{Bytes}
 use Rattle.conformance.specs.Clauses.Filled.{nines}
 use Rattle.receiver.specs.Starting.{startAsRows, startRows}
 use Rattle.recording.specs.declared.record.Record.the-variants as R
@@ -39,7 +40,7 @@ abbrev rows : ℕ → List (List ℕ)
 rows n = replicate n (replicate 16 9)
 
 -- the first line, with 321 rows and a room of 1,160 or more
-abbrev first : (text : List ℕ) (last : Bool) (r store said : ℕ) → Replayed
+abbrev first : (text : Bytes) (last : Bool) (r store said : ℕ) → Replayed
 first text last r store said = turnOf beginning text last (rows r) (nines store) [] said
 
 abbrev started : ℕ → Replayed
@@ -65,7 +66,7 @@ unfolding allOpen
 a-first-line = (refl, refl, refl, refl, refl, refl, refl, refl, refl, refl, refl, refl)
 
 -- what is lent: with a group started it holds zeros, but for the group's own rows; where none has started it stays
-abbrev firstRows : List ℕ → List (List ℕ)
+abbrev firstRows : Bytes → List (List ℕ)
 firstRows text = turnRows beginning text false (rows 321) (nines 40) [] 1160
 
 what-is-lent :
@@ -98,7 +99,7 @@ unfolding allOpen
 what-is-said = (refl, refl, refl, refl, refl, refl, refl, refl, refl, refl)
 
 -- a line behind the first: two ports take 11 rows, a store of 64 and an output of 32
-abbrev reads : (text : List ℕ) (last : Bool) (r store out said : ℕ) → Replayed
+abbrev reads : (text : Bytes) (last : Bool) (r store out said : ℕ) → Replayed
 reads text last r store out said = turnOf (at Reading 0) text last (rows r) (nines store) (nines out) said
 
 -- the answer to a line that is none, of a replay with so many ports and such a P

@@ -4,6 +4,7 @@ use mathlib.Core.Bool.{true, false}
 use mathlib.Core.List.{List, [], _∷_, _++_}
 use Prim.Native.Nat.{ℕ}
 use lib.ListN.{replicate, take}
+use Rattle.ground.specs.Types.{Bytes}
 use Rattle.c_face.specs.Boards.{boardBytesC, outgoingBytesC, ranksBytesC, shownAnswerC}
 use Rattle.c_face.specs.Cards.{boardBytesOn, callAnswerOn, callStateOn, outgoingBytesOn, ownedBytesOn, packetAnswerOn, packetBytesOn, payloadAnswerOn, payloadBytesOn, putCard, ranksBytesOn, refusalOf, shownAnswerOn}
 use Rattle.c_face.specs.Orders.{kindAnswerOn, kindStateOn, orderAnswerOn, orderAnswersOn, orderStateOn}
@@ -15,7 +16,7 @@ use Rattle.sender.specs.Epochs.{SenderCall, beginOf, senderRun}
 use Rattle.sender.specs.Epochs.SenderCall.{OnTable, StartEpoch}
 use Rattle.conformance.specs.Opened.{allOpen}
 
-abbrev called : List ℕ → List SenderCall → List ℕ
+abbrev called : Bytes → List SenderCall → List ℕ
 called state [] = state
 called state (c ∷ cs) = called (callStateC true c state) cs
 
@@ -23,7 +24,7 @@ called state (c ∷ cs) = called (callStateC true c state) cs
 abbrev sender : List ℕ
 sender = called (startStateC 0 3 7 (nines 397)) (OnTable (AddSlot 0) ∷ StartEpoch 1 0x3C 0 ∷ OnTable (AddSlot 1) ∷ [])
 
-abbrev readOut : List ℕ → List ℕ
+abbrev readOut : List ℕ → Bytes
 readOut s =
     take 8 (boardBytesC s (nines 130))
     ++ take 8 (outgoingBytesC s (nines 130))

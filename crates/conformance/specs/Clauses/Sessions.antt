@@ -5,6 +5,7 @@ use mathlib.Core.List.{List, [], _∷_, _++_}
 use Prim.Native.Nat.{ℕ, zero, suc}
 use native.Mathlib.Omega.{arith}
 use lib.ListN.{replicate}
+use Rattle.ground.specs.Types.{Bytes}
 use Rattle.conformance.specs.Clauses.Filled.{nines}
 use Rattle.console.specs.declared.line.Line.the-variants.{Size, Add, Remove, Report, Lapse, Board, Malformed}
 use Rattle.console.specs.declared.session.Session.{Session}
@@ -97,7 +98,7 @@ unfolding allOpen
 answers = (refl, refl, refl, refl, refl, refl, refl, refl, refl, refl, refl, refl, refl, refl, refl, refl, refl, refl)
 
 -- two slots, and so much of a line has come
-abbrev holding : List ℕ → Session
+abbrev holding : Bytes → Session
 holding line = record { table = freshOf 0 2; kept = keepAll nothingKept line }
 
 -- 'Before any size, the count is 0.' A line is answered when its end has come, with what was kept of it; used up are the line and its end, or all. 'Input lines are at most 80 bytes': of a longer one 81 bytes are kept.

@@ -7,6 +7,7 @@ use lib.ListN.{length, replicate, set, take}
 use Rattle.conformance.specs.Clauses.Filled.{nines}
 use Rattle.ground.specs.Plain.{if_then_else_, _==_}
 use Rattle.ground.specs.Table.{tabulate}
+use Rattle.ground.specs.Types.{Epoch}
 use Rattle.judge.specs.declared.seen.Seen.{Seen}
 use Rattle.judge.specs.Order.{orderOf}
 use Rattle.judge.specs.Verdict.{judgeOf}
@@ -125,7 +126,7 @@ orders :
 unfolding allOpen
 orders = (refl, refl, refl, refl, refl)
 
-abbrev wrote : (epoch sq : ℕ) (s : List ℕ) → ℕ
+abbrev wrote : (epoch : Epoch) (sq : ℕ) (s : List ℕ) → ℕ
 wrote epoch sq s = writingNumber (writeFixedAnswer epoch sq s)
 
 abbrev read : List ℕ → ℕ

@@ -5,6 +5,7 @@ use mathlib.Core.List.{List, [], _∷_}
 use Prim.Native.Nat.{ℕ}
 use lib.ListN.{length}
 use Rattle.ground.specs.Plain.{if_then_else_, _==_, _<?_}
+use Rattle.ground.specs.Types.{Bytes}
 use Rattle.c_face.specs.Cards.{boardBytesOn, callAnswerOn, callStateOn, cardOf, outgoingBytesOn, ownedBytesOn, packetAnswerOn, packetBytesOn, payloadAnswerOn, payloadBytesOn, putCard, ranksBytesOn, shownAnswerOn, shownBytesOn, startAnswerOn, startStateOn}
 use Rattle.c_face.specs.Senders.{areBytes, sends}
 use Rattle.circuits.specs.Answers.{answerNumber}
@@ -21,7 +22,7 @@ use Rattle.sender.specs.Commands.{startOf}
 use Rattle.sender.specs.Epochs.{beginOf}
 
 -- 858 bytes
-abbrev pub isWhole : List ℕ → Bool
+abbrev pub isWhole : Bytes → Bool
 isWhole state = length state == 858
 
 -- Starting, both groups of a kind: 4, 9, 8.
@@ -54,7 +55,7 @@ start-copes (count, e₀, e₁, state) =
     copes _ (λ o. rw o (refl, refl, refl), λ o. (λ l. (λ f. rw (o, l, f), λ f. rw (o, l, f) (refl, refl, refl)), λ l. rw (o, l) (refl, refl, refl)))
 
 -- A call that changes a card: 9, 1 for the group, 8 where the numbers given are no bytes, then the call's own refusals. `fits` is the contract's own test for that.
-abbrev pub cardRow : (state : List ℕ) (group : ℕ) (bytes fits : Bool) (call : CardCall) (rs : List Refusal) → Call
+abbrev pub cardRow : (state : Bytes) (group : ℕ) (bytes fits : Bool) (call : CardCall) (rs : List Refusal) → Call
 cardRow state group bytes fits call rs =
     stateful (Unless 9 (isWhole state) ∷ Unless 1 (group <? 2) ∷ Unless 8 bytes ∷ rs) (callAnswerOn fits group call state) [] [] state (callStateOn fits group call state) state
 
@@ -135,7 +136,7 @@ payload-copes (state, group, slot, p, frame, member) =
 
 -- What is read out whole: 9 for the state, 1 for the group, then 9 for the buffer.
 
-abbrev readRow : (n : ℕ) (state : List ℕ) (group : ℕ) (out left : List ℕ) → Call
+abbrev readRow : (n : ℕ) (state : Bytes) (group : ℕ) (out : Bytes) (left : List ℕ) → Call
 readRow n state group out left =
     stateless (Unless 9 (isWhole state) ∷ Unless 1 (group <? 2) ∷ Unless 9 (length out == n) ∷ []) (shownAnswerOn n state group out) (out ∷ []) (left ∷ [])
 

@@ -8,6 +8,7 @@ use Rattle.ground.specs.Bits.{number}
 use Rattle.ground.specs.Finite.{sameBits}
 use Rattle.ground.specs.Plain.{if_then_else_, _==_, _<?_}
 use Rattle.ground.specs.Polynomial.{check}
+use Rattle.ground.specs.Types.{Bytes}
 use Rattle.c_face.specs.Packets.{given, readAnswerC, readFieldsC, readFixedAnswerC, readFixedFieldsC, readVc12AnswerC, readVc12FieldsC, valuesOr, writeAnswerC, writeBytesC, writeFixedAnswerC, writeVc12AnswerC, writeVc12BytesC}
 use Rattle.packet.specs.declared.layout.Fields.{Fields}
 use Rattle.packet.specs.Crc.{crcOf}
@@ -84,7 +85,7 @@ unfolding readNibbles carriedIn fieldsOf assigned
 readSixteen-copes nibbles =
     copes _ (λ c. (λ f. rw (c, f) (refl, refl, refl), λ f. (λ a. rw (c, f, rw f at a), λ a. rw (c, f, rw f at a) (refl, refl, refl))), λ c. rw c (refl, refl, refl))
 
-abbrev pub read : List ℕ → Call
+abbrev pub read : Bytes → Call
 read h4 = stateless (Unless 9 (length h4 == 16) ∷ readRefusals (highsOf h4)) (readingNumber (readAnswer h4)) [] []
 
 pub read-copes : (x : List ℕ) → Copes (read x)
@@ -218,7 +219,7 @@ pub readFixedSixteen-copes : (x : List ℕ) → Copes (readFixedSixteen x)
 unfolding readFixedNibbles
 readFixedSixteen-copes nibbles = copes _ (λ w. rw w, λ w. rw w (refl, refl, refl))
 
-abbrev pub readFixed : List ℕ → Call
+abbrev pub readFixed : Bytes → Call
 readFixed h4 = stateless (Unless 9 (length h4 == 16) ∷ readFixedRefusals (highsOf h4)) (readingNumber (readFixedAnswer h4)) [] []
 
 pub readFixed-copes : (x : List ℕ) → Copes (readFixed x)

@@ -7,6 +7,7 @@ use native.Mathlib.Omega.{arith}
 use lib.ListN.{length}
 use borrow.Author.Tests.{eqb-true}
 use Rattle.ground.specs.Plain.{if_then_else_, _==_, _<?_}
+use Rattle.ground.specs.Types.{Bytes}
 use Rattle.c_face.specs.Boards.{boardBytesC, outgoingBytesC, ranksBytesC, shownAnswerC, shownBytes}
 use Rattle.c_face.specs.Keeping.{bytesOf, senderOf}
 use Rattle.c_face.specs.Senders.{areBytes, callAnswerC, callStateC, packetAnswerC, packetBytesC, payloadAnswerC, payloadBytesC, sends, startAnswerC, startStateC}
@@ -20,7 +21,7 @@ use Rattle.sender.specs.Epochs.SenderCall.{OnTable, StartEpoch}
 use Rattle.sender.specs.Table.{answerNumber}
 
 -- 397 bytes
-abbrev pub isWhole : List ℕ → Bool
+abbrev pub isWhole : Bytes → Bool
 isWhole state = length state == 397
 
 -- 8: a number that is no byte
@@ -74,7 +75,7 @@ start-copes (count, «first_epoch», state) =
     copes _ (λ o. rw o (refl, refl, refl), λ o. (λ l. (λ f. rw (o, l, f), λ f. rw (o, l, f) (refl, refl, refl)), λ l. rw (o, l) (refl, refl, refl)))
 
 -- A call on a started sender: 9, 8 where the numbers given are no bytes, then the call's own refusals. `fits` is the contract's own test for that.
-abbrev pub senderRow : (state : List ℕ) (bytes fits : Bool) (call : SenderCall) (rs : List Refusal) → Call
+abbrev pub senderRow : (state : Bytes) (bytes fits : Bool) (call : SenderCall) (rs : List Refusal) → Call
 senderRow state bytes fits call rs = stateful (Unless 9 (isWhole state) ∷ Unless 8 bytes ∷ rs) (callAnswerC fits call state) [] [] state (callStateC fits call state) state
 
 pub call-copes : (state : List ℕ) (fits : Bool) (call : SenderCall) (rs : List Refusal) → answerNumber (senderOutcomeOf (senderOf state) call .answer) ≡ first rs → Copes (senderRow state fits fits call rs)
@@ -99,7 +100,7 @@ report (state, epoch, mst, «rs_ack») = senderRow state (allBytes epoch mst «r
 pub report-copes : (x : List ℕ × ℕ × ℕ × ℕ) → Copes (report x)
 report-copes (state, epoch, mst, «rs_ack») = call-copes state (areBytes epoch mst «rs_ack») _ _ (own.report-copes (senderOf state, epoch, mst, «rs_ack») .answers)
 
-abbrev pub lapse : List ℕ → Call
+abbrev pub lapse : Bytes → Call
 lapse state = senderRow state true true (OnTable Lapse) (own.lapse (senderOf state) .refusals)
 
 pub lapse-copes : (x : List ℕ) → Copes (lapse x)

@@ -5,9 +5,7 @@ use mathlib.Core.List.{List, [], _∷_}
 use Prim.Native.Nat.{ℕ}
 use native.Mathlib.Omega.{arith}
 use lib.ListN.{length, replicate}
-use Rattle.packet.specs.Kinds.{frames, payloadRight}
-use Rattle.packet.specs.Sent.{sentAnswer, sentBytes}
-use Rattle.packet.specs.Writing.{writeAnswer}
+use Rattle.packet.specs.Kinds.{frames}
 use Rattle.sender.specs.Epochs as E
 use Rattle.sender.specs.Ranks.{noRank}
 use Rattle.circuits.specs.Answers.{answerNumber}
@@ -31,17 +29,17 @@ abbrev last-of-two : List ℕ
 last-of-two = 0xF8 ∷ 0xF9 ∷ 0x1A ∷ 0x0B ∷ 0x0C ∷ 0x0D ∷ 0x0E ∷ 0x1F ∷ 0x00 ∷ 0x11 ∷ 0x32 ∷ 0x13 ∷ 0x04 ∷ 0x05 ∷ 0x46 ∷ 0xB7 ∷ []
 
 to-its-owner : (answerNumber (packetAnswer (cardAt card 64) 1 2 lent) ≡ 0) × (packetBytes (cardAt card 64) 1 2 lent ≡ last-of-two) × (packetSent history₁ 7 2 ≡ last-of-two)
-unfolding computed packetAnswer packetBytes E.packetAnswer sentAnswer sentBytes writeAnswer
+unfolding computed
 to-its-owner = (refl, refl, refl)
 
 -- group 0 is answered 14, and nothing is written
 to-the-other : (answerNumber (packetAnswer (cardAt card 64) 0 2 lent) ≡ 14) × (packetBytes (cardAt card 64) 0 2 lent ≡ lent)
-unfolding computed packetAnswer packetBytes
+unfolding computed
 to-the-other = (refl, refl)
 
 -- of the group frame 228 229 in the next epoch slot 2 carries the second byte, as the member numbered 1
 second-byte : (answerNumber (payloadAnswer (cardAt card 72) 1 2 1 2 1) ≡ 0) × (payloadBytes (cardAt card 72) 1 2 1 (228 ∷ 229 ∷ []) (0xEE ∷ []) ≡ 229 ∷ [])
-unfolding computed payloadAnswer payloadBytes payloadRight E.payloadAnswer
+unfolding computed
 second-byte = (refl, refl)
 
 -- All this is what demand 3 per group has as given, at these two moments.

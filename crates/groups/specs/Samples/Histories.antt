@@ -11,20 +11,18 @@ use Rattle.ground.specs.Table.{getD-tabulate, tabulate}
 use Rattle.ground.specs.Truth.{le-or-lt}
 use Rattle.sender.specs.Calls.{Call}
 use Rattle.sender.specs.Calls.Call.{AddSlot, Lapse, RemoveSlot, Report}
-use Rattle.circuits.specs.Commands.{claimOf, commandOf, groupCallOf, releaseOf, startOf}
 use Rattle.circuits.specs.declared.card.Card.{Card}
-use Rattle.circuits.specs.Owners.{withOwner}
-use Rattle.circuits.specs.Parts.{groupOutcome, isSlot, isUsed, marked, owns, senderOf, withSender}
+use Rattle.circuits.specs.Opened.{circuitsOpen}
 use Rattle.circuits.specs.Views.{Made, cardAfter}
 use Rattle.link.specs.History.{History}
-use Rattle.link.specs.Samples.Computing.{outcome}
+use Rattle.link.specs.Opened.{linkOpen}
 use Rattle.groups.specs.Cards.{CardHistory, cardAt}
 use Rattle.groups.specs.Projected.{beforeStart, historyOf, reaching, tableCalls}
 use Rattle.groups.specs.Samples.Calls.{card, made, made-late, quiet, start₀, start₁, starts₀, starts₁}
 
 -- Everything that a card is made of is opened here, for the checker to compute.
 unfoldable pub computed : CardHistory → ℕ → Card
-unfolding outcome claimOf commandOf groupCallOf releaseOf startOf withOwner isSlot isUsed marked owns senderOf groupOutcome withSender cardAt
+unfolding circuitsOpen linkOpen cardAt
 computed h n = cardAt h n
 
 -- the calls that reach group 0's table before each of its epochs: neither claims and releases nor what is answered 14

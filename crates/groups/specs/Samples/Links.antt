@@ -33,7 +33,7 @@ abbrev pub order : ℕ → List ℕ
 order t = if t % 2 == 0 then 0 ∷ 1 ∷ [] else 1 ∷ 0 ∷ []
 
 -- P is 1 and W is 20. Port 0 is late by four frames.
-abbrev pub linkOf : History → Client → (ℕ → ℕ) → (ℕ → ℕ) → Link
+abbrev pub linkOf : (history : History) (client : Client) (pairing first : ℕ → ℕ) → Link
 linkOf history client pairing first =
     record {
       sending = sendingOf history 1 client unranked;

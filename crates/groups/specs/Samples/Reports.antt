@@ -6,7 +6,7 @@ use Rattle.ground.specs.Table.{tabulate}
 use Rattle.link.specs.Link.{expected}
 use Rattle.link.specs.Samples.Computing.{outcome}
 use Rattle.link.specs.Samples.Reports.{sure}
-use Rattle.link.specs.Samples.Tracing.{course, drainedBy, outcome-by, traced, turnBy, turnsBy}
+use Rattle.link.specs.Samples.Tracing.{course, outcome-by}
 use Rattle.link.specs.Told.{Told}
 use Rattle.groups.specs.Samples.Links.{link₀, link₁}
 
@@ -18,7 +18,7 @@ reports₀ =
     ∷ []
 
 run₀ : outcome link₀ 164 ≡ record { begun = 1; told = reports₀; strange = [] }
-unfolding outcome course traced turnsBy turnBy drainedBy
+unfolding outcome course
 run₀ = outcome-by link₀ 164 _ refl
 
 -- group 1: two members, slot 2 among them, in epochs numbered from 250 on
@@ -29,7 +29,7 @@ reports₁ =
     ∷ []
 
 run₁ : outcome link₁ 164 ≡ record { begun = 1; told = reports₁; strange = [] }
-unfolding outcome course traced turnsBy turnBy drainedBy
+unfolding outcome course
 run₁ = outcome-by link₁ 164 _ refl
 
 -- the reports that demand 3 says are to come

@@ -5,6 +5,7 @@ use mathlib.Core.Bool.{true, false}
 use mathlib.Core.List.{List}
 use Prim.Native.Nat.{ℕ, _+_, _*_, _≤_, _<_}
 use Rattle.ground.specs.Plain.{_≤?_}
+use Rattle.ground.specs.Types.{Bytes}
 use Rattle.packet.specs.Kinds.{distanceOf, firstTag, frames, tags}
 use Rattle.rows.specs.declared.group.Group.{Group}
 use Rattle.rows.specs.declared.step.Step.{Step}
@@ -30,7 +31,7 @@ shortOf g s = distanceOf (g .kind) (firstTag (g .kind) (g .oldest)) (s .next)
 abbrev pub endOf : Group → ℕ → ℕ
 endOf g i = frames (g .kind) * i + frames (g .kind)
 
-abbrev pub NoMark : List ℕ → Type 0
+abbrev pub NoMark : Bytes → Type 0
 NoMark marks = (i : ℕ) → markIn marks i ≡ false
 
 -- before the beginning nobody has joined, nothing is stored and nothing rules

@@ -5,35 +5,19 @@ use mathlib.Core.List.{List, [], _∷_}
 use Prim.Native.Nat.{ℕ, zero, suc, _+_}
 use lib.ListN.{replicate}
 use Rattle.invariant.specs.Wrong.Sample.{sampleGroup, sampleStep, sentH4}
-use Rattle.ground.specs.Circle.{after}
 use Rattle.ground.specs.Plain.{if_then_else_}
-use Rattle.packet.specs.Counts.{carriesLow, counts, h4Counts, startsCount, tagByHigh, tagByLow}
-use Rattle.packet.specs.Kinds.{distanceOf, endsEpoch, epochAfter, epochOf, epochs, epochsIn, firstTag, frames, lead, placeOf, startsEpoch, tagAfter, tagBefore, tags}
-use Rattle.packet.specs.Crc.{crcOf, divisor, nibbleBits}
-use Rattle.packet.specs.Layout.{carriedIn, fieldsOf}
-use Rattle.packet.specs.Reading.{readNibbles}
-use Rattle.packet.specs.Words.{assigned}
-use Rattle.phases.specs.Beginning.{begins, foremost, further, latest, noTag, ready, within}
-use Rattle.phases.specs.Due.{brought, owesNothing, silent}
-use Rattle.phases.specs.Passing.{groupTo, notedBy, passedGroup, passedOf, passedPort, passedPorts, passedStep, ruledBy}
-use Rattle.packet.specs.Ruling.{readRow, rulingOf}
-use Rattle.packet.specs.Symbols.{entryAt, entryFrom, entryWith, rowFrom, symbolOf, withSymbol}
-use Rattle.phases.specs.Settling.{beginBy, begunOf, clearedPort, clearedPorts, clearedStep, gatherBy, settledOf, stopBy, stoppedOf}
-use Rattle.receiver.specs.Frame.{gatheredBy, marksBy, portRows, storeBy}
+use Rattle.packet.specs.Kinds.{epochAfter, epochOf, startsEpoch}
+use Rattle.phases.specs.Beginning.{begins, foremost}
+use Rattle.phases.specs.Passing.{groupTo}
+use Rattle.phases.specs.Settling.{clearedPorts, gatherBy, settledOf, stopBy}
 use Rattle.receiver.specs.Starting.{freshStep}
 use Rattle.rows.specs.declared.group.Group.{Group}
 use Rattle.rows.specs.declared.step.Step.{Step}
-use Rattle.rows.specs.Group.{groupAt, groupOf, groupRow, putGroup}
-use Rattle.rows.specs.Member.{memberAt, memberOf, memberRow, putMember}
-use Rattle.rows.specs.Packets.{marksAt, packetsAt, putMarks, putPackets}
-use Rattle.rows.specs.Rows.{putRow, rowIn}
-use Rattle.rows.specs.Step.{putStep, stepAt, stepOf, stepRow}
-use Rattle.step.specs.Arrival.{arrives, frameDropped, byStart, byWindow, countsOn, distanceIn, flagged, flagOf, inStep, joining, keeps, outside, readable, takenOf}
-use Rattle.step.specs.OwnCount.{endsOdd, oddPacket, ownNumber, ownRuling, rightCrc, rulingIn}
-use Rattle.step.specs.Run.{begunRun, breaksAfter, endsPacket, furtherRun, gainedRun, h4RunOn, inStepAt, loses, oddAfter, runOn, secondRun, stayedRun}
-use Rattle.store.specs.Frames.{byteAt, h4At, packetIn, placeIn, ringOf, storedAt}
-use Rattle.store.specs.Marks.{cutByte, cutFrom, firstMark, markedAt, markedByte, passedByte, passedMarks}
+use Rattle.rows.specs.Group.{groupAt, putGroup}
+use Rattle.rows.specs.Step.{putStep, stepAt}
+use Rattle.step.specs.Arrival.{flagOf, inStep}
 use Rattle.invariant.specs.Calls.{Receiver, portAfter, storeAfter}
+use Rattle.receiver.specs.Opened.{receiverOpen}
 
 -- rows of two ports with these steps
 two : Group → Step → Step → List (List ℕ)
@@ -57,7 +41,7 @@ times frame zero = two (sampleGroup 2 16 0 0 0) (sampleStep 32 15 0 0 0 0) (samp
 times frame (suc n) = frame (frame (times frame n) 1 (sentH4 (15 + n))) 0 (sentH4 (15 + n))
 
 tested-breaks : (groupAt (times wrong-frame 1) .begun ≡ 0) × (groupAt (times wrong-frame 8) .begun ≡ 0) × (groupAt (times right-frame 1) .begun ≡ 1)
-unfolding two comes-in wrong-frame right-frame times portRows gatheredBy marksBy settledOf stopBy stoppedOf beginBy begunOf clearedPorts clearedPort clearedStep gatherBy silent brought owesNothing begins foremost further latest noTag ready within passedOf passedPorts passedPort passedStep passedGroup notedBy ruledBy ownRuling rulingIn ownNumber rulingOf readRow endsOdd oddPacket rightCrc takenOf arrives frameDropped byStart byWindow countsOn flagged joining keeps outside readable inStep distanceIn runOn h4RunOn stayedRun gainedRun loses breaksAfter oddAfter endsPacket begunRun secondRun furtherRun inStepAt counts h4Counts startsCount tagByHigh carriesLow tagByLow entryAt entryFrom entryWith rowFrom symbolOf withSymbol distanceOf after endsEpoch epochAfter epochOf epochs epochsIn firstTag frames lead placeOf startsEpoch tagAfter tagBefore tags groupAt groupOf groupRow putGroup memberAt memberOf memberRow putMember marksAt packetsAt putMarks putPackets rowIn putRow stepAt stepOf stepRow putStep packetIn h4At byteAt placeIn ringOf firstMark passedMarks passedByte markedAt markedByte cutFrom cutByte
+unfolding receiverOpen two comes-in wrong-frame right-frame times
 tested-breaks = (refl, refl, refl)
 
 -- A weak 'after the foremost tag': an epoch that starts with the foremost tag itself. The window is 32 frames. Port 0 is in step and its latest tag is 8, the start of epoch 1;
@@ -97,5 +81,5 @@ weak-breaks :
     × (stepAt (brings weak-settled 31 .rows) 0 .whole ≡ 0)
     × (groupAt (brings settledOf 31 .rows) .gathered ≡ 1)
     × (stepAt (brings settledOf 31 .rows) 0 .whole ≡ 1)
-unfolding two weak-epoch weak-begun weak-begin weak-settled brings storeBy storedAt readNibbles divisor nibbleBits crcOf carriedIn fieldsOf assigned portRows gatheredBy marksBy settledOf stopBy stoppedOf beginBy begunOf clearedPorts clearedPort clearedStep gatherBy silent brought owesNothing begins foremost further latest noTag ready within passedOf passedPorts passedPort passedStep passedGroup notedBy ruledBy ownRuling rulingIn ownNumber rulingOf readRow endsOdd oddPacket rightCrc takenOf arrives frameDropped byStart byWindow countsOn flagged joining keeps outside readable inStep distanceIn runOn h4RunOn stayedRun gainedRun loses breaksAfter oddAfter endsPacket begunRun secondRun furtherRun inStepAt counts h4Counts startsCount tagByHigh carriesLow tagByLow entryAt entryFrom entryWith rowFrom symbolOf withSymbol distanceOf after endsEpoch epochAfter epochOf epochs epochsIn firstTag frames lead placeOf startsEpoch tagAfter tagBefore tags groupAt groupOf groupRow putGroup memberAt memberOf memberRow putMember marksAt packetsAt putMarks putPackets rowIn putRow stepAt stepOf stepRow putStep packetIn h4At byteAt placeIn ringOf firstMark passedMarks passedByte markedAt markedByte cutFrom cutByte
+unfolding receiverOpen two weak-epoch weak-begun weak-begin weak-settled brings
 weak-breaks = (refl, refl, refl, refl, refl, refl)

@@ -5,17 +5,14 @@ use mathlib.Core.List.{List}
 use Prim.Native.Nat.{ℕ, zero, suc}
 use lib.ListN.{replicate}
 use Rattle.invariant.specs.Wrong.Sample.{sampleGroup, sampleStep}
-use Rattle.ground.specs.Circle.{after}
 use Rattle.ground.specs.Plain.{_<?_}
-use Rattle.packet.specs.Kinds.{distanceOf, epochAfter, epochs, firstTag, frames, lead, tags}
 use Rattle.phases.specs.Due.{owesNothing}
 use Rattle.phases.specs.Passing.{passedGroup, passedStep}
 use Rattle.rows.specs.declared.group.Group.{Group}
 use Rattle.rows.specs.declared.step.Step.{Step}
-use Rattle.step.specs.Arrival.{distanceIn, flagOf, inStep, readable}
-use Rattle.step.specs.Run.{inStepAt}
-use Rattle.store.specs.Frames.{ringOf}
+use Rattle.step.specs.Arrival.{distanceIn, flagOf, readable}
 use Rattle.store.specs.Marks.{firstMark}
+use Rattle.receiver.specs.Opened.{receiverOpen}
 
 -- the tag joined at lies in the window, after its first frame
 wrong-later : Group → ℕ → Bool
@@ -47,5 +44,5 @@ later-breaks :
     × (passes 256 .oldest ≡ 0)
     × (wrong-lets (passes 256) (steps 4088 256) 8 (replicate 16 0) ≡ true)
     × (owesNothing (passes 256) (steps 4088 256) (replicate 16 0) ≡ false)
-unfolding wrong-later wrong-lets start joiner passes steps owesNothing readable inStep inStepAt firstMark distanceIn distanceOf after firstTag tags lead frames epochs epochAfter passedGroup passedStep ringOf
+unfolding receiverOpen wrong-later wrong-lets start joiner passes steps
 later-breaks = (refl, refl, refl, refl, refl)

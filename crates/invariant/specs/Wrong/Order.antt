@@ -7,30 +7,20 @@ use Rattle.invariant.specs.Wrong.Sample.{sampleGroup, sampleStep}
 use Rattle.ground.specs.Plain.{if_then_else_, _==_}
 use Rattle.ground.specs.Table.{tabulate}
 use Rattle.judge.specs.declared.seen.Seen.{Seen}
-use Rattle.judge.specs.Order.{activeIn, orderOf, portOf, rankOf}
-use Rattle.judge.specs.Verdict.{SURE, doubtfulBy, eosAlone, eosWrong, exact, gidDiffers, heldBy, highest, judgeOf, missing, repeats, takes, lcasVerdict}
-use Rattle.packet.specs.Crc.{crcOf, divisor, nibbleBits}
-use Rattle.packet.specs.Kinds.{epochOf, firstTag, frames, lead, tagBefore, tags}
-use Rattle.packet.specs.Layout.{carriedIn, dataOf, fieldsOf, h4Of, nibblesOf, sealedOf}
-use Rattle.packet.specs.Reading.{readNibbles}
-use Rattle.packet.specs.Words.{EOS, NORM, assigned}
-use Rattle.phases.specs.Due.{brought, owesNothing}
-use Rattle.packet.specs.Ruling.{readRow, rulingOf}
-use Rattle.packet.specs.Symbols.{entryAt, entryFrom, entryWith, rowFrom, symbolOf, withSymbol}
-use Rattle.step.specs.OwnCount.{ownNumber, ownRuling, rulingIn}
-use Rattle.phases.specs.Sizes.{knownKind, portsIn, sized, storeFor}
-use Rattle.receiver.specs.Fetch.{dueIn, fetchOut, fits, outIfDue, reportIfDue}
-use Rattle.receiver.specs.Lengths.{fetchFits, outputFor, rowsFit}
-use Rattle.receiver.specs.Report.{frameInto, framesInto, outputBy, outputOf, reportBy, reportOf, rulingEpoch, seenAll, seenOf, startsOf}
+use Rattle.judge.specs.Order.{orderOf}
+use Rattle.judge.specs.Verdict.{SURE}
+use Rattle.packet.specs.Layout.{h4Of, nibblesOf}
+use Rattle.packet.specs.Words.{EOS, NORM}
+use Rattle.step.specs.OwnCount.{ownRuling}
+use Rattle.receiver.specs.Fetch.{fetchOut, reportIfDue}
+use Rattle.receiver.specs.Report.{framesInto}
 use Rattle.rows.specs.declared.group.Group.{Group}
-use Rattle.rows.specs.Group.{groupAt, groupOf, groupRow, putGroup}
-use Rattle.rows.specs.Packets.{marksAt, packetsAt, putMarks, putPackets}
-use Rattle.rows.specs.Rows.{putRow, rowIn}
-use Rattle.rows.specs.Step.{putStep, stepAt, stepOf, stepRow}
-use Rattle.step.specs.Arrival.{inStep, readable}
-use Rattle.step.specs.Run.{inStepAt}
-use Rattle.store.specs.Frames.{byteAt, h4At, packetIn, placeIn, ringOf}
+use Rattle.rows.specs.Group.{putGroup}
+use Rattle.rows.specs.Packets.{marksAt, putMarks, putPackets}
+use Rattle.rows.specs.Step.{putStep}
+use Rattle.store.specs.Frames.{packetIn}
 use Rattle.store.specs.Marks.{firstMark}
+use Rattle.receiver.specs.Opened.{receiverOpen}
 
 -- the nibbles of a packet
 packet : ℕ → ℕ → ℕ → List ℕ
@@ -70,5 +60,5 @@ order-breaks :
     (fetchOut rows store (replicate 32 0) (replicate 8 0) ≡ sixteen 10 11)
     × (reportIfDue group 2 rows .mark ≡ SURE)
     × (wrong-out ≡ sixteen 11 10)
-unfolding divisor nibbleBits packet group port rows sent store wrong-seen wrong-out sixteen dataOf sealedOf nibblesOf crcOf h4Of carriedIn fieldsOf assigned readNibbles ownRuling rulingIn ownNumber rulingOf readRow rulingEpoch seenOf seenAll orderOf activeIn portOf rankOf judgeOf lcasVerdict heldBy doubtfulBy missing exact repeats takes gidDiffers eosWrong eosAlone highest fetchOut fits fetchFits rowsFit storeFor outputFor portsIn knownKind sized outIfDue reportIfDue reportOf reportBy dueIn brought owesNothing readable inStep inStepAt outputOf outputBy framesInto frameInto startsOf placeIn ringOf packetIn h4At byteAt entryAt entryFrom entryWith rowFrom symbolOf withSymbol firstMark epochOf firstTag frames lead tagBefore tags groupAt groupOf groupRow putGroup marksAt packetsAt putMarks putPackets rowIn putRow stepAt stepOf stepRow putStep
+unfolding receiverOpen packet group port rows sent store wrong-seen wrong-out sixteen
 order-breaks = (refl, refl, refl)

@@ -5,15 +5,12 @@ use mathlib.Core.List.{List, [], _∷_}
 use Prim.Native.Nat.{ℕ, zero, suc, _+_, _*_, _%_}
 use lib.ListN.{getD, replicate}
 use Rattle.invariant.specs.Wrong.Sample.{sampleGroup, sampleStep, sentH4}
-use Rattle.ground.specs.Circle.{after}
 use Rattle.ground.specs.Table.{tabulate}
-use Rattle.packet.specs.Counts.{counts, h4Counts}
-use Rattle.packet.specs.Kinds.{distanceOf, firstTag, frames, lead, tagAfter, tags}
 use Rattle.rows.specs.declared.group.Group.{Group}
-use Rattle.step.specs.Arrival.{arrives, byWindow, distanceIn, keeps, takenOf}
-use Rattle.step.specs.Run.{breaksAfter, endsPacket, h4RunOn, inStepAt, loses, oddAfter, runOn, stayedRun}
-use Rattle.store.specs.Frames.{placeIn, ringOf, storedAt}
+use Rattle.step.specs.Arrival.{takenOf}
+use Rattle.store.specs.Frames.{placeIn, storedAt}
 use Rattle.invariant.specs.Claims.{tagIn}
+use Rattle.receiver.specs.Opened.{receiverOpen}
 
 wrong-place : Group → ℕ → ℕ → ℕ
 wrong-place g port t = (port * g .window + t % g .window) * (g .payload + 1)
@@ -45,5 +42,5 @@ place-breaks :
     (answers ≡ replicate 17 0)
     × (found wrongly ≡ 16 ∷ 1 ∷ 2 ∷ 3 ∷ 4 ∷ 5 ∷ 6 ∷ 7 ∷ 8 ∷ 9 ∷ 10 ∷ 11 ∷ 12 ∷ 13 ∷ 14 ∷ 15 ∷ 16 ∷ [])
     × (found rightly ≡ 0 ∷ 1 ∷ 2 ∷ 3 ∷ 4 ∷ 5 ∷ 6 ∷ 7 ∷ 8 ∷ 9 ∷ 10 ∷ 11 ∷ 12 ∷ 13 ∷ 14 ∷ 15 ∷ 16 ∷ [])
-unfolding wrong-place window answers brought found wrongly rightly tagIn takenOf arrives byWindow keeps distanceIn distanceOf after firstTag tagAfter tags lead frames runOn h4RunOn stayedRun loses breaksAfter oddAfter endsPacket inStepAt counts h4Counts placeIn ringOf storedAt
+unfolding receiverOpen wrong-place window answers brought found wrongly rightly tagIn
 place-breaks = (refl, refl, refl)

@@ -9,29 +9,21 @@ use Rattle.invariant.specs.Wrong.Sample.{sampleStep}
 use Rattle.ground.specs.Plain.{if_then_else_, _==_}
 use Rattle.ground.specs.Table.{tabulate}
 use Rattle.judge.specs.declared.seen.Seen.{Seen}
-use Rattle.judge.specs.Order.{activeIn, orderOf, portOf, rankOf}
+use Rattle.judge.specs.Order.{orderOf}
 use Rattle.judge.specs.Seen.{lackingSeen, numberedSeen, refusedSeen, seenAt}
-use Rattle.judge.specs.Verdict.{HELD, SURE, fixedExact, fixedHeld, fixedVerdict, judgeOf, missing, repeats, takes}
-use Rattle.packet.specs.Fixed.{fixedNibbles, fixedNibblesWith, fixedRulingOf, readFixedNibbles}
-use Rattle.packet.specs.Kinds.{epochOf, firstTag, fixedKind, frames, lead, tagBefore, tags}
-use Rattle.packet.specs.Layout.{fieldsOf, h4Of}
-use Rattle.phases.specs.Due.{brought, owesNothing}
+use Rattle.judge.specs.Verdict.{HELD, SURE, repeats, takes}
+use Rattle.packet.specs.Fixed.{fixedNibbles}
+use Rattle.packet.specs.Kinds.{fixedKind}
+use Rattle.packet.specs.Layout.{h4Of}
 use Rattle.phases.specs.Passing.{groupTo}
-use Rattle.phases.specs.Sizes.{knownKind, portsIn, sized, storeFor}
-use Rattle.receiver.specs.Fetch.{dueIn, fetchOut, fits, outIfDue, reportIfDue}
-use Rattle.receiver.specs.Lengths.{fetchFits, outputFor, rowsFit}
-use Rattle.receiver.specs.Report.{frameInto, framesInto, outputBy, outputOf, reportBy, reportOf, rulingEpoch, seenAll, seenOf, startsOf}
+use Rattle.receiver.specs.Fetch.{fetchOut, reportIfDue}
+use Rattle.receiver.specs.Report.{framesInto, seenAll}
 use Rattle.receiver.specs.Starting.{groupWith}
 use Rattle.rows.specs.declared.group.Group.{Group}
-use Rattle.rows.specs.Group.{groupAt, groupOf, groupRow, putGroup}
-use Rattle.rows.specs.Packets.{marksAt, packetsAt, putMarks, putPackets}
-use Rattle.rows.specs.Rows.{putRow, rowIn}
-use Rattle.rows.specs.Step.{putStep, stepAt, stepOf, stepRow}
-use Rattle.step.specs.Arrival.{inStep, readable}
-use Rattle.step.specs.OwnCount.{ownNumber, ownRuling, rulingIn}
-use Rattle.step.specs.Run.{inStepAt}
-use Rattle.store.specs.Frames.{placeIn, ringOf}
-use Rattle.store.specs.Marks.{firstMark}
+use Rattle.rows.specs.Group.{putGroup}
+use Rattle.rows.specs.Packets.{putMarks, putPackets}
+use Rattle.rows.specs.Step.{putStep}
+use Rattle.receiver.specs.Opened.{receiverOpen}
 
 -- three ports with P = 1, begun; the oldest epoch is 1
 group : Group
@@ -74,5 +66,5 @@ ports-seen-breaks :
     × (wrong-out ≡ tabulate 32 (λ k. if k % 2 == 0 then 10 else 11) ++ replicate 16 0)
     × (reportIfDue group 3 rows .mark ≡ HELD)
     × (fetchOut rows store (replicate 48 0) (replicate 8 0) ≡ replicate 48 0)
-unfolding group port rows sent store wrong-mark seen wrong-out fixedNibbles fixedNibblesWith fixedRulingOf readFixedNibbles h4Of fieldsOf ownRuling rulingIn ownNumber rulingEpoch seenOf seenAll orderOf activeIn portOf rankOf judgeOf fixedVerdict fixedHeld fixedExact missing repeats takes fetchOut fits fetchFits rowsFit storeFor outputFor portsIn knownKind sized outIfDue reportIfDue reportOf reportBy dueIn brought owesNothing readable inStep inStepAt outputOf outputBy framesInto frameInto startsOf placeIn ringOf firstMark epochOf firstTag frames lead tagBefore tags groupAt groupOf groupRow putGroup marksAt packetsAt putMarks putPackets rowIn putRow stepAt stepOf stepRow putStep
+unfolding receiverOpen group port rows sent store wrong-mark seen wrong-out
 ports-seen-breaks = (refl, refl, refl, refl)

@@ -8,10 +8,10 @@ use Rattle.rows.specs.declared.step.Step.{Step}
 use Rattle.phases.specs.Passing.{groupTo}
 
 -- n ports with P = 1 and a window W, begun, with an oldest epoch
-abbrev pub sampleGroup : ℕ → ℕ → ℕ → ℕ → ℕ → Group
+abbrev pub sampleGroup : (ports W begun gathered oldest : ℕ) → Group
 sampleGroup n W begun gathered oldest = groupTo (groupWith 0 n 1 W) begun gathered oldest 0 0
 
-abbrev pub sampleStep : ℕ → ℕ → ℕ → ℕ → ℕ → ℕ → Step
+abbrev pub sampleStep : (count next joined since later whole : ℕ) → Step
 sampleStep count next joined since later whole =
     record {
       spare = replicate 4 0;

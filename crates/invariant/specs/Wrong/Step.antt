@@ -5,17 +5,17 @@ use mathlib.Core.List.{List, [], _∷_}
 use Prim.Native.Nat.{ℕ, zero, suc, _+_, _%_}
 use lib.ListN.{getD, replicate, set}
 use Rattle.ground.specs.Plain.{if_then_else_, _==_}
-use Rattle.packet.specs.Counts.{counts, h4Counts, startsCount, tagByHigh}
-use Rattle.packet.specs.Crc.{crcOf, divisor, nibbleBits}
-use Rattle.packet.specs.Kinds.{endsEpoch, frames, lead, placeOf, tagAfter, tags}
-use Rattle.packet.specs.Layout.{carriedIn, dataOf, fieldsOf, h4Of, nibblesOf, sealedOf}
+use Rattle.packet.specs.Counts.{h4Counts, startsCount}
+use Rattle.packet.specs.Kinds.{tagAfter}
+use Rattle.packet.specs.Layout.{h4Of, nibblesOf}
 use Rattle.packet.specs.Reading.{readNibbles, readingNumber}
-use Rattle.packet.specs.Symbols.{entryAt, entryWith, symbolOf, withSymbol}
-use Rattle.packet.specs.Words.{NORM, assigned}
+use Rattle.packet.specs.Symbols.{withSymbol}
+use Rattle.packet.specs.Words.{NORM}
 use Rattle.receiver.specs.Frame.{gatheredBy}
 use Rattle.step.specs.declared.run.Run.{Run}
-use Rattle.step.specs.Run.{begunRun, breaksAfter, endsPacket, gainedRun, h4RunOn, inStepAt, loses, noRun, oddAfter, runOn, stayedRun}
+use Rattle.step.specs.Run.{begunRun, loses, noRun, oddAfter, runOn}
 use Rattle.invariant.specs.Wrong.Sample.{sentH4}
+use Rattle.receiver.specs.Opened.{receiverOpen}
 
 -- a port in step, with the tag to come
 at : ℕ → Run
@@ -27,7 +27,7 @@ wrong-start : Run → Bool → ℕ → Run
 wrong-start run odd h = if startsCount 0 h && not (h4Counts (run .next) h) then begunRun 0 h else runOn 0 run odd h
 
 start-breaks : (wrong-start (at 4) false 0x00 .count ≡ 1) × (runOn 0 (at 4) false 0x00 ≡ record { count = 32; next = 5; breaks = 1; odd = 0; bits = 0 })
-unfolding at wrong-start runOn h4RunOn stayedRun gainedRun loses breaksAfter oddAfter endsPacket begunRun inStepAt counts h4Counts startsCount tagByHigh placeOf endsEpoch tagAfter tags frames lead
+unfolding receiverOpen at wrong-start
 start-breaks = (refl, refl)
 
 -- Breaks counted over all time and not in a row. Every other frame of eight is hit in MFI1, so that no two in a row break the count.
@@ -47,7 +47,7 @@ by rule zero = at 8
 by rule (suc n) = rule (by rule n) false (hit (8 + n))
 
 row-breaks : (by wrong-breaks 7 .count ≡ 0) × (by (runOn 0) 8 ≡ record { count = 32; next = 16; breaks = 0; odd = 0; bits = 0 })
-unfolding at wrong-breaks hit by runOn h4RunOn stayedRun gainedRun loses breaksAfter oddAfter endsPacket begunRun inStepAt counts h4Counts startsCount tagByHigh placeOf endsEpoch tagAfter tags frames lead
+unfolding receiverOpen at wrong-breaks hit by
 row-breaks = (refl, refl)
 
 -- Odd packets counted over a damaged one. An odd packet ends, then one with a wrong CRC, then an odd one: not two in a row.
@@ -61,7 +61,7 @@ three : (Run → Bool → ℕ → Run) → Run
 three rule = rule (record { count = 32; next = 39; breaks = 0; odd = rule (record { count = 32; next = 23; breaks = 0; odd = rule (at 7) true 0x07 .odd; bits = 0 }) false 0x07 .odd; bits = 0 }) true 0x07
 
 odd-breaks : (three wrong-odd .count ≡ 0) × (three (runOn 0) ≡ record { count = 32; next = 40; breaks = 0; odd = 1; bits = 0 })
-unfolding at wrong-odd three runOn h4RunOn stayedRun gainedRun loses breaksAfter oddAfter endsPacket begunRun inStepAt counts h4Counts startsCount tagByHigh placeOf endsEpoch tagAfter tags frames lead
+unfolding receiverOpen at wrong-odd three
 odd-breaks = (refl, refl)
 
 -- The packet being gathered put together by the MFI1 that frames carry. One hit makes MFI1 2, which brings the word, a 3: the word stays that of the packet before, and what is read is no longer the packet that came.
@@ -88,5 +88,5 @@ gathered-breaks :
     (row-of (gathered (λ pair tag h. gatheredBy 0 pair true tag h) 16) ≡ packet)
     × (readingNumber (readNibbles (row-of (gathered (λ pair tag h. gatheredBy 0 pair true tag h) 16))) ≡ 0)
     × (readingNumber (readNibbles (row-of (gathered (λ pair tag h. wrong-gathered pair h) 16))) ≡ 5)
-unfolding wrong-gathered packet frame gathered row-of gatheredBy entryAt entryWith symbolOf withSymbol placeOf lead frames nibblesOf sealedOf dataOf h4Of crcOf divisor nibbleBits readNibbles fieldsOf carriedIn assigned
+unfolding receiverOpen wrong-gathered packet frame gathered row-of
 gathered-breaks = (refl, refl, refl)

@@ -12,27 +12,12 @@ use Rattle.invariant.specs.Claims.{tagIn}
 use Rattle.invariant.specs.Live.{heardOf, isHeard, packetHeard}
 use Rattle.invariant.specs.Reports.{Others, Unstopped, ackIn, gives, nextReport, reportsOf, stopsWith, successive}
 use Rattle.invariant.specs.Times.{outcomesOf, waitingIn}
-use Rattle.packet.specs.Counts.{carriesLow, startsCount, tagByHigh, tagByLow}
-use Rattle.packet.specs.Kinds.{epochAfter, epochs, firstTag, frames, idleNumber, lead, payloadRight, tagBack, tagBefore, tags}
-use Rattle.packet.specs.Symbols.{entryAt, entryFrom, entryWith, rowFrom, symbolOf, withSymbol}
-use Rattle.phases.specs.Beginning.{begins, ready}
-use Rattle.phases.specs.Due.{brought, owesNothing, silent}
-use Rattle.phases.specs.Passing.{passedGroup, passedOf, passedPort, passedPorts, passedStep}
-use Rattle.phases.specs.Settling.{beginBy, gatherBy, settledOf, stopBy}
-use Rattle.phases.specs.Sizes.{knownKind, portsIn, sized, startSized, storeFor}
-use Rattle.receiver.specs.Fetch.{dueIn, fetchAnswer, fetchOut, fetchRecord, fetchRows, fits, outIfDue, recordOf, reportIfDue, rowsIfDue}
-use Rattle.receiver.specs.Frame.{frameAnswer, frameRows, frameStore, portRows, refusalBy, settledBy, storeBy, takenRows, takenStore}
-use Rattle.receiver.specs.Lengths.{fetchFits, frameFits, outputFor, rowsFit}
-use Rattle.receiver.specs.Report.{reportBy, reportedOf, reportOf, statePut, statesPut, statesWorkedOut}
-use Rattle.receiver.specs.Starting.{freshPort, freshPorts, sizedFits, sizedRows, startAsRows, startFits, startRight, timesWithin}
+use Rattle.packet.specs.Kinds.{tagBack}
 use Rattle.rows.specs.declared.group.Group.{Group}
-use Rattle.rows.specs.Group.{groupAt, groupOf, groupRow, putGroup}
-use Rattle.rows.specs.Member.{memberAt, memberOf, memberRow, putMember}
-use Rattle.rows.specs.Packets.{putMarks, putPackets}
-use Rattle.rows.specs.Rows.{putRow, rowIn}
-use Rattle.rows.specs.Step.{putStep, stepAt, stepOf, stepRow}
-use Rattle.step.specs.Arrival.{countsOn, flagged, inStep, readable, takenOf}
-use Rattle.step.specs.Run.{begunRun, gainedRun, h4RunOn, inStepAt, runOn, secondRun}
+use Rattle.rows.specs.Group.{groupAt, putGroup}
+use Rattle.rows.specs.Member.{memberAt}
+use Rattle.rows.specs.Step.{putStep, stepAt}
+use Rattle.receiver.specs.Opened.{receiverOpen}
 
 abbrev nines : ℕ → List ℕ
 nines n = replicate n 9
@@ -64,7 +49,7 @@ tags-and-epochs :
     × (nextReport (group 0 58) ≡ 59)
     × (nextReport (group 0 255) ≡ 0)
     × (packetHeard 0 (tabulate 20 (λ d. (15 - d) * 16)) ≡ tabulate 16 (λ k. k))
-unfolding epochAfter epochs firstTag frames lead entryAt entryFrom entryWith rowFrom symbolOf withSymbol tagBefore tagIn tags
+unfolding receiverOpen tagIn
 tags-and-epochs = (refl, refl, refl, refl, refl, refl, refl, refl, refl, refl)
 
 -- a frame to the step record: not one refused with 1 or 9, nor one outside the window, 11
@@ -84,7 +69,7 @@ calls :
     × (gives fresh (nines 64) (nines 8) ≡ false)
     × (ackIn (fresh .rows) ≡ 0)
     × (stopsWith (fresh .rows) 1 true 0 (nines 2) (nines 96) ≡ false)
-unfolding beginBy begins begunRun carriesLow countsOn dueIn fetchFits fetchRows fits flagged frameAnswer frameFits frameRows frameStore frames freshPort freshPorts gainedRun gatherBy groupAt groupOf groupRow inStep inStepAt outputFor portRows portsIn putGroup putMarks putMember putPackets putRow putStep ready refusalBy rowIn rowsFit rowsIfDue runOn h4RunOn secondRun settledBy settledOf knownKind sized sizedFits sizedRows startAsRows startFits payloadRight startRight startSized startsCount stepAt stepOf stepRow stopBy storeBy storeFor tagByHigh tagByLow tags takenOf takenRows takenStore timesWithin
+unfolding receiverOpen
 calls = (refl, refl, refl, refl, refl, refl, refl)
 
 -- what five calls answer and leave
@@ -96,12 +81,12 @@ outcomes :
     ∷ record { answer = 1; store = nines 96; out = []; report = [] }
     ∷ record { answer = 12; store = nines 96; out = []; report = [] }
     ∷ []
-unfolding beginBy begins begunRun countsOn dueIn fetchAnswer fetchFits fetchOut fetchRecord fetchRows fits flagged frameAnswer frameFits frameRows frames frameStore freshPort freshPorts gainedRun gatherBy groupAt groupOf groupRow inStepAt outIfDue outputFor portRows portsIn putGroup putMarks putMember putPackets putRow putStep ready recordOf refusalBy reportIfDue rowIn rowsFit rowsIfDue runOn h4RunOn settledBy settledOf knownKind sized sizedFits sizedRows startAsRows startFits payloadRight startRight startSized startsCount stepAt stepOf stepRow stopBy storeBy storeFor tags takenOf takenRows takenStore timesWithin
+unfolding receiverOpen
 outcomes = refl
 
 -- a port's state, its number, its times and the counter
 standing : waitingIn (memberAt (startedWith 0 2 2 16 (3 ∷ 4 ∷ []) (5 ∷ 6 ∷ []) (replicate 11 (replicate 16 0)) (nines 96) .rows) 1) ≡ 0 ∷ 255 ∷ 4 ∷ 6 ∷ 0 ∷ []
-unfolding frames freshPort freshPorts idleNumber memberAt memberOf memberRow putGroup putMarks putMember putPackets putRow putStep rowIn knownKind sized sizedFits sizedRows startAsRows startFits payloadRight startRight startSized tags timesWithin
+unfolding receiverOpen
 standing = refl
 
 -- a receiver in the midst of receiving, none of whose ports is in step; count, P and RS-Ack have numbers of their own
@@ -136,7 +121,7 @@ reports :
     × (reportsOf (receiving 1 1) (Fetch (nines 96) (nines 8) ∷ Fetch (nines 95) (nines 8) ∷ Fetch (nines 96) (nines 8) ∷ []) ≡ 255 ∷ 0 ∷ [])
     × (reportsOf (receiving 1 1) (Frame 2 false 0x30 (nines 3) ∷ Fetch (nines 96) (nines 8) ∷ []) ≡ 255 ∷ [])
     × (ackIn (receiving 1 1 .rows) ≡ 1)
-unfolding begunRun brought carriesLow countsOn dueIn epochAfter epochs fetchFits fetchRows fits frameAnswer frameFits frameRows frames frameStore freshPort freshPorts gainedRun groupAt groupOf groupRow inStep inStepAt outputFor owesNothing passedGroup passedOf passedPort passedPorts passedStep portsIn putGroup putMarks putMember putPackets putRow putStep readable refusalBy reportBy reportedOf reportIfDue reportOf rowIn rowsFit rowsIfDue runOn h4RunOn secondRun knownKind sized sizedFits sizedRows startAsRows startFits payloadRight startRight startSized startsCount statePut statesPut statesWorkedOut stepAt stepOf stepRow storeFor tagByHigh tagByLow tags takenOf takenRows takenStore timesWithin
+unfolding receiverOpen
 reports = (refl, refl, refl, refl, refl, refl, refl, refl, refl, refl)
 
 -- the same with port 0 in step and joined
@@ -155,15 +140,15 @@ stops :
     × (stopsWith (receiving 0 1 .rows) 1 false 0x30 (nines 3) (nines 128) ≡ false)
     × (stopsWith joined 1 true 0x30 (nines 3) (nines 128) ≡ false)
     × (stopsWith joined 0 true 0x30 (nines 3) (nines 128) ≡ true)
-unfolding begunRun carriesLow countsOn flagged frameFits frames freshPort freshPorts gainedRun groupAt groupOf groupRow inStep inStepAt outputFor portRows portsIn putGroup putMarks putMember putPackets putRow putStep readable ready refusalBy rowIn rowsFit runOn h4RunOn secondRun silent knownKind sized sizedFits sizedRows startAsRows startFits payloadRight startRight startSized startsCount stepAt stepOf stepRow storeFor tagByHigh tagByLow tags takenOf timesWithin
+unfolding receiverOpen
 stops = (refl, refl, refl, refl, refl, refl, refl, refl)
 
 unstopped : Unstopped (receiving 1 1) (Frame 2 false 0x30 (nines 3) ∷ Fetch (nines 95) (nines 8) ∷ [])
-unfolding begunRun carriesLow countsOn flagged frameFits frames freshPort freshPorts gainedRun groupAt groupOf groupRow inStep inStepAt outputFor portRows portsIn putGroup putMarks putMember putPackets putRow putStep readable ready refusalBy rowIn rowsFit runOn h4RunOn secondRun silent knownKind sized sizedFits sizedRows startAsRows startFits payloadRight startRight startSized startsCount stepAt stepOf stepRow storeFor tagByHigh tagByLow tags takenOf timesWithin
+unfolding receiverOpen
 unstopped = (refl, tt)
 
 stopped : Unstopped (receiving 1 0) (Fetch (nines 95) (nines 8) ∷ Frame 1 false 0x30 (nines 3) ∷ []) → ⊥
-unfolding begunRun carriesLow countsOn fetchFits fetchRows fits flagged frameFits frames freshPort freshPorts gainedRun groupAt groupOf groupRow inStep inStepAt outputFor portRows portsIn putGroup putMarks putMember putPackets putRow putStep readable ready refusalBy rowIn rowsFit runOn h4RunOn secondRun silent knownKind sized sizedFits sizedRows startAsRows startFits payloadRight startRight startSized startsCount stepAt stepOf stepRow storeFor tagByHigh tagByLow tags takenOf timesWithin
+unfolding receiverOpen
 stopped u = false≢true (sym (u .0))
 
 -- frames of port 0 and a fetch, none of port 1

@@ -7,6 +7,7 @@ use native.Mathlib.Omega.{arith}
 use lib.ListN.{getD, length, replicate}
 use Rattle.ground.specs.Plain.{if_then_else_, _==_}
 use Rattle.ground.specs.Table.{length-tabulate, tabulate}
+use Rattle.ground.specs.Types.{Bytes, Epoch}
 use Rattle.judge.specs.Verdict.{SURE}
 use Rattle.packet.specs.Kinds.{frames}
 use Rattle.link.specs.Assumed.{Assumed}
@@ -23,7 +24,7 @@ use Rattle.link.specs.Samples.Members.{history, link, linkBy, unranked}
 use Rattle.link.specs.Samples.Met.{met, met-by, spread-4}
 use Rattle.link.specs.Samples.Reports.{reports, reportsWith, sure}
 use Rattle.link.specs.Samples.ShutOut.{at-180, began, by-theorem, has-begun, itself, starts}
-use Rattle.link.specs.Samples.Tracing.{course, drainedBy, outcome-by, traced, turnBy, turnsBy}
+use Rattle.link.specs.Samples.Tracing.{course, outcome-by}
 
 -- in the epoch at index 6, numbered 255, each byte is one more
 abbrev otherBytes : ℕ → ℕ → ℕ
@@ -73,7 +74,7 @@ other-run
       told = reportsWith (sure 255 (193 ∷ 194 ∷ 195 ∷ 196 ∷ 197 ∷ 198 ∷ 199 ∷ 200 ∷ 201 ∷ 202 ∷ 203 ∷ 204 ∷ 205 ∷ 206 ∷ 207 ∷ 208 ∷ 209 ∷ 210 ∷ 211 ∷ 212 ∷ 213 ∷ 214 ∷ 215 ∷ 216 ∷ 217 ∷ 218 ∷ 219 ∷ 220 ∷ 221 ∷ 222 ∷ 223 ∷ 224 ∷ []));
       strange = [];
     }
-unfolding outcome course traced turnsBy turnBy drainedBy
+unfolding outcome course
 other-run = outcome-by other 180 _ refl
 
 -- By the theorem it is that report too.
@@ -135,7 +136,7 @@ both-made = (named .here, named .there)
 
 -- Two reports say the same where their marks and their bytes are equal, whichever epochs they are of and whatever stands behind the bytes.
 
-abbrev told : ℕ → ℕ → List ℕ → List ℕ → Told
+abbrev told : (e : Epoch) (mark : ℕ) (bytes : Bytes) (rest : List ℕ) → Told
 told e mark bytes rest = record { epoch = e; mark = mark; bytes = bytes; rest = rest }
 
 say-same : SaySame (told 1 3 (4 ∷ []) (5 ∷ [])) (told 2 3 (4 ∷ []) (6 ∷ []))

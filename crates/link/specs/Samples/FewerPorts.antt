@@ -30,7 +30,7 @@ use Rattle.link.specs.Samples.Computing.{outcome}
 use Rattle.link.specs.Samples.Members.{lent, output, unranked}
 use Rattle.link.specs.Samples.Met.{once, only}
 use Rattle.link.specs.Samples.Reports.{sure}
-use Rattle.link.specs.Samples.Tracing.{course, drainedBy, outcome-by, traced, turnBy, turnsBy}
+use Rattle.link.specs.Samples.Tracing.{course, outcome-by}
 
 -- the commands and reports before each epoch's start
 abbrev calls : List (List Call)
@@ -182,5 +182,5 @@ run
           ∷ [];
       strange = [];
     }
-unfolding outcome course traced turnsBy turnBy drainedBy
+unfolding outcome course
 run = outcome-by link 164 _ refl

@@ -6,6 +6,7 @@ use Prim.Native.Nat.{ℕ, zero, suc, _+_, _-_, _*_, _%_, _<_}
 use native.Mathlib.Omega.{arith}
 use lib.ListN.{length-replicate, replicate}
 use Rattle.ground.specs.Table.{tabulate}
+use Rattle.ground.specs.Types.{Epoch}
 use Rattle.judge.specs.Verdict.{SURE}
 use Rattle.packet.specs.Kinds.{epochs, frames, payloadRight, tags}
 use Rattle.phases.specs.Sizes.{knownKind, sized, startSized}
@@ -14,7 +15,7 @@ use Rattle.link.specs.FixedGroup.{AssumedFixed, FixedGroup, Numbered, fi
 use Rattle.link.specs.Link.{Link, expected}
 use Rattle.link.specs.Road.{times}
 use Rattle.link.specs.Samples.Computing.{outcome}
-use Rattle.link.specs.Samples.Tracing.{course, drainedBy, outcome-by, traced, turnBy, turnsBy}
+use Rattle.link.specs.Samples.Tracing.{course, outcome-by}
 use Rattle.link.specs.Sending.{Client}
 use Rattle.link.specs.Theorems.{demand3-fixed}
 use Rattle.link.specs.Told.{Told}
@@ -84,12 +85,12 @@ pub demanded : Demand3 link
 demanded = demand3-fixed link met
 
 -- a sure report with 48 bytes, each one more than the one before
-abbrev sure : ℕ → ℕ → Told
+abbrev sure : Epoch → ℕ → Told
 sure e from = record { epoch = e; mark = SURE; bytes = tabulate 48 (λ b. (from + b) % 256); rest = [] }
 
 -- The epochs 254, 255 and 0 come out in the order of the numbers. No frame is answered otherwise than by 0 or 12.
 run : outcome link 132 ≡ record { begun = 1; told = sure 254 240 ∷ sure 255 32 ∷ sure 0 80 ∷ []; strange = [] }
-unfolding outcome course traced turnsBy turnBy drainedBy
+unfolding outcome course
 run = outcome-by link 132 _ refl
 
 -- the reports that demand 3 says are to come

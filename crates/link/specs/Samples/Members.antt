@@ -67,7 +67,7 @@ abbrev pub lent : List ℕ
 lent = replicate 8 0xAA
 
 -- A client's group frames, and the packets as they came. Port 0 is late by some frames, and comes first in the frame times that are named.
-abbrev pub linkOf : (ℕ → ℕ → List ℕ) → Client → ℕ → (ℕ → Bool) → Link
+abbrev pub linkOf : (came : ℕ → ℕ → List ℕ) (client : Client) (late : ℕ) (lateFirst : ℕ → Bool) → Link
 linkOf came client late lateFirst =
     record {
       sending = sendingOf history 1 client unranked;
@@ -84,7 +84,7 @@ linkOf came client late lateFirst =
       lent = λ a j. lent;
     }
 
-abbrev pub linkBy : Client → ℕ → (ℕ → Bool) → Link
+abbrev pub linkBy : (client : Client) (late : ℕ) (lateFirst : ℕ → Bool) → Link
 linkBy client late lateFirst = linkOf came client late lateFirst
 
 abbrev pub linkWith : ℕ → (ℕ → Bool) → Link

@@ -13,7 +13,6 @@ use Rattle.ground.specs.Table.{length-tabulate}
 use Rattle.ground.specs.Truth.{and-left, and-right, or-cases}
 use Rattle.packet.specs.Changes.{bringsMfi2, changed, keptPart, mostChanges}
 use Rattle.packet.specs.Kinds.{epochs, frames, lead, payloadRight, tags}
-use Rattle.packet.specs.Layout.{highsOf}
 use Rattle.packet.specs.Symbols.{symbolOf}
 use Rattle.phases.specs.Sizes.{knownKind, sized, startSized}
 use Rattle.link.specs.Assumed.{Assumed}
@@ -37,7 +36,7 @@ unfolding outcome
 was-sent = refl
 
 three : changed 0 whole damaged ≡ 3
-unfolding outcome highsOf changed
+unfolding outcome
 three = refl
 
 damage : Damaged 0 3 whole damaged

@@ -13,9 +13,8 @@ use Rattle.ground.specs.Plain.{if_then_else_, _==_, _<?_}
 use Rattle.ground.specs.Table.{length-tabulate}
 use Rattle.ground.specs.Truth.{and-left, and-right}
 use Rattle.judge.specs.Verdict.{HELD, SURE}
-use Rattle.packet.specs.Changes.{bringsMfi2, changed, keptPart, mostChanges}
+use Rattle.packet.specs.Changes.{changed, keptPart, mostChanges}
 use Rattle.packet.specs.Kinds.{firstTag, frames, lead, payloadRight, tags}
-use Rattle.packet.specs.Layout.{highsOf}
 use Rattle.packet.specs.Symbols.{packetRow, symbolOf}
 use Rattle.phases.specs.Sizes.{knownKind, sized, startSized}
 use Rattle.step.specs.Laws.Positions.{startFrom}
@@ -31,7 +30,7 @@ use Rattle.link.specs.Samples.Computing.{outcome}
 use Rattle.link.specs.Samples.Members.{came, client, history, linkOf, output, sent, unranked}
 use Rattle.link.specs.Samples.Met.{allowed, arrived, mfi2-places, number-kept, once, only, spread-4}
 use Rattle.link.specs.Samples.Reports.{held, reportsWith}
-use Rattle.link.specs.Samples.Tracing.{begun-by, course, drainedBy, outcome-by, traced, turnBy, turnsBy}
+use Rattle.link.specs.Samples.Tracing.{begun-by, course, outcome-by}
 use Rattle.link.specs.Sending.{Pairing, epochAt, epochNumber}
 use Rattle.link.specs.Theorems.{demand3}
 
@@ -58,11 +57,11 @@ unfolding outcome
 next-sent = refl
 
 half-two : changed 0 half half-hit ≡ 2
-unfolding outcome highsOf changed
+unfolding outcome
 half-two = refl
 
 next-two : changed 0 next next-hit ≡ 2
-unfolding outcome highsOf changed
+unfolding outcome
 next-two = refl
 
 half-damage : Damaged 0 3 half half-hit
@@ -237,7 +236,7 @@ holds-after = demand3 after met-after
 
 -- Its run is the sample's but for the second report, which is held for the packet that rules it. No frame is answered otherwise than by 0 or 12.
 run-after : outcome after 180 ≡ record { begun = 1; told = reportsWith (held 255); strange = [] }
-unfolding outcome course traced turnsBy turnBy drainedBy
+unfolding outcome course
 run-after = outcome-by after 180 _ refl
 
 -- A wrong reading: an epoch held for the MFI2 of a packet of its own. The first epoch reported is ruled by packets that came as sent, so demand 3 wants it sure.
@@ -277,7 +276,7 @@ unready-then u earlier rest e na y =
 -- Of what demand 3 lets be so this frame alone lacks: one bit of the packet came changed, every other frame brings the nibble that was sent, and all else is so.
 
 early-one : changed 0 early early-hit ≡ 1
-unfolding outcome highsOf changed
+unfolding outcome
 early-one = refl
 
 early-damage : Damaged 0 3 early early-hit
@@ -323,7 +322,7 @@ kept-but-one t p other brings =
     (λ hi hp hk. other (let soon : _≡_ {A = ℕ} (if p == 0 then 4 else 0) 0 = rw hp refl in omega (arith, soon, hi, hk)) hp) brings
 
 not-spared : Assumed before → ⊥
-unfolding outcome bringsMfi2
+unfolding outcome
 not-spared a =
     let e : NumberKept before 41 1 = a .lines .spared 41 1 [] (0 ∷ []) (omega arith) refl (omega arith) unready-then in
     let same : _≡_ {A = ℕ} 10 11 = e refl in
@@ -331,7 +330,7 @@ not-spared a =
 
 -- before which frame times receiving had begun, the last one first
 before-begun : course before 88 .begun ≡ 1 ∷ replicate 88 0
-unfolding outcome course traced turnsBy turnBy drainedBy
+unfolding outcome course
 before-begun = refl
 
 -- The count of port 1 starts anew, and 47 frames after the last port's first receiving has not begun.
@@ -348,7 +347,7 @@ abbrev other-hit : List ℕ
 other-hit = 0xF8 ∷ 0xE9 ∷ 0x0A ∷ 0x0B ∷ 0x0C ∷ 0x0D ∷ 0x0E ∷ 0x0F ∷ 0xF0 ∷ 0xB1 ∷ 0x02 ∷ 0x13 ∷ 0x04 ∷ 0x05 ∷ 0x26 ∷ 0x87 ∷ []
 
 other-three : changed 0 early other-hit ≡ 3
-unfolding outcome highsOf changed
+unfolding outcome
 other-three = refl
 
 other-damage : Damaged 0 3 early other-hit

@@ -1,21 +1,22 @@
 -- The run of the sample link, computed to its reports.
 use mathlib.Core.Path.{_≡_, refl, ap}
 use mathlib.Core.List.{List, [], _∷_, _++_}
-use Prim.Native.Nat.{ℕ, _+_}
+use Prim.Native.Nat.{_+_}
 use native.Mathlib.Omega.{arith}
 use lib.ListN.{drop, getD, length, replicate}
 use Rattle.ground.specs.Table.{tabulate}
+use Rattle.ground.specs.Types.{Bytes, Epoch}
 use Rattle.judge.specs.Verdict.{HELD, SURE}
 use Rattle.link.specs.Link.{expected}
 use Rattle.link.specs.Told.{Told}
 use Rattle.link.specs.Samples.Computing.{outcome}
 use Rattle.link.specs.Samples.Members.{link, output}
-use Rattle.link.specs.Samples.Tracing.{Course, begun-by, course, drainedBy, outcome-by, traced, turnBy, turnsBy}
+use Rattle.link.specs.Samples.Tracing.{Course, begun-by, course, outcome-by}
 
-abbrev pub sure : ℕ → List ℕ → Told
+abbrev pub sure : Epoch → Bytes → Told
 sure e bytes = record { epoch = e; mark = SURE; bytes = bytes; rest = drop (length bytes) output }
 
-abbrev pub held : ℕ → Told
+abbrev pub held : Epoch → Told
 held e = record { epoch = e; mark = HELD; bytes = []; rest = output }
 
 -- six reports, of which the second is given
@@ -34,7 +35,7 @@ reports = reportsWith (sure 255 (192 ∷ 193 ∷ 194 ∷ 195 ∷ 196 ∷ 197 ∷
 
 -- The run, computed once: its outcome after frame time 179, and before which frame times receiving had begun, the last one first.
 whole : course link 180 ≡ record { outcome = record { begun = 1; told = reports; strange = [] }; begun = replicate 125 1 ++ replicate 56 0 }
-unfolding outcome course traced turnsBy turnBy drainedBy reports
+unfolding outcome course reports
 whole = refl
 
 -- The last port's first frame comes in frame time 21. Receiving begins in frame time 55, at the 35th frame from that one.

@@ -36,7 +36,7 @@ module _ (r : Road) where
   drained-by zero m = refl
   drained-by (suc k) m = first-by (getD (recordAt r m) 0 0 == 0) m (drained r k (fetched r m)) (drainedBy k (fetched r m)) (drained-by k (fetched r m))
 
-  unfoldable pub turnBy : ℕ → ℕ → Moment → Moment
+  unfoldable pub turnBy : (t port : ℕ) (m : Moment) → Moment
   turnBy t p m = elim (r .delay p + r .first p ≤? t) [ true ↦ drainedBy (r .window) (framed r p (t - r .delay p) m) | false ↦ m ]
 
   turn-by : (t p : ℕ) (m : Moment) → turn r t p m ≡ turnBy t p m
@@ -45,7 +45,7 @@ module _ (r : Road) where
       second-by (r .delay p + r .first p ≤? t) m (drained r (r .window) (framed r p (t - r .delay p) m)) (drainedBy (r .window) (framed r p (t - r .delay p) m))
       (drained-by (r .window) (framed r p (t - r .delay p) m))
 
-  unfoldable pub turnsBy : ℕ → List ℕ → Moment → Moment
+  unfoldable pub turnsBy : (t : ℕ) (ports : List ℕ) (m : Moment) → Moment
   turnsBy t [] m = m
   turnsBy t (p ∷ ps) m = turnsBy t ps (turnBy t p m)
 
@@ -78,6 +78,7 @@ pub record Course : Type 0 where
   pub begun : List ℕ
 
 unfoldable pub course : Link → ℕ → Course
+unfolding traced turnsBy turnBy drainedBy
 course k t = let s = traced (roadOf k) t (started k) in record { outcome = outcomeOf (s .moment); begun = s .begun }
 
 pub outcome-by : (k : Link) (t : ℕ) (o : Outcome) → course k t .outcome ≡ o → outcome k t ≡ o

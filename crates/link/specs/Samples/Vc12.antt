@@ -17,7 +17,7 @@ use Rattle.judge.specs.Verdict.{HELD, SURE, judgeOf}
 use Rattle.packet.specs.Changes.{bringsMfi2, changed, keptPart, mostChanges}
 use Rattle.packet.specs.Kinds.{epochs, firstTag, frames, knownKind, lead, payloadRight, tags, vc12Kind}
 use Rattle.packet.specs.Symbols.{packetRow}
-use Rattle.packet.specs.Vc12.{lowestOf, readVc12Bits, readVc12Row, rowBits, vc12Bits, vc12Bytes, vc12Data, vc12Divisor, vc12Fields, vc12Fits, writeVc12Bytes}
+use Rattle.packet.specs.Vc12.{lowestOf}
 use Rattle.phases.specs.Sizes.{sized, startSized}
 use Rattle.sender.specs.Calls.{Call}
 use Rattle.sender.specs.Calls.Call.{AddSlot, Report}
@@ -96,7 +96,7 @@ unfolding epochs
 allowed = record { lcas = refl; some = omega arith; most = omega arith; first = omega arith; gid = λ i. omega arith; mst = λ i. omega arith; ack = λ i. omega arith }
 
 was-sent : sent 5 1 ≡ whole
-unfolding outcome writeVc12Bytes vc12Fits vc12Bytes vc12Bits vc12Data vc12Divisor
+unfolding outcome
 was-sent = refl
 
 one : changed vc12Kind whole hit ≡ 1
@@ -240,7 +240,7 @@ held e = record { epoch = e; mark = HELD; bytes = []; rest = output }
 
 -- The reports that demand 3 says are to come: the epochs 31, 0 and 1, of which the packet that came changed rules the second.
 as-expected : tabulate 3 (λ j. expected link (4 + j) (link .output j)) ≡ sure 31 160 ∷ held 0 ∷ sure 1 224 ∷ []
-unfolding outcome writeVc12Bytes vc12Fits vc12Bytes vc12Bits vc12Data vc12Divisor
+unfolding outcome
 as-expected = refl
 
 -- A wrong reading: two changed bits allowed, as of H4 three are. Of NORM 0, NORM 1 and EOS 2 of the epoch at index 4 the first two come with bits 11 and 18, counted from 1, changed, both outside the count and with the start as sent.
@@ -254,7 +254,7 @@ abbrev eos-2 : List ℕ
 eos-2 = 3 ∷ 1 ∷ 1 ∷ 1 ∷ 0 ∷ 0 ∷ 0 ∷ 0 ∷ 0 ∷ 1 ∷ 0 ∷ 0 ∷ 0 ∷ 1 ∷ 1 ∷ 1 ∷ 0 ∷ 0 ∷ 0 ∷ 0 ∷ 0 ∷ 1 ∷ 1 ∷ 1 ∷ 1 ∷ 1 ∷ 1 ∷ 1 ∷ 1 ∷ 1 ∷ 0 ∷ 0 ∷ []
 
 all-sent : tabulate 3 (packetSent history 4) ≡ norm-0 ∷ norm-1 ∷ eos-2 ∷ []
-unfolding outcome writeVc12Bytes vc12Fits vc12Bytes vc12Bits vc12Data vc12Divisor
+unfolding outcome
 all-sent = refl
 
 abbrev twice : List ℕ → List ℕ
@@ -293,5 +293,5 @@ seen came = let r = ownRuling vc12Kind 30 (packetRow vc12Kind came) in record { 
 two-break : (judgeOf vc12Kind (seen (twice norm-0) ∷ seen (twice norm-1) ∷ seen eos-2 ∷ []) 3 ≡ SURE)
     × (tabulate 3 (portOf (seen (twice norm-0) ∷ seen (twice norm-1) ∷ seen eos-2 ∷ []) 3) ≡ 1 ∷ 0 ∷ 2 ∷ [])
     × (tabulate 3 (portOf (seen norm-0 ∷ seen norm-1 ∷ seen eos-2 ∷ []) 3) ≡ 0 ∷ 1 ∷ 2 ∷ [])
-unfolding outcome readVc12Row readVc12Bits rowBits vc12Fields vc12Divisor
+unfolding outcome
 two-break = (refl, refl, refl)

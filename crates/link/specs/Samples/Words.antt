@@ -6,45 +6,20 @@ use Prim.Native.Nat.{_%_, _*_, _+_, _-_, ℕ}
 use lib.ListN.{length, replicate}
 use Rattle.ground.specs.Plain.{if_then_else_, _==_, _<?_}
 use Rattle.ground.specs.Table.{tabulate}
-use Rattle.judge.specs.Verdict.{doubtfulBy, eosWrong, gidDiffers, heldBy, judgeOf, lcasVerdict, missing, repeats}
-use Rattle.packet.specs.Counts.{counts, h4Counts, startsCount}
-use Rattle.packet.specs.Kinds.{epochAfter, epochOf, epochs, firstTag, frames, idleNumber, lead, mstEpochs, mstFails, mstFirst, mstNumbers, payloadRight, tagBefore, tags}
-use Rattle.packet.specs.Layout.{fieldsOf}
-use Rattle.packet.specs.Symbols.{entryAt, entryFrom, entryWith, rowFrom, symbolOf, withSymbol}
-use Rattle.phases.specs.Due.{brought, owesNothing}
-use Rattle.phases.specs.Passing.{passedGroup, passedOf, passedPort, passedPorts, passedStep, ruledBy}
-use Rattle.phases.specs.Sizes.{knownKind, portsIn, sized, startSized, storeFor}
-use Rattle.receiver.specs.Fetch.{dueIn, fetchRecord, fetchRows, fits, recordOf, reportIfDue, rowsIfDue}
-use Rattle.receiver.specs.Frame.{frameAnswer, refusalBy}
-use Rattle.receiver.specs.Lengths.{fetchFits, frameFits, outputFor, rowsFit}
-use Rattle.receiver.specs.Report.{reportBy, reportOf as reportSeen, reportedOf, rulingEpoch, seenAll, seenOf, statePut, statesPut, statesWorkedOut}
-use Rattle.receiver.specs.Starting.{freshPort, freshPorts, sizedFits, sizedRows, startAsRows, startFits, startRight, timesWithin}
-use Rattle.rows.specs.Group.{groupAt, groupOf, groupRow, putGroup}
-use Rattle.rows.specs.Member.{putMember}
-use Rattle.rows.specs.Packets.{marksAt, packetsAt, putMarks, putPackets}
-use Rattle.rows.specs.Rows.{putRow, rowIn}
-use Rattle.rows.specs.Step.{putStep, stepAt, stepOf, stepRow}
+use Rattle.rows.specs.Group.{groupAt, putGroup}
+use Rattle.rows.specs.Packets.{putMarks}
+use Rattle.rows.specs.Step.{putStep}
 use Rattle.rows.specs.declared.step.Step.{Step}
-use Rattle.sender.specs.Board.{boardOf, highest as highestSent, noRow, rowOf, rowsOf}
 use Rattle.sender.specs.Calls.Call.{AddSlot, Lapse, RemoveSlot, Report}
-use Rattle.sender.specs.Commands.{addOf, addedTo, fallen, fallenIn, freshOf, idleSlot, lapseOf, removeOf, removedFrom, startOf}
-use Rattle.sender.specs.Epochs.{beginOf, freshSender, packetFields, payloadBytes, startEpochOf, startedEpoch, startedSender}
-use Rattle.sender.specs.Ranks.{carriersIn, rankAt, rankOf as rankSent}
-use Rattle.sender.specs.Reports.{actedOn, comesBefore, mstApplied, numberAfter, numberApplied, opensWait, renumbered, reportOf as reportHeard, slotAfter, turnOf, waited}
-use Rattle.sender.specs.Table.{holderOf, membersOf, sizeOf}
 use Rattle.step.specs.Laws.Positions.{startFrom}
-use Rattle.step.specs.Arrival.{arrives, countsOn, frameDropped, inStep, readable, takenOf}
-use Rattle.step.specs.OwnCount.{ownNumber, ownRuling}
-use Rattle.step.specs.Run.{begunRun, furtherRun, gainedRun, h4RunOn, inStepAt, runOn}
-use Rattle.store.specs.Frames.{byteAt, h4At, packetIn, placeIn, ringOf}
-use Rattle.store.specs.Marks.{firstMark, passedByte, passedMarks}
 use Rattle.link.specs.FixedGroup.{sendingFixed}
-use Rattle.link.specs.History.{History, fieldsSent, hasRank, numberSent, payloadSent, senderAt, sendingOf, wordSent, xAt}
-use Rattle.link.specs.Link.{Link, allAsSent, clientBytes, expected, framesOf, roadOf, sentTo}
+use Rattle.link.specs.History.{History, fieldsSent, hasRank, numberSent, payloadSent, sendingOf, wordSent, xAt}
+use Rattle.link.specs.Link.{Link, allAsSent, clientBytes, expected, roadOf, sentTo}
 use Rattle.link.specs.Moments.{coming, nextAt, says, saysOne}
 use Rattle.link.specs.Road.{Road}
-use Rattle.link.specs.Running.{Moment, drained, fetched, framed, fresh}
-use Rattle.link.specs.Sending.{Client, Sending, epochNumber}
+use Rattle.link.specs.Running.{Moment, drained, framed, fresh}
+use Rattle.link.specs.Sending.{Client, Sending}
+use Rattle.link.specs.Opened.{linkOpen}
 
 -- Three slots from epoch 255 on: slots 1 and 2 are active under 0 and 1 before it starts, and slot 2 is removed before the next. GID and RS-Ack change from epoch to epoch.
 abbrev history : History
@@ -88,7 +63,7 @@ sent-words :
     × (sending .payload 16 2 ≡ 11 ∷ 13 ∷ [])
     × (sending .payload 16 0 ≡ 0xD0 ∷ 16 ∷ [])
     × (sending .payload 15 1 ≡ 0xD1 ∷ 15 ∷ [])
-unfolding actedOn addOf addedTo beginOf boardOf carriersIn comesBefore epochAfter epochs fallen fallenIn frames freshOf freshSender hasRank highestSent holderOf idleNumber idleSlot lapseOf membersOf mstApplied mstFails mstFirst mstEpochs mstNumbers noRow numberAfter numberApplied opensWait packetFields payloadBytes payloadRight payloadSent rankAt rankSent removeOf removedFrom renumbered reportHeard rowOf rowsOf senderAt sizeOf slotAfter startEpochOf startOf startedEpoch startedSender turnOf waited
+unfolding linkOpen
 sent-words = (refl, refl, refl, refl, refl, refl, refl, refl, refl, refl, refl, refl, refl, refl, refl, refl, refl, refl, refl, refl)
 
 -- two slots of a fixed group, slot 0 with number 1
@@ -153,7 +128,7 @@ road-words :
     × (saysOne road 10 1 ≡ [])
     × (saysOne road 11 1 ≡ 12 ∷ [])
     × (says road 8 (1 ∷ 0 ∷ []) ≡ 12 ∷ [])
-unfolding actedOn addOf addedTo allAsSent beginOf boardOf carriersIn comesBefore coming epochAfter epochNumber epochs expected fallen fallenIn firstTag frames framesOf freshOf freshSender hasRank highestSent holderOf idleNumber idleSlot lapseOf lead membersOf mstApplied mstFails mstFirst mstEpochs mstNumbers nextAt noRow numberAfter numberApplied opensWait packetFields payloadBytes payloadRight payloadSent rankAt rankSent removeOf removedFrom renumbered reportHeard roadOf rowOf rowsOf senderAt sizeOf slotAfter startEpochOf startFrom startOf startedEpoch startedSender tags turnOf waited
+unfolding linkOpen startFrom
 road-words = (refl, refl, refl, refl, refl, refl, refl, refl, refl, refl, refl, refl, refl, refl, refl, refl, refl, refl, refl, refl, refl)
 
 abbrev zeros : ℕ → List ℕ
@@ -232,5 +207,5 @@ run-words :
     × (length (drained alone 1 both-due .told) ≡ 1)
     × (length (drained alone 2 both-due .told) ≡ 2)
     × (length (drained alone 3 both-due .told) ≡ 2)
-unfolding arrives beginOf begunRun boardOf brought byteAt counts h4Counts countsOn doubtfulBy drained dueIn eosWrong epochAfter epochOf epochs fetchFits fetchRecord fetchRows fetched fieldsOf firstMark firstTag fits frameAnswer frameDropped frameFits framed frames fresh freshOf freshPort freshPorts freshSender furtherRun gainedRun gidDiffers groupAt groupOf groupRow h4At hasRank heldBy idleSlot inStep inStepAt judgeOf lcasVerdict lead marksAt missing entryAt entryFrom entryWith rowFrom symbolOf withSymbol outputFor owesNothing ownNumber ownRuling packetIn packetsAt passedByte passedGroup passedMarks passedOf passedPort passedPorts passedStep placeIn portsIn putGroup putMarks putMember putPackets putRow putStep rankAt readable recordOf refusalBy repeats reportBy reportIfDue reportSeen reportedOf ringOf roadOf rowIn rowOf rowsFit rowsIfDue rowsOf ruledBy rulingEpoch runOn h4RunOn seenAll seenOf senderAt sizeOf knownKind sized sizedFits sizedRows startAsRows startEpochOf startFits startOf payloadRight startRight startSized startedSender startsCount statePut statesPut statesWorkedOut stepAt stepOf stepRow storeFor tagBefore tags takenOf timesWithin
+unfolding linkOpen
 run-words = (refl, refl, refl, refl, refl, refl, refl, refl)

@@ -6,12 +6,9 @@ use mathlib.Core.List.{List, [], _∷_, _++_}
 use Prim.Native.Nat.{ℕ, _+_}
 use native.Mathlib.Omega.{arith}
 use lib.ListN.{replicate}
-use Rattle.packet.specs.Kinds.{mstEpochs, mstFails}
+use Rattle.packet.specs.Kinds.{mstEpochs}
 use Rattle.packet.specs.Layout.{h4Of, nibblesOf}
 use Rattle.packet.specs.Words.{ADD}
-use Rattle.receiver.specs.Shown.{replyOf}
-use Rattle.receiver.specs.Starting.{sizedAnswer, startAsAnswer}
-use Rattle.reply.specs.Telling.{mstFrom, mstOf, okHolds}
 use Rattle.sender.specs.Numbering.{stateIn}
 use Rattle.sender.specs.Table.{isActive}
 use Rattle.invariant.specs.Calls.{Receiver, ReceiverCall, receiverAfter}
@@ -66,7 +63,7 @@ trial =
     }
 
 right : Right trial
-unfolding outcome startAsAnswer sizedAnswer runBy checks allChecks replyOf mstOf mstFrom okHolds tableOf mstFails
+unfolding outcome runBy checks allChecks tableOf
 right =
     record {
       below-count = omega arith;

@@ -8,12 +8,8 @@ use native.Mathlib.Omega.{arith}
 use lib.ListN.{replicate}
 use borrow.Author.Tests.{ne-eqb}
 use Rattle.ground.specs.Plain.{if_then_else_, _==_, _<?_}
-use Rattle.packet.specs.Kinds.{mstEpochs, payloadRight}
+use Rattle.packet.specs.Kinds.{mstEpochs}
 use Rattle.packet.specs.Words.{ADD, EOS, IDLE}
-use Rattle.phases.specs.Sizes.{knownKind, sized, startSized}
-use Rattle.receiver.specs.Shown.{replyOf}
-use Rattle.receiver.specs.Starting.{timesWithin}
-use Rattle.reply.specs.Telling.{mstFrom, mstOf, okHolds}
 use Rattle.sender.specs.declared.table.Answer.the-variants.{Done}
 use Rattle.sender.specs.Calls.Call.{AddSlot}
 use Rattle.sender.specs.Commands.{addOf}
@@ -23,7 +19,7 @@ use Rattle.link.specs.History.{senderAt}
 use Rattle.link.specs.Road.{times}
 use Rattle.link.specs.Running.{hasBegun}
 use Rattle.link.specs.Samples.Computing.{outcome}
-use Rattle.link.specs.Samples.Tracing.{drainedBy, turnBy, turnsBy}
+use Rattle.link.specs.Samples.Tracing.{course}
 use Rattle.sure_add.specs.Joined.{Adding, tableAt}
 use Rattle.sure_add.specs.Samples.Looped.{Case, Right, history, joined, link, met, receiver, report, told}
 use Rattle.sure_add.specs.Samples.Starts.{begun-at, starts}
@@ -52,7 +48,7 @@ once : (p : ℕ) → p < 1 → times p (0 ∷ []) ≡ 1
 once p h = let e : p ≡ 0 = omega arith in rw e refl
 
 right : Right case
-unfolding outcome starts turnsBy turnBy drainedBy replyOf mstOf mstFrom okHolds knownKind payloadRight sized startSized timesWithin
+unfolding outcome course starts
 right =
     record {
       some = omega arith;
@@ -70,7 +66,7 @@ right =
     }
 
 begun-then : hasBegun (starts (link case) (receiver case) 26 5 .moment) ≡ 1
-unfolding outcome starts turnsBy turnBy drainedBy
+unfolding outcome course starts
 begun-then = refl
 
 active-then : (isActive (stateIn (senderAt (history case) 38 .table) 0) ≡ false) × (isActive (stateIn (senderAt (history case) 39 .table) 0) ≡ true)

@@ -8,12 +8,9 @@ use native.Mathlib.Omega.{arith}
 use lib.ListN.{replicate}
 use borrow.Author.Tests.{lt-ltb}
 use Rattle.ground.specs.Plain.{_<?_}
-use Rattle.packet.specs.Kinds.{mstEpochs, mstFails}
+use Rattle.packet.specs.Kinds.{mstEpochs}
 use Rattle.packet.specs.Layout.{h4Of, nibblesOf}
 use Rattle.packet.specs.Words.{ADD, EOS, IDLE}
-use Rattle.receiver.specs.Shown.{replyOf}
-use Rattle.receiver.specs.Starting.{sizedAnswer, startAsAnswer}
-use Rattle.reply.specs.Telling.{mstFrom, mstOf, okHolds}
 use Rattle.sender.specs.Calls.Call.{AddSlot, Lapse, Report}
 use Rattle.sender.specs.Numbering.{stateIn}
 use Rattle.sender.specs.Table.{isActive}
@@ -73,7 +70,7 @@ trial =
     }
 
 right : Right trial
-unfolding outcome startAsAnswer sizedAnswer runBy checks allChecks replyOf mstOf mstFrom okHolds tableOf mstFails
+unfolding outcome runBy checks allChecks tableOf
 right =
     record {
       below-count = omega arith;

@@ -1,0 +1,19 @@
+-- All that this crate and those below it define, opened under one name for examples that are computed. A new definition is named here, and nowhere else.
+use Prim.Native.Nat.{ℕ}
+use Rattle.phases.specs.Opened.{phasesOpen}
+use Rattle.judge.specs.Opened.{judgeOpen}
+use Rattle.reply.specs.Opened.{replyOpen}
+use Rattle.receiver.specs.Fetch.{dueIn, fetchAnswer, fetchOut, fetchRecord, fetchRows, fits, outIfDue, recordOf, reportIfDue, rowsIfDue}
+use Rattle.receiver.specs.Frame.{frameAnswer, frameRows, frameStore, gatheredBy, marksBy, portRows, refusalBy, settledBy, steadyRows, storeBy, takenRows, takenStore}
+use Rattle.receiver.specs.Lengths.{fetchFits, frameFits, outputFor, rowsFit}
+use Rattle.receiver.specs.Report.{frameInto, framesInto, outputBy, outputOf, replyPort, replyPorts, reportBy, reportOf, reportedOf, rulingEpoch, seenAll, seenOf, startsOf, statePut, statesPut, statesWorkedOut, withState}
+use Rattle.receiver.specs.Shown.{portIn, portShown, portsAnswer, portsOut, replyAnswer, replyFit, replyOf, replyOut, shownFit}
+use Rattle.receiver.specs.Starting.{freshPort, freshPorts, sizedAnswer, sizedFits, sizedRows, startAsAnswer, startAsRows, startFits, startRight, timesWithin}
+
+unfoldable pub receiverOpen : ℕ
+unfolding phasesOpen judgeOpen replyOpen dueIn fetchAnswer fetchOut fetchRecord fetchRows fits outIfDue recordOf reportIfDue rowsIfDue frameAnswer
+    frameRows frameStore gatheredBy marksBy portRows refusalBy settledBy steadyRows storeBy takenRows takenStore fetchFits frameFits outputFor rowsFit
+    frameInto framesInto outputBy outputOf replyPort replyPorts reportBy reportOf reportedOf rulingEpoch seenAll seenOf startsOf statePut statesPut
+    statesWorkedOut withState portIn portShown portsAnswer portsOut replyAnswer replyFit replyOf replyOut shownFit freshPort freshPorts sizedAnswer
+    sizedFits sizedRows startAsAnswer startAsRows startFits startRight timesWithin
+receiverOpen = 0

@@ -1,0 +1,17 @@
+-- All that this crate and those below it define, opened under one name for examples that are computed. A new definition is named here, and nowhere else.
+use Prim.Native.Nat.{ℕ}
+use Rattle.bytes.specs.Bytes.{indexAfter, indexOf}
+use Rattle.recording.specs.Opened.{recordingOpen}
+use Rattle.receiver.specs.Opened.{receiverOpen}
+use Rattle.replaying.specs.Deeds.{wantsWithin}
+use Rattle.replaying.specs.Output.{answerText, countIn, epochText, markText, portText, reportText, stateAt, stateLine, stateText, statesIn}
+use Rattle.replaying.specs.Runs.{called, calls, deskAfter, saidTo, wholeOutput}
+use Rattle.replaying.specs.Turn.{answeredSaid, answeredTurn, fetchOutBy, fetchRecordBy, fetchRowsBy, fetchedSaid, fetchedTurn, framedRows, framedStore, framedTurn, isLent, openRows, openSaid, openTurn, openWithRows, openWithSaid, openWithTurn, payloadAt, readOnTurn, readRows, readSaid, readStore, readTurn, recordNow, reportOf, reportOut, reportRows, reportSaid, reportTurn, reportedTurn, skipTurn, startable, startedRows, timesFit, turnOf, turnOut, turnRows, turnSaid, turnStore}
+
+unfoldable pub replayingOpen : ℕ
+unfolding recordingOpen receiverOpen indexAfter indexOf wantsWithin answerText countIn epochText markText portText reportText stateAt stateLine
+    stateText statesIn called calls deskAfter saidTo wholeOutput answeredSaid answeredTurn fetchOutBy fetchRecordBy fetchRowsBy fetchedSaid
+    fetchedTurn framedRows framedStore framedTurn isLent openRows openSaid openTurn openWithRows openWithSaid openWithTurn payloadAt readOnTurn
+    readRows readSaid readStore readTurn recordNow reportOf reportOut reportRows reportSaid reportTurn reportedTurn skipTurn startable startedRows
+    timesFit turnOf turnOut turnRows turnSaid turnStore
+replayingOpen = 0
