@@ -2,6 +2,7 @@
 use Prim.Native.Nat.{ℕ}
 use Rattle.bytes.specs.Bytes.{indexAfter, indexOf}
 use Rattle.c_face.specs.Boards.{boardByte, boardBytesOf, rankByte, ranksBytesOf, shownAnswerC, shownBytes}
+use Rattle.c_face.specs.CardCalls.{slotsOf}
 use Rattle.c_face.specs.Cards.{callAnswerOn, callStateOn, cardOf, ownersIn, packetAnswerOn, packetBytesOn, partIn, payloadAnswerOn, payloadBytesOn, putOwn, refusalOf, shownAnswerOn, shownBytesOn, startAnswerOn, startStateOn}
 use Rattle.c_face.specs.Changes.{appliedAnswerC, appliedBytesC, changesByte, changesBytesOf, changesFrom, comparedAnswerC, comparedBytesC, listFrom, spokenAnswerC, spokenBytesC, writtenC}
 use Rattle.c_face.specs.Keeping.{bytesOf, rowsIn, slotsIn}
@@ -136,7 +137,7 @@ use Rattle.text.specs.Text.{linesOf}
 use Rattle.text.specs.Text.{fieldsOf as fieldsOf-text-Text}
 
 unfoldable pub allOpen : ℕ
-unfolding indexAfter indexOf boardByte boardBytesOf rankByte ranksBytesOf shownAnswerC shownBytes callAnswerOn callStateOn cardOf ownersIn
+unfolding indexAfter indexOf boardByte boardBytesOf rankByte ranksBytesOf shownAnswerC shownBytes slotsOf callAnswerOn callStateOn cardOf ownersIn
     packetAnswerOn packetBytesOn partIn payloadAnswerOn payloadBytesOn putOwn refusalOf shownAnswerOn shownBytesOn startAnswerOn startStateOn
     appliedAnswerC appliedBytesC changesByte changesBytesOf changesFrom comparedAnswerC comparedBytesC listFrom spokenAnswerC spokenBytesC writtenC
     byteAt-c_face-Keeping bytesOf rowsIn senderOf-c_face-Keeping slotsIn mendedLengthC notesLengthC kindAnswerOn kindStateOn orderAnswerOn orderAnswersOn orderStateOn
