@@ -1,4 +1,5 @@
 pub mod Boards
+pub mod CardCalls
 pub mod Cards
 pub mod Changes
 pub mod Keeping

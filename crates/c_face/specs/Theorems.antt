@@ -1,4 +1,5 @@
 -- What the C calls are, proved on the definitions.
+pub mod CardApart
 pub mod CardRuns
 pub mod CratesOwn
 pub mod Ordered

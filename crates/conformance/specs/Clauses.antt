@@ -1,6 +1,7 @@
 -- Clauses of definitions that the examples of 01 and of the requests do not reach, worked out apart: what refuses such a clause made wrong together with its code.
 pub mod Arriving
 pub mod Calls
+pub mod CardLists
 pub mod Cards
 pub mod Counting
 pub mod Files

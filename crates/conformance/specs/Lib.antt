@@ -17,6 +17,7 @@ pub mod Refusals
 pub mod Replays
 pub mod Rows
 pub mod SameBytes
+pub mod SameCardBytes
 pub mod SentInC
 pub mod Waiting
 pub mod Waits

@@ -17,7 +17,6 @@ use Rattle.circuits.specs.declared.card.Card.{Card}
 use Rattle.circuits.specs.declared.card.CardOutcome.{CardOutcome}
 use Rattle.circuits.specs.Answers.{answerNumber}
 use Rattle.circuits.specs.Calls.{Call, outcomeOf}
-use Rattle.circuits.specs.Calls.Call.{Claim, Release, AddSlot, RemoveSlot, Report, Lapse, StartEpoch}
 use Rattle.circuits.specs.Commands.{sentOf, startOf}
 use Rattle.circuits.specs.Laws.Alike.{Alike, AlikeAfter, alike-call}
 use Rattle.circuits.specs.Laws.GroupSender.{put-back, sender-number}
@@ -33,9 +32,10 @@ use Rattle.sender.specs.declared.epochs.Sender.{Sender}
 use Rattle.sender.specs.Epochs.{SenderCall, senderOutcomeOf}
 use Rattle.sender.specs.Table.{answerNumber as senderNumber}
 use Rattle.sender.specs.Theorems.Epochs.{Demand2Kept}
+use Rattle.c_face.specs.CardCalls.{fitting}
 use Rattle.c_face.specs.Cards.{areEpochs, callAnswerOn, callStateOn, cardOf, isCard, keptCard, ownersIn, partAt, partIn, putCard, putOwn, startAnswerOn, startStateOn}
 use Rattle.c_face.specs.Keeping.{byteAt, bytesOf, senderOf}
-use Rattle.c_face.specs.Senders.{areBytes, noStart}
+use Rattle.c_face.specs.Senders.{noStart}
 use Rattle.c_face.specs.Theorems.Round.{round}
 use Rattle.c_face.specs.Theorems.Runs.{Keepable, call-given, keepable-begin, keepable-call, keepable-whole, refuses}
 
@@ -281,16 +281,6 @@ unfit-keeps state c g k o =
     rw (eq-eqb (length state) 858 (o .sized)) (cond-by (λ t. KeepsCard t c) (ltb g 2) state state (λ t. o) (λ t. o))
 
 -- Runs of C calls.
-
--- what a C call asks of its numbers
-abbrev pub fitting : Call → Bool
-fitting (Claim i) = true
-fitting (Release i) = true
-fitting (AddSlot i) = true
-fitting (RemoveSlot i) = true
-fitting (Report e mst ack) = areBytes e mst ack
-fitting Lapse = true
-fitting (StartEpoch gid mst ack) = areBytes gid mst ack
 
 abbrev pub fits : Asked → Bool
 fits (Do k) = fitting k

@@ -20,10 +20,11 @@ use Rattle.circuits.specs.Views.Asked.{Do}
 use Rattle.orders.specs.declared.commands.Kind as K
 use Rattle.orders.specs.Laws.Folding.{cut-numbers, cut-state, stateAt}
 use Rattle.orders.specs.Orders.{callBy}
+use Rattle.c_face.specs.CardCalls.{fitting}
 use Rattle.c_face.specs.Cards.{callAnswerOn, callStateOn, cardOf, isCard, keptCard, partAt, putOwn}
 use Rattle.c_face.specs.Keeping.{byteAt, stateBytes}
 use Rattle.c_face.specs.Orders.{commandAnswerOn, commandStateOn, kindAnswerOn, kindOf, kindStateOn, orderAnswerOn, orderAnswersOn, orderStateOn, ordersOn}
-use Rattle.c_face.specs.Theorems.CardRuns.{fitting, refused-stands, stateAfterAll}
+use Rattle.c_face.specs.Theorems.CardRuns.{refused-stands, stateAfterAll}
 
 -- ---- no call changes how many bytes there are
 
@@ -68,7 +69,7 @@ numberOn s c = cond (ltb 3 (getD c 0 0)) 8 (callAnswerOn true (getD c 1 0) (call
 abbrev pub numbersOn : List ℕ → List (List ℕ) → List ℕ
 numbersOn s cs = tabulate (length cs) (λ i. numberOn (stateAfterAll s (singlesIn (take i cs))) (getD cs i []))
 
-all-fit : (k : K.Kind) (i : ℕ) → fitting (callBy k i) ≡ true
+pub all-fit : (k : K.Kind) (i : ℕ) → fitting (callBy k i) ≡ true
 all-fit K.Kind.Add i = refl
 all-fit K.Kind.Remove i = refl
 all-fit K.Kind.Claim i = refl
