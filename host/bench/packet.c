@@ -1,7 +1,8 @@
 /* Times levelspruce_packet_read beside a check bit by bit in Rust and in C and the reference in Rust, one after the other in
  * one process, round by round, on the same packets. A line for packets as written and one for packets with a bit changed: the
  * median of the rounds in nanoseconds a packet, and the ratio to each form. Time is that for which the process had a processor.
- * With BEFORE also beside the same call of another archive; as_before.c has held the two to each other by then.
+ * With BEFORE also beside the same call of another archive; as_before.c has held the two to each other by then. With MANY also 64
+ * packets in one call, which takes the table of shares once for all of them, as a fetch does (many.rt).
  */
 #define _POSIX_C_SOURCE 199309L
 #include "levelspruce.h"
@@ -12,38 +13,54 @@
 
 typedef uint8_t call(const uint8_t *h4, size_t h4_length, uint8_t *fields, size_t fields_length);
 
+typedef uint8_t calls(const uint8_t (*h4)[LEVELSPRUCE_PACKET_BYTES], size_t packets, uint8_t *fields, size_t fields_length);
+
 call before_packet_read, gcc_read, clang_read, rust_read, rust_bits_read;
+calls bench_packets_read;
 
 static const struct form {
     const char *name;
     call *read;
+    calls *read_many;
 } forms[] = {
-    {"proved", levelspruce_packet_read},
+    {"proved", levelspruce_packet_read, NULL},
+#ifdef MANY
+    {"proved, 64 in a call", NULL, bench_packets_read},
+#endif
 #ifdef BEFORE
-    {"before", before_packet_read},
+    {"before", before_packet_read, NULL},
 #endif
-    {"Rust bit by bit", rust_bits_read},
-    {"gcc", gcc_read},
+    {"Rust bit by bit", rust_bits_read, NULL},
+    {"gcc", gcc_read, NULL},
 #ifdef CLANG
-    {"clang", clang_read},
+    {"clang", clang_read, NULL},
 #endif
-    {"the reference in Rust", rust_read},
+    {"the reference in Rust", rust_read, NULL},
 };
 
-enum { FORMS = sizeof forms / sizeof *forms, ROUNDS = 101, PACKETS = 4096 };
+#ifdef MANY
+enum { OWN = 2 }; /* how many of them are ours */
+#else
+enum { OWN = 1 };
+#endif
+enum { FORMS = sizeof forms / sizeof *forms, ROUNDS = 101, PACKETS = 4096, TOGETHER = 64 };
 
 static uint8_t packets[PACKETS][LEVELSPRUCE_PACKET_BYTES], fields[PACKETS][LEVELSPRUCE_FIELDS_BYTES];
 static uint8_t first[PACKETS][LEVELSPRUCE_FIELDS_BYTES];
 
 /* nanoseconds a packet, one round over all packets */
-static double round_of(call *f, uint8_t answer)
+static double round_of(const struct form *f, uint8_t answer)
 {
+    const int step = f->read_many ? TOGETHER : 1;
     double begun = now(CLOCK_PROCESS_CPUTIME_ID);
-    for (int i = 0; i < PACKETS; i++)
-        if (f(packets[i], sizeof packets[i], fields[i], sizeof fields[i]) != answer) {
+    for (int i = 0; i < PACKETS; i += step) {
+        uint8_t given = f->read_many ? f->read_many((const uint8_t(*)[LEVELSPRUCE_PACKET_BYTES]) & packets[i], TOGETHER, fields[i], TOGETHER * sizeof fields[i])
+                                     : f->read(packets[i], sizeof packets[i], fields[i], sizeof fields[i]);
+        if (given != answer) {
             printf("failed\tpacket %d is not answered %d\n", i, answer);
             exit(1);
         }
+    }
     return (now(CLOCK_PROCESS_CPUTIME_ID) - begun) / PACKETS;
 }
 
@@ -53,7 +70,7 @@ static void measure(const char *which, uint8_t answer)
     double medians[FORMS];
     for (int i = 0; i < FORMS; i++) {
         memset(fields, 0, sizeof fields);
-        round_of(forms[i].read, answer);
+        round_of(&forms[i], answer);
         if (i == 0)
             memcpy(first, fields, sizeof fields);
         else if (memcmp(first, fields, sizeof fields) != 0) {
@@ -63,14 +80,15 @@ static void measure(const char *which, uint8_t answer)
     }
     for (int k = 0; k < ROUNDS; k++)
         for (int i = 0; i < FORMS; i++)
-            times[i][k] = round_of(forms[i].read, answer);
+            times[i][k] = round_of(&forms[i], answer);
     printf("packet\t%s", which);
     for (int i = 0; i < FORMS; i++) {
         medians[i] = median(times[i], ROUNDS);
         printf("\t%s %.1f ns", forms[i].name, medians[i]);
     }
-    for (int i = 1; i < FORMS; i++)
-        printf("\tto %s %.2f", forms[i].name, medians[0] / medians[i]);
+    for (int own = 0; own < OWN; own++)
+        for (int i = OWN; i < FORMS; i++)
+            printf("\t%s to %s %.2f", forms[own].name, forms[i].name, medians[own] / medians[i]);
     putchar('\n');
     fflush(stdout);
 }

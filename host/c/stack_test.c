@@ -10,7 +10,7 @@
 #include "check.h"
 
 enum { STACK = 1 << 20, PAINT = 0xA5, PORTS = LEVELSPRUCE_PORTS_MOST, P = LEVELSPRUCE_PAYLOAD_MOST, W = 64 };
-enum { CARD = 5120, DESK = 8192 }; /* what a call on a card may take, and one at a desk */
+enum { CARD = 7680, DESK = 8192 }; /* what a call on a card may take, and one at a desk */
 
 static uint8_t card[LEVELSPRUCE_CARD_BYTES], owned[LEVELSPRUCE_OWNED_BYTES];
 static uint8_t sender[LEVELSPRUCE_SENDER_BYTES], receiver[LEVELSPRUCE_RECEIVER_ROWS(PORTS)][LEVELSPRUCE_ROW_BYTES];
@@ -260,6 +260,6 @@ int main(void)
         within &= used > 0 && used <= groups[i].limit;
     }
     check("every call was done, and epochs of 64 members were reported", answers == 0 && reported > 14);
-    check("no call takes more than 5,120 bytes of stack, mending no more than 8,192", within);
+    check("no call takes more than 7,680 bytes of stack, mending no more than 8,192", within);
     return tally();
 }

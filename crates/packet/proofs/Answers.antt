@@ -1,5 +1,5 @@
 -- Each way out of reading and writing, as the definitions have it.
-use mathlib.Core.Path.{_≡_, refl, _∙_}
+use mathlib.Core.Path.{_≡_, refl, _∙_, ap}
 use mathlib.Core.Bool.{true, false}
 use mathlib.Core.List.{List, [], _∷_, _++_}
 use Prim.Native.Nat.{ℕ, _/_, _%_, _≤_, _<_}
@@ -10,20 +10,23 @@ use Rattle.packet.specs.declared.layout.Fields.{Fields}
 use Rattle.packet.specs.declared.reader.Reading.{Reading}
 use Rattle.packet.specs.declared.reader.Reading.the-variants.{Packet, Crc, Fixed, Unassigned}
 use Rattle.packet.specs.declared.writer.Writing.the-variants.{Done, Length, Field}
+use Rattle.packet.specs.ByTable.{crcWith, readNibblesWith}
 use Rattle.packet.specs.Crc.{crcOf}
 use Rattle.packet.specs.Fixed.{fixedFields, fixedNibbles, readFixedNibbles, writeFixedAnswer, writeFixedBytes}
 use Rattle.packet.specs.Layout.{byteOf, carriedIn, dataOf, fieldsOf, h4Of, nibblesOf, sealedOf}
-use Rattle.packet.specs.Reading.{readFields, readNibbles}
+use Rattle.packet.specs.Reading.{readFields}
+use Rattle.packet.specs.Shares.{sharesOf}
+use Rattle.packet.specs.Theorems.ByTable.{crc-with}
 use Rattle.packet.specs.Words.{assigned}
 use Rattle.packet.specs.Writing.{fitting, writeAnswer, writeBytes}
 
-module _ (ns : List ℕ) (sum carried : ℕ) (e : sum ≡ crcOf (take 14 ns)) (h : carried ≡ carriedIn ns) where
-  pub read-crc : (sum ≡ carried → ⊥) → Crc ≡ readNibbles ns
-  unfolding readNibbles
+module _ (table : List (List ℕ)) (ns : List ℕ) (sum carried : ℕ) (e : sum ≡ crcWith table ns) (h : carried ≡ carriedIn ns) where
+  pub read-crc : (sum ≡ carried → ⊥) → Crc ≡ readNibblesWith table ns
+  unfolding readNibblesWith
   read-crc d = rw (← e, ← h, ne-eqb sum carried d)
 
-  pub read-good : sum ≡ carried → (f : Fields) (r : Reading) → f ≡ fieldsOf ns → r ≡ readFields f → r ≡ readNibbles ns
-  unfolding readNibbles
+  pub read-good : sum ≡ carried → (f : Fields) (r : Reading) → f ≡ fieldsOf ns → r ≡ readFields f → r ≡ readNibblesWith table ns
+  unfolding readNibblesWith
   read-good same f r is by = by ∙ rw (← e, ← h, eq-eqb sum carried same, ← is) refl
 
 module _ (f : Fields) where
@@ -37,9 +40,13 @@ module _ (f : Fields) where
   by-packet w a = rw (ne-eqb (f .word .0) 0 w, a) refl
 
 -- the CRC in its two places
-pub sealed-nibbles : (f : Fields) (d : List ℕ) (c : ℕ) → d ≡ dataOf f ++ (0 ∷ 0 ∷ []) → c ≡ crcOf (take 14 d) → set (set d 14 (c / 16)) 15 (c % 16) ≡ nibblesOf f
+pub sealed-nibbles : {table : List (List ℕ)} → table ≡ sharesOf → (f : Fields) (d : List ℕ) (c : ℕ) → d ≡ dataOf f ++ (0 ∷ 0 ∷ []) → c ≡ crcWith table d
+    → set (set d 14 (c / 16)) 15 (c % 16) ≡ nibblesOf f
 unfolding nibblesOf sealedOf dataOf
-sealed-nibbles f d c e h = rw (h, e)
+sealed-nibbles right f d c e h =
+    let l : length d ≡ 16 = ap length e in
+    let is : c ≡ crcOf (take 14 d) = h ∙ crc-with right d (omega arith) in
+    rw (is, e)
 
 module _ (f : Fields) (s : List ℕ) where
   pub write-length : (length s ≡ 16 → ⊥) → (Length ≡ writeAnswer f s) × (s ≡ writeBytes f s)

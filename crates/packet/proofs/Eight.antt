@@ -3,25 +3,22 @@ use mathlib.Core.Path.{_≡_, refl, _∙_, sym}
 use mathlib.Core.List.{List, [], _∷_}
 use Prim.Native.Nat.{ℕ, _+_, _*_, _/_, _%_, _^_, _<_}
 use native.Mathlib.Omega.{arith}
-use lib.Bits.{bitXor}
-use lib.ListN.{length, getD, take}
-use Rattle.packet.specs.Crc.{crcOf}
+use lib.ListN.{getD}
+use Rattle.packet.specs.ByTable.{crcWith, readNibblesWith}
 use Rattle.packet.specs.Laws.Bytes.{byte-back}
 use Rattle.packet.specs.Layout.{byteOf, carriedIn, fieldsOf}
-use Rattle.packet.specs.Reading.{readNibbles}
-use Rattle.packet.specs.Shares.{byteAt, halvesOf, shareOf}
+use Rattle.packet.specs.Shares.{byteAt, halvesOf, joinedBy, shareIn}
 use Rattle.packet.proofs.Joining.{seven}
-
-abbrev joinedOf : ℕ → ℕ → ℕ → ℕ → ℕ → ℕ → ℕ → ℕ
-joinedOf a b c d e f g = bitXor (bitXor (bitXor (bitXor (bitXor (bitXor (shareOf 0 a) (shareOf 1 b)) (shareOf 2 c)) (shareOf 3 d)) (shareOf 4 e)) (shareOf 5 f)) (shareOf 6 g)
 
 module _ (a b c d e f g h : ℕ) (ha : a < 256) (hb : b < 256) (hc : c < 256) (hd : d < 256) (he : e < 256) (hf : f < 256) (hg : g < 256) (hh : h < 256) where
   abbrev halves : List ℕ
   halves = halvesOf (a ∷ b ∷ c ∷ d ∷ e ∷ f ∷ g ∷ h ∷ [])
 
-  pub sum-of : (s : ℕ) → s ≡ joinedOf a b c d e f g → s ≡ crcOf (take 14 halves)
-  sum-of s j =
-      seven halves a b c d e f g s (omega arith)
+  pub sum-of : (table : List (List ℕ)) (s : ℕ) → s ≡ joinedBy (shareIn table) (λ p. getD (a ∷ b ∷ c ∷ d ∷ e ∷ f ∷ g ∷ []) p 0) 7 → s ≡ crcWith table halves
+  unfolding crcWith
+  sum-of table s j =
+      j
+      ∙ seven (shareIn table) (byteAt halves) a b c d e f g
       (sym (byte-back a ha))
       (sym (byte-back b hb))
       (sym (byte-back c hc))
@@ -29,14 +26,10 @@ module _ (a b c d e f g h : ℕ) (ha : a < 256) (hb : b < 256) (hc : c < 256) (h
       (sym (byte-back e he))
       (sym (byte-back f hf))
       (sym (byte-back g hg))
-      j
 
   pub carried-of : h ≡ carriedIn halves
   unfolding carriedIn
   carried-of = sym (byte-back h hh)
-
-byte-lt : (n a b : ℕ) → n ≡ byteOf a b → n < 256
-byte-lt n a b e = omega arith
 
 byte-again : (n a b : ℕ) → n ≡ byteOf a b → byteOf (n / 16) (n % 16) ≡ byteOf a b
 byte-again n a b e = omega arith
@@ -54,17 +47,24 @@ low-bit : (n a b : ℕ) → n ≡ byteOf a b → n % 16 % 2 ≡ b % 2
 low-bit n a b e = omega arith
 
 -- nibbles are read by the bytes that they make, each by its low four bits
-module _ (ns : List ℕ) (sized : length ns ≡ 16) (a b c d e f g h : ℕ) (ea : a ≡ byteAt ns 0) (eb : b ≡ byteAt ns 1) (ec : c ≡ byteAt ns 2) (ed : d ≡ byteAt ns 3) (ee : e ≡ byteAt ns 4) (ef : f ≡ byteAt ns 5) (eg : g ≡ byteAt ns 6) (eh : h ≡ byteAt ns 7) where
+module _ (table : List (List ℕ)) (ns : List ℕ) (a b c d e f g h : ℕ) (ea : a ≡ byteAt ns 0) (eb : b ≡ byteAt ns 1) (ec : c ≡ byteAt ns 2) (ed : d ≡ byteAt ns 3) (ee : e ≡ byteAt ns 4) (ef : f ≡ byteAt ns 5) (eg : g ≡ byteAt ns 6) (eh : h ≡ byteAt ns 7) where
   abbrev n : ℕ → ℕ
   n k = getD ns k 0
 
   abbrev these : List ℕ
   these = halvesOf (a ∷ b ∷ c ∷ d ∷ e ∷ f ∷ g ∷ h ∷ [])
 
-  same-sum : crcOf (take 14 these) ≡ crcOf (take 14 ns)
+  same-sum : crcWith table these ≡ crcWith table ns
+  unfolding crcWith
   same-sum =
-      sym (sum-of a b c d e f g h (byte-lt a (n 0) (n 1) ea) (byte-lt b (n 2) (n 3) eb) (byte-lt c (n 4) (n 5) ec) (byte-lt d (n 6) (n 7) ed) (byte-lt e (n 8) (n 9) ee) (byte-lt f (n 10) (n 11) ef) (byte-lt g (n 12) (n 13) eg) (byte-lt h (n 14) (n 15) eh) (joinedOf a b c d e f g) refl)
-      ∙ seven ns a b c d e f g (joinedOf a b c d e f g) (omega arith) ea eb ec ed ee ef eg refl
+      seven (shareIn table) (byteAt ns) (byteAt these 0) (byteAt these 1) (byteAt these 2) (byteAt these 3) (byteAt these 4) (byteAt these 5) (byteAt these 6)
+      (byte-again a (n 0) (n 1) ea)
+      (byte-again b (n 2) (n 3) eb)
+      (byte-again c (n 4) (n 5) ec)
+      (byte-again d (n 6) (n 7) ed)
+      (byte-again e (n 8) (n 9) ee)
+      (byte-again f (n 10) (n 11) ef)
+      (byte-again g (n 12) (n 13) eg)
 
   same-carried : carriedIn these ≡ carriedIn ns
   unfolding carriedIn
@@ -90,6 +90,6 @@ module _ (ns : List ℕ) (sized : length ns ≡ 16) (a b c d e f g h : ℕ) (ea 
             + low g (n 12) (n 13) eg i;
       }
 
-  pub by-bytes : readNibbles these ≡ readNibbles ns
-  unfolding readNibbles
+  pub by-bytes : readNibblesWith table these ≡ readNibblesWith table ns
+  unfolding readNibblesWith
   by-bytes = rw (same-sum, same-carried, same-fields) refl

@@ -2,4 +2,3 @@ pub mod Answers
 pub mod Eight
 pub mod Joining
 pub mod OneNumber
-pub mod Table

@@ -31,8 +31,12 @@ readingValues Unassigned = []
 abbrev pub readFields : Fields → Reading
 readFields f = if f .word .0 == FIXED then Fixed else if assigned (f .word) then Packet f else Unassigned
 
+-- of sixteen nibbles whose data have this CRC: 5 first
+abbrev pub readUnder : (crc : ℕ) (nibbles : List ℕ) → Reading
+readUnder crc ns = if crc == carriedIn ns then readFields (fieldsOf ns) else Crc
+
 unfoldable pub readNibbles : List ℕ → Reading
-readNibbles ns = if crcOf (take 14 ns) == carriedIn ns then readFields (fieldsOf ns) else Crc
+readNibbles ns = readUnder (crcOf (take 14 ns)) ns
 
 unfoldable pub readAnswer : Bytes → Reading
 readAnswer s = if length s == 16 then readNibbles (highsOf s) else Length

@@ -3,6 +3,7 @@ use mathlib.Core.List.{List, [], _∷_, _++_}
 use Prim.Native.Nat.{ℕ, zero, suc, _+_, _-_, _*_, _/_, _%_}
 use lib.Bits.{bitXor}
 use lib.ListN.{getD, replicate}
+use Rattle.ground.specs.Table.{tabulate}
 use Rattle.packet.specs.Crc.{crcOf}
 use Rattle.packet.specs.Layout.{byteOf}
 
@@ -22,7 +23,18 @@ abbrev pub halvesOf : List ℕ → List ℕ
 halvesOf [] = []
 halvesOf (b ∷ bs) = (b / 16) ∷ (b % 16) ∷ halvesOf bs
 
--- 'and join the shares': the shares of the first places, summed modulo 2 bit by bit
+-- 'and join the shares': those of the bytes at the first places, by a rule for a share, summed modulo 2 bit by bit
+abbrev pub joinedBy : (share : ℕ → ℕ → ℕ) (byte : ℕ → ℕ) (places : ℕ) → ℕ
+joinedBy share byte zero = 0
+joinedBy share byte (suc p) = bitXor (joinedBy share byte p) (share p (byte p))
+
 unfoldable pub joinedTo : ℕ → List ℕ → ℕ
-joinedTo zero ns = 0
-joinedTo (suc p) ns = bitXor (joinedTo p ns) (shareOf p (byteAt ns p))
+joinedTo p ns = joinedBy shareOf (byteAt ns) p
+
+-- 'Constant table, seven places by 256 values' (01)
+unfoldable pub sharesOf : List (List ℕ)
+sharesOf = tabulate 7 (λ p. tabulate 256 (shareOf p))
+
+-- the share that a table has
+abbrev pub shareIn : (table : List (List ℕ)) (place value : ℕ) → ℕ
+shareIn table p v = getD (getD table p []) v 0

@@ -1,4 +1,5 @@
 -- What 01 and requests 2026-08, 2026-02, 2026-12 and 2026-01 ask of packets, proved on the definitions.
+pub mod ByTable
 pub mod WrittenAgain
 pub mod Damage
 pub mod Distance

@@ -5,7 +5,7 @@ ghost use mathlib.Core.Path.{_≡_};
 ghost use mathlib.Core.List.{[], _∷_, _++_};
 ghost use Rattle.packet.specs.Laws.Bounds.{Bounds};
 ghost use Rattle.packet.specs.Layout.{byteOf, dataOf, fieldsOf, h4Of, nibblesOf, reservedOf};
-ghost use Rattle.packet.specs.Shares.{halvesOf};
+ghost use Rattle.packet.specs.Shares.{halvesOf, sharesOf};
 
 pub struct Fields {
     pub epoch: u8,
@@ -108,12 +108,12 @@ fn data_of(fields: Fields) -> [u8; 16]
     ]
 }
 
-pub(crate) fn nibbles_of(fields: Fields) -> [u8; 16]
-    requires { ⌜ Bounds fields ⌝ }
+pub(crate) fn nibbles_of(table: &[[u8; 256]; 7], fields: Fields) -> [u8; 16]
+    requires { ⌜ (now table ≡ sharesOf) × Bounds fields ⌝ }
     ensures { λ r. ⌜ r ≡ nibblesOf fields ⌝ }
 {
     let mut nibbles = data_of(fields);
-    let sum = crc(nibbles);
+    let sum = crc(table, nibbles);
     nibbles[14] = sum / 16;
     nibbles[15] = sum % 16;
     nibbles

@@ -25,6 +25,7 @@ pub use ruling::Ruling;
 pub use ruling::read_row;
 pub use ruling::ruling_of;
 pub use sending::write_by;
+pub use shares::share_table;
 pub use vc12::read_vc12;
 pub use vc12::read_vc12_row;
 pub use vc12::write_vc12;

@@ -3,12 +3,14 @@ use crate::crc::join;
 use crate::layout;
 use crate::layout::Fields;
 use crate::layout::byte_of;
+use crate::shares::share_table;
 use crate::words::Word;
 ghost use mathlib.Core.Path.{_≡_};
 ghost use mathlib.Core.List.{[], _∷_};
 ghost use lib.ListN.{length};
+ghost use Rattle.packet.specs.ByTable.{readNibblesWith};
 ghost use Rattle.packet.specs.Layout.{highsOf};
-ghost use Rattle.packet.specs.Reading.{readAnswer, readFields, readNibbles, readingNumber};
+ghost use Rattle.packet.specs.Reading.{readAnswer, readFields, readingNumber};
 ghost use Rattle.packet.specs.Shares.{halvesOf};
 
 pub enum Reading {
@@ -49,6 +51,7 @@ pub(crate) fn by_word(fields: Fields) -> Reading
 
 // A packet of seven bytes and their CRC. Takes bytes and no array, so that the compiler puts it into both callers and they stay in registers.
 fn read_bytes(
+    table: &[[u8; 256]; 7],
     at_0: u8,
     at_1: u8,
     at_2: u8,
@@ -58,9 +61,9 @@ fn read_bytes(
     at_6: u8,
     carried: u8,
 ) -> Reading
-    ensures { λ r. ⌜ r ≡ readNibbles (halvesOf («at_0» ∷ «at_1» ∷ «at_2» ∷ «at_3» ∷ «at_4» ∷ «at_5» ∷ «at_6» ∷ carried ∷ [])) ⌝ }
+    ensures { λ r. ⌜ r ≡ readNibblesWith (now (table .entry)) (halvesOf («at_0» ∷ «at_1» ∷ «at_2» ∷ «at_3» ∷ «at_4» ∷ «at_5» ∷ «at_6» ∷ carried ∷ [])) ⌝ }
 {
-    let sum = join(at_0, at_1, at_2, at_3, at_4, at_5, at_6);
+    let sum = join(table, at_0, at_1, at_2, at_3, at_4, at_5, at_6);
     if sum != carried {
         return Reading::Crc;
     }
@@ -69,10 +72,11 @@ fn read_bytes(
 }
 
 // Sixteen nibbles read, each in the low four bits of its byte.
-pub fn read_nibbles(nibbles: [u8; 16]) -> Reading
-    ensures { λ r. ⌜ r ≡ readNibbles nibbles ⌝ }
+pub fn read_nibbles(table: &[[u8; 256]; 7], nibbles: [u8; 16]) -> Reading
+    ensures { λ r. ⌜ r ≡ readNibblesWith (now (table .entry)) nibbles ⌝ }
 {
     read_bytes(
+        table,
         byte_of(nibbles[0], nibbles[1]),
         byte_of(nibbles[2], nibbles[3]),
         byte_of(nibbles[4], nibbles[5]),
@@ -115,7 +119,9 @@ pub fn read(h4: &[u8]) -> Reading
     if h4.len() != 16 {
         return Reading::Length;
     }
+    let table = share_table();
     read_bytes(
+        &table,
         byte_of(h4[0] / 16, h4[1] / 16),
         byte_of(h4[2] / 16, h4[3] / 16),
         byte_of(h4[4] / 16, h4[5] / 16),

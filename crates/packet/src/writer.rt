@@ -1,6 +1,7 @@
 // A packet written (01, 'Answer numbers': for writing 9, then 8).
 use crate::layout;
 use crate::layout::Fields;
+use crate::shares::share_table;
 use crate::words::Word;
 ghost use mathlib.Core.Path.{_≡_};
 ghost use Rattle.packet.specs.Writing.{fitting, writeAnswer, writeBytes, writingNumber};
@@ -44,7 +45,8 @@ pub fn write(fields: Fields, h4: &mut [u8]) -> Writing
     if !fits(fields) {
         return Writing::Field;
     }
-    let nibbles = layout::nibbles_of(fields);
+    let table = share_table();
+    let nibbles = layout::nibbles_of(&table, fields);
     let image = layout::h4_of(nibbles);
     bytes::copy(&image, h4);
     Writing::Done

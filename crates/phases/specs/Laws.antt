@@ -1,4 +1,5 @@
 -- Laws on what concerns all ports, for the proofs above them.
+pub mod ByTable
 pub mod Lengths
 pub mod Ports
 pub mod Passed

@@ -7,9 +7,10 @@ use Rattle.phases.specs.Due.{brought, owesNothing, silent}
 use Rattle.phases.specs.Passing.{notedBy, passedGroup, passedOf, passedPort, passedPorts, passedStep, ruledBy}
 use Rattle.phases.specs.Settling.{beginBy, begunOf, clearedPort, clearedPorts, clearedStep, gatherBy, settledOf, stopBy, stoppedOf}
 use Rattle.phases.specs.Sizes.{portsIn, sized, startSized, storeFor}
+use Rattle.phases.specs.ByTable.{passedPortWith, passedPortsWith, passedWith}
 
 unfoldable pub phasesOpen : ℕ
 unfolding storeOpen stepOpen begins foremost further latest noTag ready within brought owesNothing silent notedBy passedGroup passedOf passedPort
     passedPorts passedStep ruledBy beginBy begunOf clearedPort clearedPorts clearedStep gatherBy settledOf stopBy stoppedOf portsIn sized startSized
-    storeFor
+    storeFor passedPortWith passedPortsWith passedWith
 phasesOpen = 0

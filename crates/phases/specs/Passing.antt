@@ -56,14 +56,18 @@ notedBy m whole r =
       elapsed = m .elapsed;
     }
 
-unfoldable pub passedPort : (g : Group) (store : Bytes) (port : ℕ) (s : Rows) → Rows
-passedPort g store i s =
+-- a port whose packet of that epoch is read so
+abbrev pub passedPortBy : (read : Ruling) (g : Group) (store : Bytes) (port : ℕ) (s : Rows) → Rows
+passedPortBy read g store i s =
     let whole = firstMark (marksAt s i) in
     let nibbles = packetIn g i store in
-    let a = putMember s i (notedBy (memberAt s i) whole (ownRuling (g .kind) (g .oldest) nibbles)) in
+    let a = putMember s i (notedBy (memberAt s i) whole read) in
     let b = putPackets a i (ruledBy (packetsAt s i) whole nibbles) in
     let c = putStep b i (passedStep (stepAt s i) whole) in
     putMarks c i (passedMarks (marksAt s i))
+
+unfoldable pub passedPort : (g : Group) (store : Bytes) (port : ℕ) (s : Rows) → Rows
+passedPort g store i s = passedPortBy (ownRuling (g .kind) (g .oldest) (packetIn g i store)) g store i s
 
 unfoldable pub passedPorts : (g : Group) (store : Bytes) (ports : ℕ) (s : Rows) → Rows
 passedPorts g store zero s = s

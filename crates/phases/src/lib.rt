@@ -8,6 +8,7 @@ mod starting;
 
 pub use due::is_complete;
 pub use passing::pass;
+pub use passing::pass_with;
 pub use settling::settle;
 pub use sizes::is_startable;
 pub use sizes::ports_in;

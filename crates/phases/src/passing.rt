@@ -11,7 +11,8 @@ ghost use mathlib.Core.Path.{_≡_};
 ghost use Prim.Native.Nat.{_-_};
 ghost use Rattle.ground.specs.Plain.{if_then_else_};
 ghost use Rattle.store.specs.Frames.{ringOf};
-ghost use Rattle.phases.specs.Passing.{groupTo, notedBy, passedGroup, passedOf, passedPort, passedPorts, passedStep, ruledBy};
+ghost use Rattle.phases.specs.ByTable.{passedPortWith, passedPortsWith, passedWith};
+ghost use Rattle.phases.specs.Passing.{groupTo, notedBy, passedGroup, passedOf, passedStep, ruledBy};
 
 // The two packets of a port, the second one of which rules.
 fn ruled_by(packets: [[u8; 16]; 2], whole: bool, nibbles: [u8; 16]) -> [[u8; 16]; 2]
@@ -75,13 +76,13 @@ fn noted_by(m: Member, whole: bool, r: Ruling) -> Member
     }
 }
 
-fn pass_port(group: Group, store: &[u8], port: u8, state: &mut [[u8; 16]])
-    ensures { λ _. ⌜ now (state .exit) ≡ passedPort group (now (store .entry)) port (now (state .entry)) ⌝ }
+fn pass_port(table: &[[u8; 256]; 7], group: Group, store: &[u8], port: u8, state: &mut [[u8; 16]])
+    ensures { λ _. ⌜ now (state .exit) ≡ passedPortWith (now (table .entry)) group (now (store .entry)) port (now (state .entry)) ⌝ }
 {
     let row = rows::packets::marks(state, port);
     let whole = marks::first(row);
     let nibbles = frames::packet_in(group, port, store);
-    let ruling = step::ruling_of(group.kind, group.oldest, nibbles);
+    let ruling = step::ruling_of(table, group.kind, group.oldest, nibbles);
     let member = rows::member::get(state, port);
     let packets = rows::packets::get(state, port);
     let step = rows::step::get(state, port);
@@ -95,12 +96,12 @@ fn pass_port(group: Group, store: &[u8], port: u8, state: &mut [[u8; 16]])
     rows::packets::put_marks(state, port, left);
 }
 
-fn pass_ports(group: Group, store: &[u8], ports: u8, state: &mut [[u8; 16]])
-    ensures { λ _. ⌜ now (state .exit) ≡ passedPorts group (now (store .entry)) ports (now (state .entry)) ⌝ }
+fn pass_ports(table: &[[u8; 256]; 7], group: Group, store: &[u8], ports: u8, state: &mut [[u8; 16]])
+    ensures { λ _. ⌜ now (state .exit) ≡ passedPortsWith (now (table .entry)) group (now (store .entry)) ports (now (state .entry)) ⌝ }
 {
     let mut i = 0;
     while i < ports {
-        pass_port(group, store, i, state);
+        pass_port(table, group, store, i, state);
         i += 1;
     }
 }
@@ -141,10 +142,24 @@ fn passed_group(g: Group) -> Group
     group_to(g, g.begun, 1, next, origin, g.rs_ack)
 }
 
+// By a table that stands already.
+pub fn pass_with(
+    table: &[[u8; 256]; 7],
+    group: Group,
+    store: &[u8],
+    ports: u8,
+    state: &mut [[u8; 16]],
+)
+    ensures { λ _. ⌜ now (state .exit) ≡ passedWith (now (table .entry)) group (now (store .entry)) ports (now (state .entry)) ⌝ }
+{
+    let next = passed_group(group);
+    pass_ports(table, group, store, ports, state);
+    rows::group::put(state, next);
+}
+
 pub fn pass(group: Group, store: &[u8], ports: u8, state: &mut [[u8; 16]])
     ensures { λ _. ⌜ now (state .exit) ≡ passedOf group (now (store .entry)) ports (now (state .entry)) ⌝ }
 {
-    let next = passed_group(group);
-    pass_ports(group, store, ports, state);
-    rows::group::put(state, next);
+    let table = packet::share_table();
+    pass_with(&table, group, store, ports, state);
 }

@@ -5,6 +5,7 @@ use crate::lengths;
 use crate::report;
 use crate::report::Report;
 use crate::states;
+use judge::Seen;
 use rows::Group;
 use step::answers;
 ghost use mathlib.Core.Path.{_≡_};
@@ -33,6 +34,17 @@ fn none_due() -> Report
     }
 }
 
+// What is seen of the ports, and then the epoch passed: both by one use of the table. Joining is not beside it, since the compiler then makes more of that.
+fn see_and_pass(group: Group, ports: u8, state: &mut [[u8; 16]], store: &[u8]) -> [Seen; 64]
+    ensures { λ r. ⌜ (r ≡ seenAll group (now (state .entry)) ports)
+        × (now (state .exit) ≡ reportedOf group (now (store .entry)) ports (now (state .entry))) ⌝ }
+{
+    let table = packet::share_table();
+    let seen = report::seen_all(&table, group, state, ports);
+    states::pass(&table, group, store, ports, state);
+    seen
+}
+
 // The report of the oldest epoch, which is due.
 fn report_oldest(
     group: Group,
@@ -45,11 +57,10 @@ fn report_oldest(
         × (now (state .exit) ≡ reportedOf group (now (store .entry)) ports (now (state .entry)))
         × (now (out .exit) ≡ outputOf group (seenAll group (now (state .entry)) ports) ports (now (store .entry)) (now (out .entry))) ⌝ }
 {
-    let seen = report::seen_all(group, state, ports);
+    let seen = see_and_pass(group, ports, state, store);
     let mark = judge::judge(group.kind, seen, ports);
     let order = judge::ordered(seen, ports);
     joining::output_by(group, mark, order, store, out);
-    states::pass(group, store, ports, state);
     joining::report_by(group, mark, order)
 }
 

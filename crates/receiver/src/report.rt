@@ -1,10 +1,13 @@
 // The report of an epoch (01, 'Report of an epoch').
 use crate::flags;
 use judge::Seen;
+use packet::Ruling;
 use packet::kinds;
 use rows::Group;
 use store::marks;
 ghost use mathlib.Core.Path.{_≡_};
+ghost use Rattle.packet.specs.Shares.{sharesOf};
+ghost use Rattle.step.specs.OwnCount.{ownRuling};
 ghost use Rattle.receiver.specs.Report.{noSeen, rulingEpoch, seenAll, seenOf};
 
 pub struct Report {
@@ -25,7 +28,15 @@ fn ruling_epoch(group: Group) -> u8
     kinds::epoch_of(group.kind, before)
 }
 
-fn seen_of(group: Group, state: &[[u8; 16]], port: u8) -> Seen
+fn ruling_of(table: &[[u8; 256]; 7], kind: u8, epoch: u8, nibbles: [u8; 16]) -> Ruling
+    requires { ⌜ now table ≡ sharesOf ⌝ }
+    ensures { λ r. ⌜ r ≡ ownRuling kind epoch nibbles ⌝ }
+{
+    step::ruling_of(table, kind, epoch, nibbles)
+}
+
+fn seen_of(table: &[[u8; 256]; 7], group: Group, state: &[[u8; 16]], port: u8) -> Seen
+    requires { ⌜ now table ≡ sharesOf ⌝ }
     ensures { λ r. ⌜ r ≡ seenOf group (now (state .entry)) port ⌝ }
 {
     let packets = rows::packets::get(state, port);
@@ -33,7 +44,7 @@ fn seen_of(group: Group, state: &[[u8; 16]], port: u8) -> Seen
     let row = rows::packets::marks(state, port);
     let epoch = ruling_epoch(group);
     let nibbles = packets[1];
-    let ruling = step::ruling_of(group.kind, epoch, nibbles);
+    let ruling = ruling_of(table, group.kind, epoch, nibbles);
     Seen {
         whole: flags::is_set(step.whole),
         good: ruling.good,
@@ -57,7 +68,13 @@ fn no_seen() -> Seen
     }
 }
 
-pub(crate) fn seen_all(group: Group, state: &[[u8; 16]], ports: u8) -> [Seen; 64]
+pub(crate) fn seen_all(
+    table: &[[u8; 256]; 7],
+    group: Group,
+    state: &[[u8; 16]],
+    ports: u8,
+) -> [Seen; 64]
+    requires { ⌜ now table ≡ sharesOf ⌝ }
     ensures { λ r. ⌜ r ≡ seenAll group (now (state .entry)) ports ⌝ }
 {
     let none = no_seen();
@@ -65,7 +82,7 @@ pub(crate) fn seen_all(group: Group, state: &[[u8; 16]], ports: u8) -> [Seen; 64
     let n = ground::size_byte(ports);
     let mut i = 0;
     while i < n {
-        let one = seen_of(group, state, i);
+        let one = seen_of(table, group, state, i);
         seen[i as usize] = one;
         i += 1;
     }

@@ -5,6 +5,7 @@ use rows::Group;
 use rows::Member;
 ghost use mathlib.Core.Path.{_≡_};
 ghost use lib.ListN.{getD};
+ghost use Rattle.packet.specs.Shares.{sharesOf};
 ghost use Rattle.reply.specs.Waiting.{noStanding};
 ghost use Rattle.phases.specs.Passing.{groupTo};
 ghost use Rattle.rows.specs.Member.{memberAt, putMember};
@@ -171,10 +172,17 @@ fn work_out_states(group: Group, ports: u8, state: &mut [[u8; 16]])
 }
 
 // The epoch passed, then states and RS-Ack from the good packets up to its own.
-pub(crate) fn pass(group: Group, store: &[u8], ports: u8, state: &mut [[u8; 16]])
+pub(crate) fn pass(
+    table: &[[u8; 256]; 7],
+    group: Group,
+    store: &[u8],
+    ports: u8,
+    state: &mut [[u8; 16]],
+)
+    requires { ⌜ now table ≡ sharesOf ⌝ }
     ensures { λ _. ⌜ now (state .exit) ≡ reportedOf group (now (store .entry)) ports (now (state .entry)) ⌝ }
 {
-    phases::pass(group, store, ports, state);
+    phases::pass_with(table, group, store, ports, state);
     let passed = rows::group::get(state);
     work_out_states(passed, ports, state);
 }

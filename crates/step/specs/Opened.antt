@@ -8,9 +8,11 @@ use Rattle.step.specs.Run.{begunRun, breaksAfter, endsPacket, furtherRun
 use Rattle.step.specs.RunKept.{tagByFirst}
 use Rattle.step.specs.Starts.{begunPacket, bitsAfter, countAfter, fifthBit, firstOfTwo, goesOn, startsRun}
 use Rattle.step.specs.Steady.{midEpoch, steady, steadyTaken}
+use Rattle.step.specs.ByTable.{ownRulingWith, rulingInWith}
 
 unfoldable pub stepOpen : ℕ
 unfolding rowsOpen packetOpen arrives byStart byWindow countsOn distanceIn flagged frameDropped inStep joining keeps outside readable takenOf endsOdd
     oddPacket ownNumber ownRuling rightCrc rulingIn begunRun breaksAfter endsPacket furtherRun gainedRun h4RunOn inStepAt loses oddAfter runOn
-    secondRun stayedRun tagByFirst begunPacket bitsAfter countAfter fifthBit firstOfTwo goesOn startsRun midEpoch steady steadyTaken
+    secondRun stayedRun tagByFirst begunPacket bitsAfter countAfter fifthBit firstOfTwo goesOn startsRun midEpoch steady steadyTaken rulingInWith
+    ownRulingWith
 stepOpen = 0

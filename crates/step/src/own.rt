@@ -4,7 +4,8 @@ use packet::Ruling;
 use packet::kinds;
 use packet::symbols;
 ghost use mathlib.Core.Path.{_≡_};
-ghost use Rattle.step.specs.OwnCount.{endsOdd, oddPacket, ownNumber, ownRuling, rightCrc, rulingIn};
+ghost use Rattle.step.specs.ByTable.{ownRulingWith, rulingInWith};
+ghost use Rattle.step.specs.OwnCount.{endsOdd, oddPacket, ownNumber, rightCrc};
 
 // Whether MFI2, in the ninth and tenth nibble, is the number of the packet's epoch.
 fn is_own(epoch: u8, nibbles: [u8; 16]) -> bool
@@ -13,21 +14,21 @@ fn is_own(epoch: u8, nibbles: [u8; 16]) -> bool
     nibbles[8] % 16 * 16 + nibbles[9] % 16 == epoch
 }
 
-fn ruling_in(kind: u8, epoch: u8, nibbles: [u8; 16]) -> Ruling
-    ensures { λ r. ⌜ r ≡ rulingIn kind epoch nibbles ⌝ }
+fn ruling_in(table: &[[u8; 256]; 7], kind: u8, epoch: u8, nibbles: [u8; 16]) -> Ruling
+    ensures { λ r. ⌜ r ≡ rulingInWith (now (table .entry)) kind epoch nibbles ⌝ }
 {
     if kind == kinds::FIXED {
         return packet::fixed_ruling_of(nibbles);
     }
-    packet::ruling_of(kind, epoch, nibbles)
+    packet::ruling_of(table, kind, epoch, nibbles)
 }
 
 // The packet of an epoch read for what it rules; one with another MFI2 is refused.
-pub fn ruling_of(kind: u8, epoch: u8, nibbles: [u8; 16]) -> Ruling
-    ensures { λ r. ⌜ r ≡ ownRuling kind epoch nibbles ⌝ }
+pub fn ruling_of(table: &[[u8; 256]; 7], kind: u8, epoch: u8, nibbles: [u8; 16]) -> Ruling
+    ensures { λ r. ⌜ r ≡ ownRulingWith (now (table .entry)) kind epoch nibbles ⌝ }
 {
     if (kind == kinds::VC12) | is_own(epoch, nibbles) {
-        return ruling_in(kind, epoch, nibbles);
+        return ruling_in(table, kind, epoch, nibbles);
     }
     Ruling {
         good: false,
@@ -44,7 +45,8 @@ fn is_right(kind: u8, nibbles: [u8; 16]) -> bool
     if kind == kinds::FIXED {
         return true;
     }
-    let reading = packet::read_nibbles(nibbles);
+    let table = packet::share_table();
+    let reading = packet::read_nibbles(&table, nibbles);
     let answer = reading.number();
     !(answer == 5)
 }

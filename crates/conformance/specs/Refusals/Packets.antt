@@ -11,11 +11,11 @@ use Rattle.ground.specs.Polynomial.{check}
 use Rattle.ground.specs.Types.{Bytes}
 use Rattle.c_face.specs.Packets.{given, readAnswerC, readFieldsC, readFixedAnswerC, readFixedFieldsC, readVc12AnswerC, readVc12FieldsC, valuesOr, writeAnswerC, writeBytesC, writeFixedAnswerC, writeVc12AnswerC, writeVc12BytesC}
 use Rattle.packet.specs.declared.layout.Fields.{Fields}
+use Rattle.packet.specs.ByTable.{crcWith, readNibblesWith, readRowWith}
 use Rattle.packet.specs.Crc.{crcOf}
 use Rattle.packet.specs.Fixed.{readFixedAnswer, readFixedNibbles, writeFixedAnswer, writeFixedBytes}
 use Rattle.packet.specs.Layout.{carriedIn, fieldsOf, highsOf}
 use Rattle.packet.specs.Reading.{readAnswer, readNibbles, readingNumber}
-use Rattle.packet.specs.Ruling.{readRow}
 use Rattle.packet.specs.Sent.{sentAnswer, sentBytes}
 use Rattle.packet.specs.Vc12.{lowestOf, readVc12Answer, readVc12Bits, readVc12Row, rowBits, vc12Divisor, vc12Fields, vc12Fits, writeVc12Answer, writeVc12Bytes}
 use Rattle.packet.specs.Words.{assigned}
@@ -61,12 +61,15 @@ pub writeC-copes : (x : ℕ × ℕ × ℕ × ℕ × ℕ × ℕ × ℕ × List �
 writeC-copes (epoch, word, gid, mst, «rs_ack», sq, reserved, h4) = write-copes (given epoch word gid mst «rs_ack» sq reserved, h4)
 
 -- of sixteen nibbles: the CRC is the last two, CTRL that of MFI1 2
-abbrev pub readRefusals : List ℕ → List Refusal
-readRefusals ns =
-    Unless 5 (crcOf (take 14 ns) == getD ns 14 0 % 16 * 16 + getD ns 15 0 % 16)
+abbrev pub refusalsUnder : (crc : ℕ) (ns : List ℕ) → List Refusal
+refusalsUnder crc ns =
+    Unless 5 (crc == getD ns 14 0 % 16 * 16 + getD ns 15 0 % 16)
     ∷ If 7 (getD ns 10 0 % 16 == 0)
     ∷ Unless 6 (named (getD ns 10 0 % 16))
     ∷ []
+
+abbrev pub readRefusals : List ℕ → List Refusal
+readRefusals ns = refusalsUnder (crcOf (take 14 ns)) ns
 
 -- what a reading leaves of lent bytes for the values
 reads : (h4 fields : List ℕ) → Copes (stateless (Unless 9 (length h4 == 16) ∷ readRefusals (highsOf h4)) (readingNumber (readAnswer h4)) (fields ∷ []) (valuesOr (readAnswer h4) fields ∷ []))
@@ -77,12 +80,13 @@ reads h4 fields =
       λ l. rw l (refl, refl, refl),
     )
 
-abbrev pub readSixteen : List ℕ → Call
-readSixteen nibbles = stateless (readRefusals nibbles) (readingNumber (readNibbles nibbles)) [] []
+-- by the shares of a lent table (request 2026-02)
+abbrev pub readSixteen : List (List ℕ) × List ℕ → Call
+readSixteen (table, nibbles) = stateless (refusalsUnder (crcWith table nibbles) nibbles) (readingNumber (readNibblesWith table nibbles)) [] []
 
-pub readSixteen-copes : (x : List ℕ) → Copes (readSixteen x)
-unfolding readNibbles carriedIn fieldsOf assigned
-readSixteen-copes nibbles =
+pub readSixteen-copes : (x : List (List ℕ) × List ℕ) → Copes (readSixteen x)
+unfolding readNibblesWith carriedIn fieldsOf assigned
+readSixteen-copes (table, nibbles) =
     copes _ (λ c. (λ f. rw (c, f) (refl, refl, refl), λ f. (λ a. rw (c, f, rw f at a), λ a. rw (c, f, rw f at a) (refl, refl, refl))), λ c. rw c (refl, refl, refl))
 
 abbrev pub read : Bytes → Call
@@ -166,16 +170,16 @@ writeBy-copes (kind, fields, bytes) = go (kind == 1) refl
     go true e = rw e (writeVc12-copes (fields, bytes))
     go false e = rw e (write-copes (fields, bytes))
 
-abbrev pub readRowBy : ℕ × List ℕ → Call
-readRowBy (kind, row) = stateless (if kind == 1 then bitsRefusals (rowBits row) else readRefusals row) (readingNumber (readRow kind row)) [] []
+abbrev pub readRowBy : List (List ℕ) × ℕ × List ℕ → Call
+readRowBy (table, kind, row) = stateless (if kind == 1 then bitsRefusals (rowBits row) else refusalsUnder (crcWith table row) row) (readingNumber (readRowWith table kind row)) [] []
 
-pub readRowBy-copes : (x : ℕ × List ℕ) → Copes (readRowBy x)
-unfolding readRow
-readRowBy-copes (kind, row) = go (kind == 1) refl
+pub readRowBy-copes : (x : List (List ℕ) × ℕ × List ℕ) → Copes (readRowBy x)
+unfolding readRowWith
+readRowBy-copes (table, kind, row) = go (kind == 1) refl
   where
-    go : (b : Bool) → (kind == 1) ≡ b → Copes (readRowBy (kind, row))
+    go : (b : Bool) → (kind == 1) ≡ b → Copes (readRowBy (table, kind, row))
     go true e = rw e (readVc12Entries-copes row)
-    go false e = rw e (readSixteen-copes row)
+    go false e = rw e (readSixteen-copes (table, row))
 
 abbrev pub readVc12C : List ℕ × List ℕ → Call
 readVc12C (bits, fields) =

@@ -9,7 +9,6 @@ use Rattle.ground.specs.Division.{length-check}
 use Rattle.ground.specs.Polynomial.{check}
 use Rattle.packet.specs.Crc.{divisor, nibbleBits, bitsOf, crcOf}
 use Rattle.packet.specs.Layout.{byteOf}
-use Rattle.packet.specs.Shares.{aloneAt, shareOf}
 
 -- a byte's bits are its two nibbles'
 pub byte-bits : (a b : ℕ) → bits 8 (byteOf a b) ≡ nibbleBits a ++ nibbleBits b
@@ -41,10 +40,6 @@ crc-bits d = ap (λ (n : ℕ). bits n (crcOf d)) (sym (length-check divisor (bit
 pub crc-lt : (d : List ℕ) → crcOf d < 256
 unfolding crcOf divisor
 crc-lt d = rw (length-check divisor (bitsOf d)) at (number-lt (check divisor (bitsOf d)))
-
-pub share-lt : (p v : ℕ) → shareOf p v < 256
-unfolding shareOf
-share-lt p v = crc-lt (aloneAt p v)
 
 -- a byte is what its two nibbles spell
 pub byte-back : (n : ℕ) → n < 256 → byteOf (n / 16) (n % 16) ≡ n

@@ -115,6 +115,10 @@ module _ (kind : ℕ) (row : List ℕ) (long : length row ≡ 16) (place h : ℕ
       (eq-or-ne (entryAt kind other) (entryAt kind place))
 
 -- H4's rows are those of every kind but VC-12
+pub length-row : (kind : ℕ) (f : ℕ → ℕ) → length (rowFrom kind f) ≡ 16
+unfolding rowFrom
+length-row kind f = refl
+
 pub h4-row : (kind : ℕ) (f : ℕ → ℕ) → eqb kind vc12Kind ≡ false → rowFrom 0 f ≡ rowFrom kind f
 unfolding rowFrom entryFrom
 h4-row kind f e = rw e refl

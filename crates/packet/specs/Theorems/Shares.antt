@@ -12,10 +12,19 @@ use Rattle.ground.specs.Bits.{bits, bits-mod, number, number-bits}
 use Rattle.ground.specs.Division.{remainder-sum}
 use Rattle.ground.specs.Polynomial.{check, remainder, sum, zeros}
 use Rattle.ground.specs.Sums.{bits-xor, sum-append, sum-comm}
+use Rattle.ground.specs.Table.{tabulate, getD-tabulate}
 use Rattle.packet.specs.Crc.{bitsOf, crcOf, divisor, nibbleBits}
 use Rattle.packet.specs.Laws.Bytes.{bits-append, crc-bits, crc-lt, length-bits-of}
 use Rattle.packet.specs.Layout.{byteOf}
-use Rattle.packet.specs.Shares.{aloneAt, byteAt, joinedTo, shareOf}
+use Rattle.packet.specs.Shares.{aloneAt, byteAt, joinedTo, shareIn, shareOf, sharesOf}
+
+-- each entry of the table is the share of its place and value
+pub every-share : {table : List (List ℕ)} → table ≡ sharesOf → (place value : ℕ) → place < 7 → value < 256 → shareIn table place value ≡ shareOf place value
+unfolding sharesOf
+every-share e p v hp hv =
+    ap (λ (t : List (List ℕ)). shareIn t p v) e
+    ∙ ap (λ (r : List ℕ). getD r v 0) (getD-tabulate 7 (λ q. tabulate 256 (shareOf q)) p [] hp)
+    ∙ getD-tabulate 256 (shareOf p) v 0 hv
 
 -- the check of a sum is the sum of the checks
 check-sum : (m n : List Bool) → length m ≡ length n → check divisor (sum m n) ≡ sum (check divisor m) (check divisor n)

@@ -1,5 +1,8 @@
--- `crc` meets its contract: the CRC of the fourteen data nibbles. The seven bytes that they make are joined by their shares (`seven`).
+-- `crc` meets its contract: the shares of the seven bytes that the data nibbles make, joined (`seven`).
+use mathlib.Core.Path.{_∙_}
 use native.Mathlib.Omega.{arith}
+use Rattle.packet.specs.ByTable.{crcWith}
+use Rattle.packet.specs.Shares.{byteAt, shareIn}
 use Rattle.packet.proofs.Joining.{seven}
 use Rattle.packet.proofs.crc.crc.Statement.{statement}
 use Rattle.packet.proofs.crc.crc.Tie as tie
@@ -71,6 +74,7 @@ join-requires : tie.Need-join-requires
 join-requires c κs = omega arith
 
 returns : tie.Need-returns
+unfolding crcWith
 returns c =
     let at-byte-of6 = c .before .before in
     let at-byte-of5 = at-byte-of6 .before in
@@ -79,7 +83,8 @@ returns c =
     let at-byte-of2 = at-byte-of3 .before in
     let at-byte-of = at-byte-of2 .before in
     let at-start = at-byte-of .before in
-    seven (at-start .args .t1) _ _ _ _ _ _ _ _ (omega arith)
+    c .join .ensures
+    ∙ seven (shareIn (at-start .args .table .now)) (byteAt (at-start .args .t2)) _ _ _ _ _ _ _
     (at-byte-of .byte-of .ensures)
     (at-byte-of2 .byte-of2 .ensures)
     (at-byte-of3 .byte-of3 .ensures)
@@ -87,7 +92,6 @@ returns c =
     (at-byte-of5 .byte-of5 .ensures)
     (at-byte-of6 .byte-of6 .ensures)
     (c .before .byte-of7 .ensures)
-    (c .join .ensures)
 
 pub crc-spec : {M : Type 1} → statement M
 crc-spec =

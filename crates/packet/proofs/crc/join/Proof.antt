@@ -1,42 +1,80 @@
-use mathlib.Core.Path.{ap₂}
-use lib.Bits.{bitXor}
-use native.Mathlib.Omega.{arith}
+use borrow.Author.Needs.{needs}
+use Rattle.packet.specs.Shares.{shareIn}
+use Rattle.packet.proofs.Joining.{from-first}
 use Rattle.packet.proofs.crc.join.Statement.{statement}
 use Rattle.packet.proofs.crc.join.Tie as tie
 
-share-at-0-requires : tie.Need-share-at-0-requires
-share-at-0-requires c κs = omega arith
+index-1-result : tie.Need-index-1-result
+index-1-result c = search needs
 
-share-at-1-requires : tie.Need-share-at-1-requires
-share-at-1-requires c κs = omega arith
+index-2-result : tie.Need-index-2-result
+index-2-result c = search needs
 
-share-at-2-requires : tie.Need-share-at-2-requires
-share-at-2-requires c κs = omega arith
+index-1-result-2 : tie.Need-index-1-result-2
+index-1-result-2 c = search needs
 
-share-at-3-requires : tie.Need-share-at-3-requires
-share-at-3-requires c κs = omega arith
+index-2-result-2 : tie.Need-index-2-result-2
+index-2-result-2 c = search needs
 
-share-at-4-requires : tie.Need-share-at-4-requires
-share-at-4-requires c κs = omega arith
+index-1-result-3 : tie.Need-index-1-result-3
+index-1-result-3 c = search needs
 
-share-at-5-requires : tie.Need-share-at-5-requires
-share-at-5-requires c κs = omega arith
+index-2-result-3 : tie.Need-index-2-result-3
+index-2-result-3 c = search needs
 
-share-at-6-requires : tie.Need-share-at-6-requires
-share-at-6-requires c κs = omega arith
+index-1-result-4 : tie.Need-index-1-result-4
+index-1-result-4 c = search needs
+
+index-2-result-4 : tie.Need-index-2-result-4
+index-2-result-4 c = search needs
+
+index-1-result-5 : tie.Need-index-1-result-5
+index-1-result-5 c = search needs
+
+index-2-result-5 : tie.Need-index-2-result-5
+index-2-result-5 c = search needs
+
+index-1-result-6 : tie.Need-index-1-result-6
+index-1-result-6 c = search needs
+
+index-2-result-6 : tie.Need-index-2-result-6
+index-2-result-6 c = search needs
+
+index-1-result-7 : tie.Need-index-1-result-7
+index-1-result-7 c = search needs
+
+index-2-result-7 : tie.Need-index-2-result-7
+index-2-result-7 c = search needs
 
 returns : tie.Need-returns
-returns c = (ap₂ bitXor (ap₂ bitXor (ap₂ bitXor (ap₂ bitXor (ap₂ bitXor (ap₂ bitXor (c .before .before .before .before .before .before .share-at-0 .ensures) (c .before .before .before .before .before .share-at-1 .ensures)) (c .before .before .before .before .share-at-2 .ensures)) (c .before .before .before .share-at-3 .ensures)) (c .before .before .share-at-4 .ensures)) (c .before .share-at-5 .ensures)) (c .share-at-6 .ensures))
+returns c =
+    let at-start = c .before .before .before .before .before .before .before in
+    let t = at-start .args .table .now in
+    from-first
+    (shareIn t 0 (at-start .args .at-0))
+    (shareIn t 1 (at-start .args .at-1))
+    (shareIn t 2 (at-start .args .at-2))
+    (shareIn t 3 (at-start .args .at-3))
+    (shareIn t 4 (at-start .args .at-4))
+    (shareIn t 5 (at-start .args .at-5))
+    (shareIn t 6 (at-start .args .at-6))
 
 pub join-spec : {M : Type 1} → statement M
 join-spec =
     tie.close
     (tie.spec
-    share-at-0-requires
-    share-at-1-requires
-    share-at-2-requires
-    share-at-3-requires
-    share-at-4-requires
-    share-at-5-requires
-    share-at-6-requires
+    index-1-result
+    index-2-result
+    index-1-result-2
+    index-2-result-2
+    index-1-result-3
+    index-2-result-3
+    index-1-result-4
+    index-2-result-4
+    index-1-result-5
+    index-2-result-5
+    index-1-result-6
+    index-2-result-6
+    index-1-result-7
+    index-2-result-7
     returns)

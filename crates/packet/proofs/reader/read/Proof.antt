@@ -1,9 +1,11 @@
 -- `read` meets its contract: 9, and else what its high nibbles read as. They are read as the eight bytes that they make (`by-bytes`).
-use mathlib.Core.Path.{refl, _∙_}
+use mathlib.Core.Path.{_≡_, refl, _∙_}
 use native.Mathlib.Omega.{arith}
+use lib.ListN.{length}
 use borrow.Author.Tests.{eq-eqb, ne-eqb}
 use Rattle.packet.specs.Layout.{highsOf}
 use Rattle.packet.specs.Reading.{readAnswer}
+use Rattle.packet.specs.Theorems.ByTable.{read-nibbles-with}
 use Rattle.packet.proofs.Eight.{by-bytes}
 use Rattle.packet.proofs.reader.read.Statement.{statement}
 use Rattle.packet.proofs.reader.read.Tie as tie
@@ -14,7 +16,7 @@ returns c = rw (ne-eqb _ 16 (c .if1 .taken)) refl
 
 -- the place of the test on the length, seen from behind each byte
 abbrev test1 : tie.After-byte-of → tie.Else1
-test1 c = c .before .before .before
+test1 c = c .before .before .before .before .before
 
 abbrev test2 : tie.After-byte-of2 → tie.Else1
 test2 c = test1 (c .before .before .before)
@@ -34,11 +36,14 @@ test6 c = test5 (c .before .before .before)
 abbrev test7 : tie.After-byte-of7 → tie.Else1
 test7 c = test6 (c .before .before .before)
 
+share-table-requires : tie.Need-share-table-requires
+share-table-requires c κs = omega arith
+
 shared-slice-read-byte-of : tie.Need-shared-slice-read-byte-of
-shared-slice-read-byte-of c = omega (arith, c .before .if1 .left)
+shared-slice-read-byte-of c = omega (arith, c .before .before .before .if1 .left)
 
 shared-slice-read-byte-of-2 : tie.Need-shared-slice-read-byte-of-2
-shared-slice-read-byte-of-2 c = omega (arith, c .before .before .if1 .left)
+shared-slice-read-byte-of-2 c = omega (arith, c .before .before .before .before .if1 .left)
 
 byte-of-requires : tie.Need-byte-of-requires
 byte-of-requires c κs = omega arith
@@ -119,11 +124,12 @@ returns-2 c =
     let at-byte-of3 = at-byte-of4 .before .before .before in
     let at-byte-of2 = at-byte-of3 .before .before .before in
     let at-byte-of = at-byte-of2 .before .before .before in
-    let at-if1 = at-byte-of .before .before .before in
+    let at-if1 = at-byte-of .before .before .before .before .before in
     let at-start = at-if1 .before .before in
+    let sized : length (highsOf (at-start .args .h4 .now)) ≡ 16 = refl in
     rw (eq-eqb _ 16 (at-if1 .if1 .left))
     (c .read-bytes .ensures
-    ∙ by-bytes (highsOf (at-start .args .h4 .now)) refl _ _ _ _ _ _ _ _
+    ∙ by-bytes _ (highsOf (at-start .args .h4 .now)) _ _ _ _ _ _ _ _
     (at-byte-of .byte-of .ensures)
     (at-byte-of2 .byte-of2 .ensures)
     (at-byte-of3 .byte-of3 .ensures)
@@ -131,13 +137,15 @@ returns-2 c =
     (at-byte-of5 .byte-of5 .ensures)
     (at-byte-of6 .byte-of6 .ensures)
     (at-byte-of7 .byte-of7 .ensures)
-    (c .before .byte-of8 .ensures))
+    (c .before .byte-of8 .ensures)
+    ∙ read-nibbles-with (at-byte-of .before .before .before .before .share-table .ensures) (highsOf (at-start .args .h4 .now)) (omega arith))
 
 pub read-spec : {M : Type 1} → statement M
 read-spec =
     tie.close
     (tie.spec
     returns
+    share-table-requires
     shared-slice-read-byte-of
     shared-slice-read-byte-of-2
     byte-of-requires

@@ -91,7 +91,7 @@ returns c =
     let at-byte-of = at-byte-of2 .before in
     let at-start = at-byte-of .before in
     c .read-bytes .ensures
-    ∙ by-bytes (at-start .args .t1) (omega arith) _ _ _ _ _ _ _ _
+    ∙ by-bytes _ (at-start .args .t2) _ _ _ _ _ _ _ _
     (at-byte-of .byte-of .ensures)
     (at-byte-of2 .byte-of2 .ensures)
     (at-byte-of3 .byte-of3 .ensures)

@@ -1,5 +1,5 @@
 use mathlib.Core.Path.{refl}
-use Rattle.packet.specs.Ruling.{rulingOf}
+use Rattle.packet.specs.ByTable.{rulingWith}
 use native.Mathlib.Omega.{arith}
 use Rattle.packet.proofs.ruling.ruling_of.Statement.{statement}
 use Rattle.packet.proofs.ruling.ruling_of.Tie as tie
@@ -35,23 +35,23 @@ refusal-requires-4 : tie.Need-refusal-requires-4
 refusal-requires-4 c κs = omega arith
 
 returns : tie.Need-returns
-unfolding rulingOf
+unfolding rulingWith
 returns c = rw (← c .before .before .before .before .read-row .ensures, c .before .before .reading .given .1) refl
 
 returns-2 : tie.Need-returns-2
-unfolding rulingOf
+unfolding rulingWith
 returns-2 c = rw (← c .before .before .before .read-row .ensures, c .before .enum-told .given .1) (c .refusal .ensures)
 
 returns-3 : tie.Need-returns-3
-unfolding rulingOf
+unfolding rulingWith
 returns-3 c = rw (← c .before .before .before .read-row .ensures, c .before .enum-told2 .given .1) (c .refusal2 .ensures)
 
 returns-4 : tie.Need-returns-4
-unfolding rulingOf
+unfolding rulingWith
 returns-4 c = rw (← c .before .before .before .read-row .ensures, c .before .enum-told3 .given .1) (c .refusal3 .ensures)
 
 returns-5 : tie.Need-returns-5
-unfolding rulingOf
+unfolding rulingWith
 returns-5 c = rw (← c .before .before .before .read-row .ensures, c .before .enum-told4 .given .1) (c .refusal4 .ensures)
 
 pub ruling-of-spec : {M : Type 1} → statement M

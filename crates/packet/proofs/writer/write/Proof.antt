@@ -16,9 +16,12 @@ fits-requires c κs = omega arith
 returns-2 : tie.Need-returns-2
 returns-2 c = write-field _ _ (c .before .before .if1 .left) (sym (c .before .fits2 .ensures) ∙ not-true _ (c .if2 .taken))
 
+share-table-requires : tie.Need-share-table-requires
+share-table-requires c κs = omega arith
+
 nibbles-of-requires : tie.Need-nibbles-of-requires
 nibbles-of-requires c κs =
-    bounds _ (sym (c .before .fits2 .ensures) ∙ not-false _ (c .if2 .left))
+    (c .before .share-table .ensures, bounds _ (sym (c .before .before .before .fits2 .ensures) ∙ not-false _ (c .before .before .if2 .left)))
 
 h4-of-requires : tie.Need-h4-of-requires
 h4-of-requires c κs = omega arith
@@ -37,7 +40,7 @@ returns-3 c =
     let at-copy = c .before .before in
     let at-h4-of = at-copy .before .before .before in
     let at-nibbles-of = at-h4-of .before in
-    let at-if2 = at-nibbles-of .before in
+    let at-if2 = at-nibbles-of .before .before .before in
     let at-fits2 = at-if2 .before in
     let at-if1 = at-fits2 .before in
     write-done _ _ (at-if1 .if1 .left) (sym (at-fits2 .fits2 .ensures) ∙ not-false _ (at-if2 .if2 .left)) _ _ _
@@ -50,6 +53,7 @@ write-spec =
     returns
     fits-requires
     returns-2
+    share-table-requires
     nibbles-of-requires
     h4-of-requires
     slice-aggregate-copy

@@ -1,25 +1,20 @@
-use mathlib.Core.Path.{refl}
-use Rattle.phases.specs.Passing.{passedOf}
+use mathlib.Core.Path.{_∙_}
 use native.Mathlib.Omega.{arith}
+use Rattle.phases.specs.Laws.ByTable.{passed-with}
 use Rattle.phases.proofs.passing.pass.Statement.{statement}
 use Rattle.phases.proofs.passing.pass.Tie as tie
 
-passed-group-requires : tie.Need-passed-group-requires
-passed-group-requires c κs = omega arith
+share-table-requires : tie.Need-share-table-requires
+share-table-requires c κs = omega arith
 
-pass-ports-requires : tie.Need-pass-ports-requires
-pass-ports-requires c κs = omega arith
-
-put-requires : tie.Need-put-requires
-put-requires c κs = omega arith
+pass-with-requires : tie.Need-pass-with-requires
+pass-with-requires c κs = omega arith
 
 same-length : tie.Need-same-length
 same-length c = omega arith
 
 returns : tie.Need-returns
-unfolding passedOf
-returns c = rw (c .before .put .ensures, c .before .before .before .before .pass-ports .ensures, c .before .before .before .before .before .before .passed-group .ensures) refl
+returns c = c .before .pass-with .ensures ∙ passed-with (c .before .before .before .before .share-table .ensures) _ _ _ _
 
 pub pass-spec : {M : Type 1} → statement M
-pass-spec =
-    tie.close (tie.spec passed-group-requires pass-ports-requires put-requires same-length returns)
+pass-spec = tie.close (tie.spec share-table-requires pass-with-requires same-length returns)

@@ -67,7 +67,7 @@ returns c =
     let nibbles = ruling .before in
     let whole = nibbles .before in
     let row = whole .before in
-    passed-is _ _ _ _ _ _ _ _ _ _ _ _ _ _ _ _ _ _ _ (row .marks .ensures) (whole .first .ensures) (nibbles .packet-in .ensures) (ruling .ruling-of .ensures)
+    passed-is _ _ _ _ _ _ _ _ _ _ _ _ _ _ _ _ _ _ _ _ (row .marks .ensures) (whole .first .ensures) (nibbles .packet-in .ensures) (ruling .ruling-of .ensures)
     (member .get .ensures) (packet .get2 .ensures) (step .get3 .ensures) (noted .noted-by .ensures) (pair .ruled-by .ensures) (passed .passed-step .ensures)
     (left .pass .ensures) (members .put .ensures) (packets .put2 .ensures) (steps .put3 .ensures) (c .before .put-marks .ensures)
 

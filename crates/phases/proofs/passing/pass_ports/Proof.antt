@@ -3,23 +3,24 @@ use Prim.Native.Nat.{_≤_, _-_}
 use mathlib.Core.Path.{_≡_, refl, ap, _∙_}
 use native.Mathlib.Numerals.{add-one}
 use native.Mathlib.Omega.{arith}
-use Rattle.phases.specs.Passing.{passedPorts}
-use Rattle.phases.specs.Laws.Lengths.{length-passed-ports}
+use borrow.Author.Needs.{needs}
+use Rattle.phases.specs.ByTable.{passedPortsWith}
+use Rattle.phases.specs.Laws.ByTable.{length-passed-ports-with}
 use Rattle.phases.proofs.passing.pass_ports.Statement.{statement}
 use Rattle.phases.proofs.passing.pass_ports.Tie as tie
 
 abbrev Inv-loop : tie.InvT-loop
-Inv-loop group store ports state₀ i₀ state i = (i ≤ ports) × (state ≡ passedPorts group store i state₀)
+Inv-loop table group store ports state₀ i₀ state i = (i ≤ ports) × (state ≡ passedPortsWith table group store i state₀)
 
 abbrev μ-loop : tie.MeasureT-loop
-μ-loop group store ports state₀ i₀ state i = ports - i
+μ-loop table group store ports state₀ i₀ state i = ports - i
 
 loop-holds : tie.Need-loop-holds Inv-loop μ-loop
-unfolding passedPorts
+unfolding passedPortsWith
 loop-holds c = (omega arith, refl)
 
 pass-port-requires : tie.Need-pass-port-requires Inv-loop μ-loop
-pass-port-requires c κs = omega arith
+pass-port-requires c κs = search needs
 
 add-i : tie.Need-add-i Inv-loop μ-loop
 add-i c = omega arith
@@ -28,11 +29,11 @@ loop-less : tie.Need-loop-less Inv-loop μ-loop
 loop-less c = omega arith
 
 loop-again : tie.Need-loop-again Inv-loop μ-loop
-unfolding passedPorts
+unfolding passedPortsWith
 loop-again c = (omega arith, rw (add-one, ← c .before .before .before .before .loop .inv .1) (c .before .pass-port .ensures))
 
 same-length : tie.Need-same-length Inv-loop μ-loop
-same-length c = ap length (c .before .loop .inv .1) ∙ length-passed-ports _ _ _ _
+same-length c = ap length (c .before .loop .inv .1) ∙ length-passed-ports-with _ _ _ _ _
 
 returns : tie.Need-returns Inv-loop μ-loop
 returns c = let e : c .before .loop .i ≡ c .before .before .before .args .ports = omega arith in rw e at (c .before .loop .inv .1)

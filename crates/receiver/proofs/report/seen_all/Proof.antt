@@ -11,10 +11,10 @@ use Rattle.receiver.proofs.report.seen_all.Statement.{statement}
 use Rattle.receiver.proofs.report.seen_all.Tie as tie
 
 abbrev Inv-loop : tie.InvT-loop
-Inv-loop group state ports seen₀ n i₀ seen i = (length seen₀ ≡ 64) × (n ≤ 64) × (i ≤ n) × Done i (seenOf group state) seen₀ seen
+Inv-loop table group state ports seen₀ n i₀ seen i = (length seen₀ ≡ 64) × (n ≤ 64) × (i ≤ n) × Done i (seenOf group state) seen₀ seen
 
 abbrev μ-loop : tie.MeasureT-loop
-μ-loop group state ports seen₀ n i₀ seen i = n - i
+μ-loop table group state ports seen₀ n i₀ seen i = n - i
 
 no-seen-requires : tie.Need-no-seen-requires Inv-loop μ-loop
 no-seen-requires c κs = search needs

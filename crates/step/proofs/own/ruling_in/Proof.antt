@@ -1,5 +1,5 @@
 use borrow.Author.Tests.{eq-eqb, ne-eqb}
-use Rattle.step.specs.OwnCount.{rulingIn}
+use Rattle.step.specs.ByTable.{rulingInWith}
 use borrow.Author.Needs.{needs}
 use Rattle.step.proofs.own.ruling_in.Statement.{statement}
 use Rattle.step.proofs.own.ruling_in.Tie as tie
@@ -8,14 +8,14 @@ fixed-ruling-of-requires : tie.Need-fixed-ruling-of-requires
 fixed-ruling-of-requires c κs = search needs
 
 returns : tie.Need-returns
-unfolding rulingIn
+unfolding rulingInWith
 returns c = rw (eq-eqb _ 2 (c .before .if1 .taken)) (c .fixed-ruling-of .ensures)
 
 ruling-of-requires : tie.Need-ruling-of-requires
 ruling-of-requires c κs = search needs
 
 returns-2 : tie.Need-returns-2
-unfolding rulingIn
+unfolding rulingInWith
 returns-2 c = rw (ne-eqb _ 2 (c .before .if1 .left)) (c .ruling-of .ensures)
 
 pub ruling-in-spec : {M : Type 1} → statement M

@@ -1,5 +1,5 @@
 use mathlib.Core.Path.{refl}
-use Rattle.step.specs.OwnCount.{ownRuling}
+use Rattle.step.specs.ByTable.{ownRulingWith}
 use borrow.Author.Needs.{needs}
 use Rattle.step.proofs.own.ruling_of.Statement.{statement}
 use Rattle.step.proofs.own.ruling_of.Tie as tie
@@ -11,11 +11,11 @@ ruling-in-requires : tie.Need-ruling-in-requires
 ruling-in-requires c κs = search needs
 
 returns : tie.Need-returns
-unfolding ownRuling
+unfolding ownRulingWith
 returns c = rw (← c .before .before .is-own .ensures, c .before .if1 .taken) (c .ruling-in .ensures)
 
 returns-2 : tie.Need-returns-2
-unfolding ownRuling
+unfolding ownRulingWith
 returns-2 c = rw (← c .before .is-own .ensures, c .if1 .left) refl
 
 pub ruling-of-spec : {M : Type 1} → statement M
