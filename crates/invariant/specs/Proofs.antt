@@ -14,3 +14,4 @@ pub mod Reports
 pub mod Times
 pub mod Live
 pub mod Stepping
+pub mod Read

@@ -17,7 +17,7 @@ pub struct Report {
     pub bytes: u32,
 }
 
-fn ruling_epoch(group: Group) -> u8
+pub(crate) fn ruling_epoch(group: Group) -> u8
     ensures { λ r. ⌜ r ≡ rulingEpoch group ⌝ }
 {
     let first = kinds::first_tag(group.kind, group.oldest);
@@ -25,7 +25,7 @@ fn ruling_epoch(group: Group) -> u8
     kinds::epoch_of(group.kind, before)
 }
 
-fn seen_of(group: Group, state: &[[u8; 16]], port: u8) -> Seen
+pub(crate) fn seen_of(group: Group, state: &[[u8; 16]], port: u8) -> Seen
     ensures { λ r. ⌜ r ≡ seenOf group (now (state .entry)) port ⌝ }
 {
     let packets = rows::packets::get(state, port);

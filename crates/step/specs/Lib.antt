@@ -3,6 +3,7 @@ pub mod RunKept
 mod Samples
 pub mod Starts
 pub mod OwnCount
+pub mod Carried
 pub mod Arrival
 pub mod Steady
 pub mod Laws

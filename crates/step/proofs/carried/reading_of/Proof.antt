@@ -1,0 +1,22 @@
+use borrow.Author.Needs.{needs}
+use borrow.Author.Tests.{eq-eqb, ne-eqb}
+use Rattle.step.specs.Carried.{readingIn}
+use Rattle.step.proofs.carried.reading_of.Statement.{statement}
+use Rattle.step.proofs.carried.reading_of.Tie as tie
+
+read-fixed-nibbles-requires : tie.Need-read-fixed-nibbles-requires
+read-fixed-nibbles-requires c κs = search needs
+
+returns : tie.Need-returns
+unfolding readingIn
+returns c = rw (eq-eqb _ 2 (c .before .if1 .taken)) (c .read-fixed-nibbles .ensures)
+
+read-row-requires : tie.Need-read-row-requires
+read-row-requires c κs = search needs
+
+returns-2 : tie.Need-returns-2
+unfolding readingIn
+returns-2 c = rw (ne-eqb _ 2 (c .before .if1 .left)) (c .read-row .ensures)
+
+pub reading-of-spec : {M : Type 1} → statement M
+reading-of-spec = tie.close (tie.spec read-fixed-nibbles-requires returns read-row-requires returns-2)
