@@ -8,6 +8,7 @@ pub mod Waits
 pub mod Live
 pub mod Words
 pub mod Heard
+pub mod Read
 pub mod Proofs
 pub mod Theorems
 mod Wrong

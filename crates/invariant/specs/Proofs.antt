@@ -13,3 +13,4 @@ pub mod Numbered
 pub mod Reports
 pub mod Times
 pub mod Live
+pub mod Read

@@ -1,27 +1,37 @@
 -- What holds of the receiver on every state, or after a start that is answered 0 and any calls.
 use mathlib.Core.Path.{_≡_}
 use mathlib.Core.Logic.{_⊎_, _≢_}
-use mathlib.Core.Bool.{Bool, true, false, _&&_}
+use mathlib.Core.Bool.{Bool, true, false, not, _&&_}
 use mathlib.Core.List.{List, [], _∷_}
 use Prim.Native.Nat.{ℕ, suc, _+_, _-_, _*_, _%_, _≤_, _<_}
 use lib.ListN.{getD, length}
 use Rattle.ground.specs.Drawn.{fillAt}
+use Rattle.ground.specs.Plain.{_==_}
 use Rattle.ground.specs.Table.{tabulate}
 use Rattle.judge.specs.Laws.Numbers.{numberAt}
 use Rattle.judge.specs.Order.{activeIn, orderOf, portOf}
 use Rattle.judge.specs.Theorems.Fixed.{Standing}
 use Rattle.judge.specs.Verdict.{HELD, SURE, judgeOf}
-use Rattle.packet.specs.Kinds.{epochAfter, epochOf, fixedKind, frames}
+use Rattle.packet.specs.Kinds.{epochAfter, epochOf, fixedKind, frames, tags}
 use Rattle.packet.specs.Layout.{fieldsOf}
 use Rattle.packet.specs.Ruling.{fieldsIn}
 use Rattle.packet.specs.Words.{FIXED}
-use Rattle.phases.specs.Beginning.{foremost}
+use Rattle.phases.specs.Beginning.{begins, foremost}
 use Rattle.phases.specs.Settling.{settledOf}
 use Rattle.phases.specs.Sizes.{knownKind, portsIn}
+use Rattle.receiver.specs.Anew.{anewAnswer, anewRows}
 use Rattle.receiver.specs.Fetch.{dueIn, fetchOut, fetchRows, fits, reportIfDue}
 use Rattle.receiver.specs.Frame.{frameAnswer, frameRows, settledBy, takenIn}
+use Rattle.receiver.specs.Behind.{behindIn}
+use Rattle.receiver.specs.Heard.{heardOf as saidOf, silence}
+use Rattle.receiver.specs.Laws.Behind as Behind
+use Rattle.receiver.specs.Laws.Behind.{Near}
 use Rattle.receiver.specs.Laws.Bytes.{frameBytes, reportByte}
+use Rattle.receiver.specs.Laws.Carried as Carried
+use Rattle.receiver.specs.Laws.Carried.{otherAt}
 use Rattle.receiver.specs.Report.{rulingEpoch, seenAll, seenOf}
+use Rattle.receiver.specs.Seen.{carriedAt}
+use Rattle.receiver.specs.Settings.{settingsOf}
 use Rattle.receiver.specs.Shown.{replyOf}
 use Rattle.receiver.specs.Starting.{startAsAnswer}
 use Rattle.reply.specs.Members as R
@@ -33,7 +43,8 @@ use Rattle.rows.specs.declared.group.Group.{Group}
 use Rattle.rows.specs.Group.{groupAt}
 use Rattle.rows.specs.Member.{memberAt}
 use Rattle.rows.specs.Port.{portAt}
-use Rattle.step.specs.Arrival.{flagOf}
+use Rattle.rows.specs.Step.{stepAt}
+use Rattle.step.specs.Arrival.{flagOf, inStep}
 use Rattle.store.specs.Frames.{h4At, placeIn}
 use Rattle.store.specs.Marks.{firstMark}
 use Rattle.invariant.specs.Calls.{Receiver, ReceiverCall, portAfter, receiverAfter, receiverRun, startedWith}
@@ -49,6 +60,10 @@ use Rattle.invariant.specs.Proofs.Live.Calls as Lives
 use Rattle.invariant.specs.Proofs.Live.Lost as Losing
 use Rattle.invariant.specs.Proofs.Numbered as Numbered
 use Rattle.invariant.specs.Proofs.OwnBits.Calls as OwnBits
+use Rattle.invariant.specs.Proofs.Read.Anew as Anew
+use Rattle.invariant.specs.Proofs.Read.Behind as Waiting
+use Rattle.invariant.specs.Proofs.Read.Heard as Back
+use Rattle.invariant.specs.Proofs.Read.Sizes as Settings
 use Rattle.invariant.specs.Proofs.Reports.Ack as Ack
 use Rattle.invariant.specs.Proofs.Reports.Bytes as Bytes
 use Rattle.invariant.specs.Proofs.Reports.Fixed as Fixed
@@ -61,6 +76,7 @@ use Rattle.invariant.specs.Proofs.Settles as Settles
 use Rattle.invariant.specs.Proofs.Times.Between as Between
 use Rattle.invariant.specs.Proofs.Times.Calls as Times
 use Rattle.invariant.specs.Proofs.Times.Waits as Waits
+use Rattle.invariant.specs.Read.{HeardFrom, Stopped, flagCalls}
 use Rattle.invariant.specs.Reports.{ByNumber, Given, HeldReport, Others, Refused, SameRule, Stored, Unstopped, ackIn, nextReport, passedRows, portSeen, reportPorts, reportsOf, successive}
 use Rattle.invariant.specs.Ruled.{OneEpoch}
 use Rattle.step.specs.OwnCount.{withoutMfi2}
@@ -335,3 +351,82 @@ fixed-stays = Fixed.fixed-stays
 pub fixed-told : (count P W : ℕ) (hold restore : List ℕ) (rows : List (List ℕ)) (store : List ℕ) → startAsAnswer fixedKind count P W (length store) hold restore (length rows) ≡ 0 → (calls : List ReceiverCall) (e : ℕ)
     → replyOf (receiverRun (startedWith fixedKind count P W hold restore rows store) calls .rows) e ≡ 0 ∷ 0 ∷ []
 fixed-told = Fixed.fixed-told
+
+-- What the host reads out beside ports and reply.
+
+-- Seen, on every state: a packet is good exactly if it was read with 0 and carries no other number than the own count's, and then a fetch judges by the word, number and GID that it carries.
+pub seen-good : (g : Group) (s : List (List ℕ)) (i : ℕ) → seenOf g s i .good ≡ (not (otherAt g s i) && carriedAt g s i .answer == 0)
+seen-good = Carried.seen-good
+
+pub seen-word : (g : Group) (s : List (List ℕ)) (i : ℕ) → seenOf g s i .good ≡ true → seenOf g s i .word ≡ carriedAt g s i .word
+seen-word = Carried.seen-word
+
+pub seen-number : (g : Group) (s : List (List ℕ)) (i : ℕ) → seenOf g s i .good ≡ true → seenOf g s i .number ≡ carriedAt g s i .number
+seen-number = Carried.seen-number
+
+pub seen-gid : (g : Group) (s : List (List ℕ)) (i : ℕ) → seenOf g s i .good ≡ true → seenOf g s i .gid ≡ carriedAt g s i .gid
+seen-gid = Carried.seen-gid
+
+-- Heard, on every state: the packet of the lowest port whose packet is whole and good, or nothing.
+pub heard-from : (g : Group) (s : List (List ℕ)) (n : ℕ) → HeardFrom g s n
+heard-from = Back.heard-from
+
+-- after any calls of every kind: the epoch heard is the one before the oldest
+pub heard-epoch : (kind count P W : ℕ) (hold restore : List ℕ) (rows : List (List ℕ)) (store : List ℕ) → startAsAnswer kind count P W (length store) hold restore (length rows) ≡ 0 → (calls : List ReceiverCall)
+    → (let s = receiverRun (startedWith kind count P W hold restore rows store) calls .rows in
+    let heard = saidOf (groupAt s) s (portsIn (groupAt s)) in
+    getD heard 0 0 ≡ 1 → getD heard 1 0 ≡ rulingEpoch (groupAt s))
+heard-epoch = Back.heard-epoch
+
+-- and after a report that one is the epoch of the report
+pub heard-reported : (kind count P W : ℕ) (hold restore : List ℕ) (rows : List (List ℕ)) (store : List ℕ) → startAsAnswer kind count P W (length store) hold restore (length rows) ≡ 0 → (calls : List ReceiverCall)
+    → (let x = receiverRun (startedWith kind count P W hold restore rows store) calls in
+    (out report : List ℕ) → Given (x .rows) (x .store) out report
+    → rulingEpoch (groupAt (fetchRows (x .rows) (x .store) out report)) ≡ reportIfDue (groupAt (x .rows)) (portsIn (groupAt (x .rows))) (x .rows) .epoch)
+heard-reported = Back.heard-reported
+
+-- nothing is heard until the first epoch is gathered
+pub heard-late : (kind count P W : ℕ) (hold restore : List ℕ) (rows : List (List ℕ)) (store : List ℕ) → startAsAnswer kind count P W (length store) hold restore (length rows) ≡ 0 → (calls : List ReceiverCall)
+    → (let s = receiverRun (startedWith kind count P W hold restore rows store) calls .rows in
+    flagOf (groupAt s .gathered) ≡ false → saidOf (groupAt s) s (portsIn (groupAt s)) ≡ silence)
+heard-late = Back.heard-late
+
+-- Behind, on every state: of a port in step it is a number of tags, 0 to 4,095, of VC-12 to 1,023.
+pub behind-lt : (g : Group) (s : List (List ℕ)) (n i : ℕ) → inStep g (stepAt s i) ≡ true → behindIn g s n i < tags (g .kind)
+behind-lt = Behind.behind-lt
+
+-- On every state receiving begins exactly if every port is ready, one is in step, and none in step lies more than W - 16 behind the foremost, of VC-12 W - 32.
+
+pub near-begins : (g : Group) (s : List (List ℕ)) (n : ℕ) → Near g s n → begins g s n ≡ true
+near-begins = Behind.near-begins
+
+pub begins-near : (g : Group) (s : List (List ℕ)) (n : ℕ) → begins g s n ≡ true → Near g s n
+begins-near = Behind.begins-near
+
+-- so after any calls a receiver that has not begun is not near
+pub near-begun : (kind count P W : ℕ) (hold restore : List ℕ) (rows : List (List ℕ)) (store : List ℕ) → startAsAnswer kind count P W (length store) hold restore (length rows) ≡ 0 → (calls : List ReceiverCall)
+    → (let s = receiverRun (startedWith kind count P W hold restore rows store) calls .rows in
+    Near (groupAt s) s (portsIn (groupAt s)) → flagOf (groupAt s .begun) ≡ true)
+near-begun = Waiting.near-begun
+
+-- Anew, on every state: it is one flagged frame of every port, and so a run of calls like any other.
+pub anew-run : (s : List (List ℕ)) (store : List ℕ) → anewAnswer s (length store) ≡ 0
+    → receiverRun (record { rows = s; store = store }) (flagCalls (groupAt s .payload) (portsIn (groupAt s))) .rows ≡ anewRows s store
+anew-run = Anew.anew-run
+
+-- member states, with what waits, and RS-Ack stay
+pub anew-standing : (s : List (List ℕ)) (store : List ℕ) (port : ℕ) → standingIn (anewRows s store) port ≡ standingIn s port
+anew-standing = Anew.anew-standing
+
+pub anew-ack : (s : List (List ℕ)) (store : List ℕ) → ackIn (anewRows s store) ≡ ackIn s
+anew-ack = Anew.anew-ack
+
+-- after any calls it stops receiving, and leaves every port flagged failed and not in step
+pub anew-stops : (s : List (List ℕ)) (store : List ℕ) → Kept s → anewAnswer s (length store) ≡ 0 → Stopped (anewRows s store)
+anew-stops = Anew.anew-stops
+
+-- Settings: after any calls they are those of the start.
+pub settings-are : (kind count P W : ℕ) (hold restore : List ℕ) (rows : List (List ℕ)) (store : List ℕ) → startAsAnswer kind count P W (length store) hold restore (length rows) ≡ 0 → (calls : List ReceiverCall)
+    → (let s = receiverRun (startedWith kind count P W hold restore rows store) calls .rows in
+    settingsOf (groupAt s) (portsIn (groupAt s)) ≡ kind ∷ count ∷ P ∷ W ∷ [])
+settings-are = Settings.settings-are

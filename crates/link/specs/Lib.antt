@@ -8,6 +8,7 @@ pub mod Link
 pub mod Assumed
 pub mod FixedGroup
 pub mod Demand3
+pub mod Heard
 pub mod Proofs
 pub mod Theorems
 pub mod Opened

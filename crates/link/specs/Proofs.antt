@@ -7,5 +7,6 @@ pub mod Transport
 pub mod Judged
 pub mod Alike
 pub mod Over
+pub mod Heard
 pub mod Histories
 pub mod FixedGroups

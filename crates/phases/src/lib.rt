@@ -13,3 +13,5 @@ pub use settling::settle;
 pub use sizes::is_startable;
 pub use sizes::ports_in;
 pub use sizes::store_for;
+pub use starting::foremost;
+pub use starting::latest;

@@ -20,7 +20,7 @@ fn is_ready(group: Group, step: Step) -> bool
     is_set(step.had) & (in_step | is_set(step.failed))
 }
 
-fn latest(group: Group, step: Step) -> u16
+pub fn latest(group: Group, step: Step) -> u16
     ensures { λ r. ⌜ r ≡ latest group step ⌝ }
 {
     kinds::previous_tag(group.kind, step.next)
@@ -52,7 +52,7 @@ fn further(group: Group, fore: u16, step: Step) -> u16
     fore
 }
 
-pub(crate) fn foremost(group: Group, state: &[[u8; 16]], ports: u8) -> u16
+pub fn foremost(group: Group, state: &[[u8; 16]], ports: u8) -> u16
     ensures { λ r. ⌜ r ≡ foremost group (now (state .entry)) ports ⌝ }
 {
     let mut fore = no_tag(group);

@@ -3,6 +3,7 @@ pub mod Arriving
 pub mod Fetched
 pub mod Lists
 pub mod Numbers
+pub mod Reading
 pub mod Showing
 pub mod Sizes
 pub mod Started

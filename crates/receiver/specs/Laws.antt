@@ -8,3 +8,7 @@ pub mod Passed
 pub mod Seen
 pub mod Told
 pub mod Bytes
+pub mod Anew
+pub mod Heard
+pub mod Carried
+pub mod Behind

@@ -6,3 +6,8 @@ pub mod Frame
 pub mod Report
 pub mod Fetch
 pub mod Shown
+pub mod Seen
+pub mod Heard
+pub mod Behind
+pub mod Anew
+pub mod Settings

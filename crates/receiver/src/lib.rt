@@ -2,16 +2,26 @@
 // Its state is lent rows of sixteen bytes, its frames stand in a lent store.
 mod arrival;
 mod fetching;
+mod flagging;
 mod flags;
+mod hearing;
 mod joining;
+mod lagging;
 mod lengths;
 mod report;
+mod seeing;
+mod setting;
 mod shown;
 mod starting;
 mod states;
 
 pub use arrival::frame;
 pub use fetching::fetch;
+pub use flagging::anew;
+pub use hearing::heard;
+pub use lagging::behind;
+pub use seeing::seen;
+pub use setting::settings;
 pub use shown::ports;
 pub use shown::reply;
 pub use starting::start;

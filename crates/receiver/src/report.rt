@@ -20,7 +20,7 @@ pub struct Report {
     pub bytes: u32,
 }
 
-fn ruling_epoch(group: Group) -> u8
+pub(crate) fn ruling_epoch(group: Group) -> u8
     ensures { λ r. ⌜ r ≡ rulingEpoch group ⌝ }
 {
     let first = kinds::first_tag(group.kind, group.oldest);
@@ -35,7 +35,7 @@ fn ruling_of(table: &[[u8; 256]; 7], kind: u8, epoch: u8, nibbles: [u8; 16]) -> 
     step::ruling_of(table, kind, epoch, nibbles)
 }
 
-fn seen_of(table: &[[u8; 256]; 7], group: Group, state: &[[u8; 16]], port: u8) -> Seen
+pub(crate) fn seen_of(table: &[[u8; 256]; 7], group: Group, state: &[[u8; 16]], port: u8) -> Seen
     requires { ⌜ now table ≡ sharesOf ⌝ }
     ensures { λ r. ⌜ r ≡ seenOf group (now (state .entry)) port ⌝ }
 {

@@ -74,7 +74,7 @@ fn show_ports(group: Group, count: u8, state: &[[u8; 16]], out: &mut [[u8; 8]])
     }
 }
 
-fn is_shown(count: u8, rows: usize, out: usize) -> bool
+pub(crate) fn is_shown(count: u8, rows: usize, out: usize) -> bool
     ensures { λ r. ⌜ r ≡ shownFit count rows out ⌝ }
 {
     let fit = lengths::is_rows(count, rows);

@@ -1,6 +1,7 @@
 -- Laws on the step rule and on what a frame does, for the proofs above them.
 pub mod Arrival
 pub mod ByTable
+pub mod Carried
 pub mod FixedPackets
 pub mod H4Run
 pub mod Kept

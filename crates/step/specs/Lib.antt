@@ -4,6 +4,7 @@ mod Samples
 pub mod Starts
 pub mod OwnCount
 pub mod ByTable
+pub mod Carried
 pub mod Arrival
 pub mod Steady
 pub mod Opened

@@ -8,7 +8,7 @@ ghost use Rattle.step.specs.ByTable.{ownRulingWith, rulingInWith};
 ghost use Rattle.step.specs.OwnCount.{endsOdd, oddPacket, ownNumber, rightCrc};
 
 // Whether MFI2, in the ninth and tenth nibble, is the number of the packet's epoch.
-fn is_own(epoch: u8, nibbles: [u8; 16]) -> bool
+pub(crate) fn is_own(epoch: u8, nibbles: [u8; 16]) -> bool
     ensures { λ r. ⌜ r ≡ ownNumber epoch nibbles ⌝ }
 {
     nibbles[8] % 16 * 16 + nibbles[9] % 16 == epoch

@@ -43,7 +43,7 @@ module _ (kind count P W : ℕ) (hold restore : List ℕ) (rows : List (List ℕ
   abbrev now : List (List ℕ)
   now = receiverRun (startedWith kind count P W hold restore rows store) calls .rows
 
-  kind-is : groupAt now .kind ≡ kind
+  pub kind-is : groupAt now .kind ≡ kind
   kind-is =
       let group : groupAt (startAsRows kind count P W (length store) hold restore rows) ≡ groupWith kind count P W = started-with kind count P W (length store) hold restore rows e in
       run-sizes x calls (started-kept kind count P W (length store) hold restore rows e) .kind ∙ ap (λ (g : Group). g .kind) group

@@ -8,6 +8,7 @@ pub mod Payloads
 pub mod Ports
 pub mod Reaching
 pub mod Ruling
+pub mod SaysBack
 pub mod Senders
 pub mod Sure
 pub mod Tables

@@ -113,7 +113,7 @@ module _ (k : Link) (a : AssumedOver k) where
                 omega arith
 
   module _ (m₀ : Moment) (o : Started k m₀) where
-    from-start : Before (roadOf k) m₀ (k .first)
+    pub from-start : Before (roadOf k) m₀ (k .first)
     unfolding roadOf
     from-start = subst (λ (m : Moment). Before (roadOf k) m (k .first)) (sym (o .is)) (start (roadOf k) (fair k a) (o .hold) (o .restore) (o .hold-times) (o .restore-times) (o .rows) (o .store) (o .rows-long) (o .store-long))
 

@@ -21,7 +21,7 @@ pub record Fitting (g : Group) (n i rows payload store : ℕ) : Type 0 where
   pub bytes : payload ≡ g .payload
   pub stored : store ≡ storeFor g n
 
-fit-rows : (n rows : ℕ) → 0 < n → rowsFit n rows ≡ true → rows ≡ rowsFor n
+pub fit-rows : (n rows : ℕ) → 0 < n → rowsFit n rows ≡ true → rows ≡ rowsFor n
 unfolding rowsFit
 fit-rows n rows b e =
     ⊎-elim (λ (z : eqb n 0 ≡ true). absurd (let w = eqb-true n 0 z in omega arith)) (λ (z : eqb rows (rowsFor n) ≡ true). eqb-true rows (rowsFor n) z)

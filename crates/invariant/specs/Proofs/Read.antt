@@ -1,0 +1,5 @@
+-- What the theorems on what the host reads out need.
+pub mod Heard
+pub mod Anew
+pub mod Behind
+pub mod Sizes
