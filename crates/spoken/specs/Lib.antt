@@ -3,8 +3,10 @@ pub mod Changes
 pub mod Fitting
 pub mod Laws
 pub mod Listening
+pub mod Runs
 pub mod Shown
 pub mod Speaking
+pub mod SpeakingRuns
 pub mod Taking
 pub mod Theorems
 mod Wrong
