@@ -1016,6 +1016,40 @@ uint8_t levelspruce_board_speak(const uint8_t *changes, size_t changes_length,
                                 size_t *written);
 
 /*
+ * The same in runs, for many slots: slots next to each other whose old and new
+ * words are alike, and whose numbers rise by one with each slot or are alike,
+ * are one line, as 'slots 1 to 62 was NORM 1 to 62 now NORM 0 to 61'. Numbers
+ * that are alike are told once, and IDLE's 255 not at all, as 'slots 0 to 63
+ * was IDLE now ADD 0 to 63'. Each run is as long as it can be. A slot by itself
+ * is told as levelspruce_board_speak tells it.
+ *
+ * Its parameters and answers are those of levelspruce_board_speak.
+ */
+LEVELSPRUCE_MUST_USE
+uint8_t levelspruce_board_speak_runs(const uint8_t *changes,
+                                     size_t changes_length, uint8_t *text,
+                                     size_t text_length, size_t *written);
+
+/*
+ * Writes a whole board as lines, in such runs, as 'slots 0 to 4 NORM 0 to 4',
+ * 'slot 5 EOS 5', 'slots 6 to 63 IDLE'; then 'wait 0' or 'wait 1'.
+ *
+ *   board     LEVELSPRUCE_BOARD_BYTES bytes
+ *   text      LEVELSPRUCE_SPEECH_BYTES bytes or more; the lines stand at its
+ *             front, and the rest stays
+ *   written   how many bytes the lines take
+ *
+ * Answers, the first that fits:
+ *   9  board_length is wrong, or text_length below LEVELSPRUCE_SPEECH_BYTES
+ *   2  the count is above 64, or a slot has a word that no board shows
+ *   0  the lines and written are written
+ */
+LEVELSPRUCE_MUST_USE
+uint8_t levelspruce_board_speak_whole(const uint8_t *board, size_t board_length,
+                                      uint8_t *text, size_t text_length,
+                                      size_t *written);
+
+/*
  * The receiver. The host lends the calls
  * - the state: LEVELSPRUCE_RECEIVER_ROWS(ports) rows of sixteen bytes;
  * - the store: LEVELSPRUCE_STORE_BYTES(ports, payload, window) bytes, in which

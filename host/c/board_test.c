@@ -1,6 +1,6 @@
 /*
  * Tests of the spoken board's calls over the archive: every answer number, the order of the refusals, that a refusal changes
- * no byte, the worked examples P9 and P10, each way in which changes do not fit, and the lines.
+ * no byte, the worked examples P9 and P10, each way in which changes do not fit, and the lines, slot by slot and in runs.
  */
 #include <levelspruce.h>
 
@@ -71,9 +71,47 @@ static int spoken(size_t cl, size_t tl)
     return untouched(&changes) && stands(&text, answer == 0 ? written : 0) && (answer == 0 || written == 12345) ? answer : -1;
 }
 
+/* In runs it is refused as it is slot by slot. */
+static int spoken_in_runs(size_t cl, size_t tl)
+{
+    int answer;
+
+    lend(&text, NULL, 0);
+    remember(&changes);
+    written = 12345;
+    answer = levelspruce_board_speak_runs(cl ? lent_bytes(&changes) : NULL, cl, tl ? lent_bytes(&text) : NULL, tl, &written);
+    return untouched(&changes) && stands(&text, answer == 0 ? written : 0) && (answer == 0 || written == 12345) ? answer : -1;
+}
+
+static int spoken_whole(size_t bl, size_t tl)
+{
+    int answer;
+
+    lend(&text, NULL, 0);
+    remember(&before);
+    written = 12345;
+    answer = levelspruce_board_speak_whole(bl ? lent_bytes(&before) : NULL, bl, tl ? lent_bytes(&text) : NULL, tl, &written);
+    return untouched(&before) && stands(&text, answer == 0 ? written : 0) && (answer == 0 || written == 12345) ? answer : -1;
+}
+
+static int stand(const char *lines)
+{
+    return written == strlen(lines) && memcmp(lent_bytes(&text), lines, written) == 0;
+}
+
 static int says(const char *lines)
 {
-    return spoken(CHANGES, SPEECH) == 0 && written == strlen(lines) && memcmp(lent_bytes(&text), lines, written) == 0;
+    return spoken(CHANGES, SPEECH) == 0 && stand(lines);
+}
+
+static int runs_say(const char *lines)
+{
+    return compared(BOARD, BOARD, CHANGES) == 0 && spoken_in_runs(CHANGES, SPEECH) == 0 && stand(lines);
+}
+
+static int whole_says(const char *lines)
+{
+    return spoken_whole(BOARD, SPEECH) == 0 && stand(lines);
 }
 
 /* The changes are these, and zeros behind them. */
@@ -127,6 +165,8 @@ static void refusals(void)
         lend(&changes, p9_changes, sizeof p9_changes);
         apply = apply && applied(wrong[i], CHANGES) == 9 && applied(BOARD, wrong[i]) == 9;
         speak = speak && spoken(wrong[i], SPEECH) == 9 && spoken(CHANGES, wrong[i]) == 9;
+        speak = speak && spoken_in_runs(wrong[i], SPEECH) == 9 && spoken_in_runs(CHANGES, wrong[i]) == 9;
+        speak = speak && spoken_whole(wrong[i], SPEECH) == 9 && spoken_whole(BOARD, wrong[i]) == 9;
     }
     check("a wrong length is 9 in comparing", compare);
     check("a wrong length is 9 in applying", apply);
@@ -151,7 +191,7 @@ static int bent(size_t at, uint8_t byte, int apply, int speak)
     board(&before, 3, 0, p9_before);
     lend(&changes, p9_changes, sizeof p9_changes);
     lent_bytes(&changes)[at] = byte;
-    return spoken(CHANGES, SPEECH) == speak && applied(BOARD, CHANGES) == apply;
+    return spoken(CHANGES, SPEECH) == speak && spoken_in_runs(CHANGES, SPEECH) == speak && applied(BOARD, CHANGES) == apply;
 }
 
 static void unfit(void)
@@ -201,11 +241,76 @@ static void longest(void)
     check("rows past the count are not compared", compared(BOARD, BOARD, CHANGES) == 0 && says(""));
 }
 
+/* So many slots NORM with numbers from 0 on, and EOS on the last. */
+static void carrying(struct lent *l, uint8_t slots)
+{
+    uint8_t i;
+
+    board(l, 0, 0, p9_before);
+    lent_bytes(l)[LEVELSPRUCE_BOARD_COUNT] = LEVELSPRUCE_SLOTS_MOST;
+    for (i = 0; i < slots; i++) {
+        lent_bytes(l)[LEVELSPRUCE_BOARD_ROWS + 2 * i] = i + 1 < slots ? N : E;
+        lent_bytes(l)[LEVELSPRUCE_BOARD_ROWS + 2 * i + 1] = i;
+    }
+}
+
+/* The row of a slot. */
+static void show(struct lent *l, uint8_t slot, uint8_t word, uint8_t number)
+{
+    lent_bytes(l)[LEVELSPRUCE_BOARD_ROWS + 2 * slot] = word;
+    lent_bytes(l)[LEVELSPRUCE_BOARD_ROWS + 2 * slot + 1] = number;
+}
+
+static void runs(void)
+{
+    uint8_t i;
+
+    carrying(&before, 0);
+    carrying(&after, 64);
+    check("64 slots become active in two lines", runs_say("slots\t0\tto\t62\twas\tIDLE\tnow\tNORM\t0\tto\t62\nslot\t63\twas\tIDLE\t255\tnow\tEOS\t63\n"));
+    check("and a whole board of IDLE is one", whole_says("slots\t0\tto\t63\tIDLE\nwait\t0\n"));
+    carrying(&before, 64);
+    lent_bytes(&after)[LEVELSPRUCE_BOARD_WAIT] = 1;
+    show(&after, 0, I, 255);
+    for (i = 1; i < 64; i++)
+        show(&after, i, i < 63 ? N : E, (uint8_t)(i - 1));
+    check("the first of 64 is removed in four lines", runs_say("slot\t0\twas\tNORM\t0\tnow\tIDLE\t255\nslots\t1\tto\t62\twas\tNORM\t1\tto\t62\tnow\tNORM\t0\tto\t61\n"
+          "slot\t63\twas\tEOS\t63\tnow\tEOS\t62\nwait\topen\n"));
+    check("and a whole board is told so", whole_says("slots\t0\tto\t62\tNORM\t0\tto\t62\nslot\t63\tEOS\t63\nwait\t0\n"));
+    carrying(&before, 6);
+    carrying(&after, 6);
+    show(&after, 1, D, 1);
+    show(&after, 3, D, 3);
+    show(&after, 4, D, 4);
+    check("slots with one between them are no run", runs_say("slot\t1\twas\tNORM\t1\tnow\tDNU\t1\nslots\t3\tto\t4\twas\tNORM\t3\tto\t4\tnow\tDNU\t3\tto\t4\n"));
+    check("a board's last slots are IDLE", whole_says("slots\t0\tto\t4\tNORM\t0\tto\t4\nslot\t5\tEOS\t5\nslots\t6\tto\t63\tIDLE\nwait\t0\n"));
+    carrying(&before, 3);
+    carrying(&after, 3);
+    show(&before, 3, I, 63);
+    show(&before, 4, I, 63);
+    show(&after, 3, D, 9);
+    show(&after, 4, D, 8);
+    check("numbers that fall are no run", runs_say("slot\t3\twas\tIDLE\t63\tnow\tDNU\t9\nslot\t4\twas\tIDLE\t63\tnow\tDNU\t8\n"));
+    show(&after, 4, D, 10);
+    check("IDLE with another number than 255 is told with it", runs_say("slots\t3\tto\t4\twas\tIDLE\t63\tnow\tDNU\t9\tto\t10\n"));
+    show(&before, 5, 7, 0);
+    check("a word with no name is 2 in a whole board", spoken_whole(BOARD, SPEECH) == 2);
+    lent_bytes(&before)[LEVELSPRUCE_BOARD_COUNT] = 5;
+    check("and past the count it is not looked at", spoken_whole(BOARD, SPEECH) == 0);
+    lent_bytes(&before)[LEVELSPRUCE_BOARD_COUNT] = 65;
+    check("a count above 64 is 2", spoken_whole(BOARD, SPEECH) == 2);
+    check("9 comes before 2 there", spoken_whole(BOARD, SPEECH - 1) == 9);
+    lent_bytes(&before)[LEVELSPRUCE_BOARD_COUNT] = 0;
+    lent_bytes(&before)[LEVELSPRUCE_BOARD_WAIT] = 7;
+    check("a board of no slot has its wait", whole_says("wait\t1\n"));
+}
+
 int main(void)
 {
     examples();
     refusals();
     unfit();
     longest();
+    runs();
     return tally();
 }

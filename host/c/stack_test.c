@@ -178,6 +178,8 @@ static void telling(void)
         after[LEVELSPRUCE_BOARD_ROWS + 2 * i + 1] = LEVELSPRUCE_NUMBER_IDLE;
     answers |= levelspruce_board_changes(board, sizeof board, after, sizeof after, changes, sizeof changes);
     answers |= levelspruce_board_speak(changes, sizeof changes, text, sizeof text, &written);
+    answers |= levelspruce_board_speak_runs(changes, sizeof changes, text, sizeof text, &written);
+    answers |= levelspruce_board_speak_whole(after, sizeof after, text, sizeof text, &written);
     answers |= levelspruce_board_apply(board, sizeof board, changes, sizeof changes);
     answers |= memcmp(board, after, sizeof board) != 0;
 }

@@ -12,9 +12,11 @@ pub fn compare(count: &mut Count) {
     let mut changes = Test::new("changes between boards");
     let mut applies = Test::new("changes applied to a board");
     let mut speaks = Test::new("changes as lines");
-    for _ in 0..60_000 {
-        let old = board(&mut random);
-        let mut new = another(&mut random, &old);
+    let mut runs = Test::new("changes as lines of runs");
+    let mut wholes = Test::new("whole boards as lines of runs");
+    for turn in 0..60_000 {
+        let old = if turn % 2 == 0 { board(&mut random) } else { stretched(&mut random) };
+        let mut new = if turn % 4 == 1 { restretched(&mut random, &old) } else { another(&mut random, &old) };
         let told = compared(&mut random, &mut changes, &old, &new);
         if told.len() != CHANGES_BYTES {
             continue;
@@ -22,7 +24,9 @@ pub fn compare(count: &mut Count) {
         let held = if random.below(4) == 0 { another(&mut random, &old) } else { old.clone() };
         let list = bent(&mut random, &told);
         applied(&mut random, &mut applies, &held, &list);
-        said(&mut random, &mut speaks, &list);
+        said(&mut random, &mut speaks, &list, spoken::speak, card::board_speak);
+        said(&mut random, &mut runs, &list, spoken::speak_runs, card::board_speak_runs);
+        said(&mut random, &mut wholes, &new, spoken::speak_whole, card::board_speak_whole);
         // what a call returned fits the board that it came from, and gives the other one; where it was refused the count is no count
         if told[0] <= 64 {
             new[1] = u8::from(new[1] != 0);
@@ -35,6 +39,8 @@ pub fn compare(count: &mut Count) {
     changes.end(count, &[0, 4, 9]);
     applies.end(count, &[0, 2, 9]);
     speaks.end(count, &[0, 2, 9]);
+    runs.end(count, &[0, 2, 9]);
+    wholes.end(count, &[0, 2, 9]);
 }
 
 fn word(random: &mut Random) -> u8 {
@@ -55,6 +61,35 @@ fn board(random: &mut Random) -> Vec<u8> {
     for i in 0..64 {
         bytes[2 + 2 * i] = word(random);
         bytes[3 + 2 * i] = random.one_of(&[i as u8, 0, 63, 255]);
+    }
+    bytes
+}
+
+/// A stretch of slots from a place on, of one word, with numbers that rise or are alike.
+fn stretch(random: &mut Random, bytes: &mut [u8], at: usize) {
+    let (most, word, number, by) = (1 + random.below(20) as usize, word(random), random.below(256) as u8, random.below(2) as u8);
+    let (word, number, by) = if random.below(3) == 0 { (5, 255, 0) } else { (word, number, by) };
+    for (i, row) in bytes[2 + 2 * at..].chunks_mut(2).take(most).enumerate() {
+        row.copy_from_slice(&[word, number.wrapping_add(by * i as u8)]);
+    }
+}
+
+/// A board of such stretches.
+fn stretched(random: &mut Random) -> Vec<u8> {
+    let mut bytes = board(random);
+    for _ in 0..random.below(12) {
+        let at = random.below(64) as usize;
+        stretch(random, &mut bytes, at);
+    }
+    bytes
+}
+
+/// The same with other stretches.
+fn restretched(random: &mut Random, board: &[u8]) -> Vec<u8> {
+    let mut bytes = board.to_vec();
+    for _ in 0..random.below(6) {
+        let at = random.below(64) as usize;
+        stretch(random, &mut bytes, at);
     }
     bytes
 }
@@ -132,12 +167,15 @@ fn applied(random: &mut Random, test: &mut Test, board: &[u8], changes: &[u8]) {
     test.case(expected, &(expected, &by_reference), &(answer, &by_card), &(board, &changes));
 }
 
-fn said(random: &mut Random, test: &mut Test, changes: &[u8]) {
-    let changes = cut(random, changes);
+type Speaks = fn(&[u8], &mut [u8], &mut usize) -> u8;
+
+/// What is told of changes, or of a board, by one call and by the other.
+fn said(random: &mut Random, test: &mut Test, bytes: &[u8], reference: Speaks, card: Speaks) {
+    let bytes = cut(random, bytes);
     let mut by_reference = cut(random, &vec![0xA5; TEXT_ROOM]);
     let mut by_card = by_reference.clone();
     let (mut expected_length, mut length) = (77, 77);
-    let expected = spoken::speak(&changes, &mut by_reference, &mut expected_length);
-    let answer = card::board_speak(&changes, &mut by_card, &mut length);
-    test.case(expected, &(expected, expected_length, &by_reference), &(answer, length, &by_card), &changes);
+    let expected = reference(&bytes, &mut by_reference, &mut expected_length);
+    let answer = card(&bytes, &mut by_card, &mut length);
+    test.case(expected, &(expected, expected_length, &by_reference), &(answer, length, &by_card), &bytes);
 }

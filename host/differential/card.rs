@@ -72,6 +72,12 @@ extern "C" {
     fn levelspruce_board_speak(
         changes: *const u8, changes_length: usize, text: *mut u8, text_length: usize, written: *mut usize,
     ) -> u8;
+    fn levelspruce_board_speak_runs(
+        changes: *const u8, changes_length: usize, text: *mut u8, text_length: usize, written: *mut usize,
+    ) -> u8;
+    fn levelspruce_board_speak_whole(
+        board: *const u8, board_length: usize, text: *mut u8, text_length: usize, written: *mut usize,
+    ) -> u8;
     fn levelspruce_mend_lengths(recording: *const u8, recording_length: usize, mended_length: *mut usize, notes_length: *mut usize) -> u8;
     fn levelspruce_mend(
         recording: *const u8, recording_length: usize, mended: *mut u8, mended_length: usize, notes: *mut u8, notes_length: usize,
@@ -275,6 +281,14 @@ pub fn board_apply(board: &mut [u8], changes: &[u8]) -> u8 {
 
 pub fn board_speak(changes: &[u8], text: &mut [u8], written: &mut usize) -> u8 {
     unsafe { levelspruce_board_speak(changes.as_ptr(), changes.len(), text.as_mut_ptr(), text.len(), written) }
+}
+
+pub fn board_speak_runs(changes: &[u8], text: &mut [u8], written: &mut usize) -> u8 {
+    unsafe { levelspruce_board_speak_runs(changes.as_ptr(), changes.len(), text.as_mut_ptr(), text.len(), written) }
+}
+
+pub fn board_speak_whole(board: &[u8], text: &mut [u8], written: &mut usize) -> u8 {
+    unsafe { levelspruce_board_speak_whole(board.as_ptr(), board.len(), text.as_mut_ptr(), text.len(), written) }
 }
 
 pub fn receiver_start(ports: u32, payload: u32, window: u32, store_bytes: usize, state: &mut [Row]) -> u8 {

@@ -131,15 +131,15 @@ fn refused(at: usize, bytes: &[u8], answer: u8) -> String {
 }
 
 /// The whole output for a listener: `epoch` tells what has changed since the one before, a size that she begins anew, and
-/// of other lines only the refused ones are answered.
-pub fn told(input: &[u8]) -> String {
+/// of other lines only the refused ones are answered. Slots are told each by itself, or in runs.
+pub fn told(input: &[u8], in_runs: bool) -> String {
     let mut table = Table::default();
     let mut heard = table.board().bytes();
     let mut output = String::new();
     for (place, bytes) in lines(input).into_iter().enumerate() {
         if bytes == b"epoch" {
             let now = table.board().bytes();
-            output += &spoken::told(&heard, &now).expect("boards of one group");
+            output += &spoken::told(&heard, &now, in_runs).expect("boards of one group");
             heard = now;
             continue;
         }
@@ -152,6 +152,7 @@ pub fn told(input: &[u8]) -> String {
             }
             Some(DONE) => {}
             Some(answer) => output += &refused(place + 1, bytes, answer),
+            None if in_runs => output += &spoken::whole(&table.board().bytes()).expect("a board"),
             None => output += &said,
         }
     }

@@ -1,7 +1,8 @@
 //! Holds the built session program, or the one that tells a listener, to the reference: given sessions with their whole
 //! output, and many made-up ones, each a run of the program on standard input. Every run makes the same ones.
 //!
-//! Usage: sessions session|speak FILE COMMAND WORD.., where FILE has the given sessions and COMMAND runs the program.
+//! Usage: sessions session|speak|runs FILE COMMAND WORD.., where FILE has the given sessions and COMMAND runs the program: speak where
+//! each slot is told by itself, runs where slots are told in runs.
 
 #[path = "../differential/count.rs"]
 #[allow(dead_code)] // not all of it is used here
@@ -104,8 +105,9 @@ fn made_up(random: &mut Random, told: bool) -> Vec<u8> {
 
 fn main() {
     let words: Vec<String> = std::env::args().skip(1).collect();
-    let told = words[0] == "speak";
-    let by_reference = |input: &[u8]| if told { reference::session::told(input) } else { reference::session::run(input) };
+    let told = words[0] != "session";
+    let in_runs = words[0] == "runs";
+    let by_reference = |input: &[u8]| if told { reference::session::told(input, in_runs) } else { reference::session::run(input) };
     let text = std::fs::read_to_string(&words[1]).expect("the file of sessions is read");
     let command = &words[2..];
     let mut count = Count::default();

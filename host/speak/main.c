@@ -1,8 +1,9 @@
 /*
- * speak: the session over a sender, told to someone who listens. Reads lines on standard input. At each `epoch` it prints
- * the changes of the board going out, and nothing where nothing has changed. A line that is refused is named, with why.
+ * speak [--runs|--each]: the session over a sender, told to someone who listens. Reads lines on standard input. At each `epoch`
+ * it prints the changes of the board going out, and nothing where nothing has changed; slots of a kind in runs, or with --each
+ * each slot by itself. A line that is refused is named, with why.
  *
- * Status 0; 2: an input that cannot be read or an output that cannot be written.
+ * Status 0; 2: an input that cannot be read, an output that cannot be written, or another choice.
  */
 #include <levelspruce.h>
 
@@ -16,6 +17,8 @@
 
 static uint8_t sender[LEVELSPRUCE_SENDER_BYTES];
 static uint8_t heard[LEVELSPRUCE_BOARD_BYTES]; /* the board that the listener holds */
+static uint8_t text[LEVELSPRUCE_SPEECH_BYTES];
+static int each; /* each slot by itself */
 
 /* Ends the program where it cannot go on. */
 static void stop(const char *why)
@@ -54,31 +57,44 @@ static uint8_t size(uint32_t count)
 /* Starts an epoch, and tells what goes out in it that did not before. */
 static void epoch(void)
 {
-    static uint8_t text[LEVELSPRUCE_SPEECH_BYTES];
     uint8_t now[LEVELSPRUCE_BOARD_BYTES], changes[LEVELSPRUCE_CHANGES_BYTES];
     size_t written;
 
     must(levelspruce_sender_start_epoch(sender, sizeof sender, 0, 0xFF, 0), "the start of an epoch was refused");
     take(now);
     must(levelspruce_board_changes(heard, sizeof heard, now, sizeof now, changes, sizeof changes), "the changes of a board were refused");
-    must(levelspruce_board_speak(changes, sizeof changes, text, sizeof text, &written), "the lines of changes were refused");
+    must(each ? levelspruce_board_speak(changes, sizeof changes, text, sizeof text, &written)
+              : levelspruce_board_speak_runs(changes, sizeof changes, text, sizeof text, &written),
+         "the lines of changes were refused");
     must(levelspruce_board_apply(heard, sizeof heard, changes, sizeof changes), "applying changes was refused");
     fwrite(text, 1, written, stdout);
 }
 
-/* The table as it stands now, which may be ahead of what goes out. */
-static void board(void)
+static void board_by_slot(const uint8_t *now)
 {
-    uint8_t now[LEVELSPRUCE_BOARD_BYTES];
     uint32_t slot;
 
-    must(levelspruce_sender_board(sender, sizeof sender, now, sizeof now), "the board was refused");
     for (slot = 0; slot < now[LEVELSPRUCE_BOARD_COUNT]; slot++) {
         const uint8_t *row = now + LEVELSPRUCE_BOARD_ROWS + 2 * slot;
 
         printf("slot\t%lu\t%s\t%d\n", (unsigned long)slot, levelspruce_word_name(row[0]), row[1]);
     }
     printf("wait\t%d\n", now[LEVELSPRUCE_BOARD_WAIT]);
+}
+
+/* The table as it stands now, which may be ahead of what goes out. */
+static void board(void)
+{
+    uint8_t now[LEVELSPRUCE_BOARD_BYTES];
+    size_t written;
+
+    must(levelspruce_sender_board(sender, sizeof sender, now, sizeof now), "the board was refused");
+    if (each) {
+        board_by_slot(now);
+        return;
+    }
+    must(levelspruce_board_speak_whole(now, sizeof now, text, sizeof text, &written), "the lines of a board were refused");
+    fwrite(text, 1, written, stdout);
 }
 
 /* Does what a line says. The answer; a line that is done says nothing by itself. */
@@ -109,12 +125,15 @@ static void says_refused(const struct line *l, unsigned long number, uint8_t ans
     printf("\t%s\n", refusal(l->word, answer));
 }
 
-int main(void)
+int main(int argc, char **argv)
 {
     struct line line;
     unsigned long number;
     uint8_t answer;
 
+    each = argc == 2 && strcmp(argv[1], "--each") == 0;
+    if (argc > 1 && !each && (argc > 2 || strcmp(argv[1], "--runs") != 0))
+        stop("the choices are --runs and --each");
     /* before any size there are no slots: an empty group, under 4 */
     if (levelspruce_sender_start(0, 0, sender, sizeof sender) != LEVELSPRUCE_ANSWER_RANGE)
         stop("a group cannot be started");

@@ -8,4 +8,5 @@ pub mod SenderCalls
 pub mod Showing
 pub mod Telling
 pub mod TwoGroups
+pub mod WholeBoards
 pub mod Wholes

@@ -16,8 +16,10 @@ use Rattle.spoken.specs.declared.lists.Changes.{Changes}
 use Rattle.spoken.specs.declared.speaking.Speech.{Speech}
 use Rattle.spoken.specs.Shown.{waitCode}
 use Rattle.spoken.specs.Speaking.{SPEECH-ROOM, speechBytes, speechOf}
+use Rattle.spoken.specs.SpeakingRuns.{runsSpeechBytes, runsSpeechOf}
 use Rattle.c_face.specs.Boards.{boardBytesOf}
-use Rattle.c_face.specs.Changes.{appliedAnswerC, appliedBytesC, boardFrom, changeBytes, changesByte, changesBytesOf, changesFrom, comparedAnswerC, comparedBytesC, listByte, spokenAnswerC, spokenBytesC, writtenC}
+use Rattle.c_face.specs.Changes.{answerBy, appliedAnswerC, appliedBytesC, boardFrom, bytesBy, changeBytes, changesByte, changesBytesOf, changesFrom, comparedAnswerC, comparedBytesC, listByte, spokenAnswerC, spokenBytesC, writtenBy, writtenC}
+use Rattle.c_face.specs.Runs.{runsAnswerC, runsBytesC, runsWrittenC}
 
 -- five bytes more
 pub five-more : {out₀ out new : List ℕ} (list : List Change) (i : ℕ) (five : List ℕ) → five ≡ changeBytes (changeIn list i) → Filling 2 (5 * i) (listByte list) out₀ out
@@ -58,12 +60,6 @@ compared-both old new a b r ea eb e = e ∙ rw (ea, eb)
 pub applied-both : (board changes : List ℕ) (b : Board) (cs : Changes) (r : Applied) → b ≡ boardFrom board → cs ≡ changesFrom changes → r ≡ appliedOf b cs
     → r ≡ appliedOf (boardFrom board) (changesFrom changes)
 applied-both board changes b cs r eb ec e = e ∙ rw (eb, ec)
-
-pub speech-is : (changes text : List ℕ) (cs : Changes) (r : Speech) → cs ≡ changesFrom changes → r ≡ speechOf cs text → r ≡ speechOf (changesFrom changes) text
-speech-is changes text cs r ec e = e ∙ rw ec
-
-pub speech-bytes : (changes text : List ℕ) (cs : Changes) (left : List ℕ) → cs ≡ changesFrom changes → left ≡ speechBytes cs text → left ≡ speechBytes (changesFrom changes) text
-speech-bytes changes text cs left ec e = e ∙ rw ec
 
 module _ (old new out : List ℕ) where
   compared-kept : (n : ℕ) → comparedAnswerC old new out ≡ n → (n ≡ 0 → ⊥) → (n ≡ comparedAnswerC old new out) × (out ≡ comparedBytesC old new out)
@@ -124,33 +120,99 @@ module _ (board changes : List ℕ) where
       unfolding appliedBytesC
       applied-told left z s = (sym (apply-own ∙ z), rw (apply-own, z) s)
 
-module _ (changes text : List ℕ) (written : ℕ) where
-  abbrev Speaks : ℕ → List ℕ → ℕ → Type 0
-  Speaks n left w = (n ≡ spokenAnswerC changes text) × (left ≡ spokenBytesC changes text) × (w ≡ writtenC changes text written)
+-- a call that speaks changes in some way: each way out
+module _ (speech : Changes → List ℕ → Speech) (said : Changes → List ℕ → List ℕ) (changes text : List ℕ) (written : ℕ) where
+  abbrev SpeaksBy : ℕ → List ℕ → ℕ → Type 0
+  SpeaksBy n left w = (n ≡ answerBy speech changes text) × (left ≡ bytesBy said changes text) × (w ≡ writtenBy speech changes text written)
 
-  pub spoken-first : (length changes ≡ 322 → ⊥) → Speaks 9 text written
-  unfolding spokenAnswerC spokenBytesC writtenC
-  spoken-first d = rw (ne-eqb (length changes) 322 d) (refl, refl, refl)
+  by-first : (length changes ≡ 322 → ⊥) → SpeaksBy 9 text written
+  by-first d = rw (ne-eqb (length changes) 322 d) (refl, refl, refl)
 
-  pub spoken-second : length changes ≡ 322 → length text < SPEECH-ROOM → Speaks 9 text written
-  unfolding spokenAnswerC spokenBytesC writtenC
-  spoken-second l h = rw (eq-eqb (length changes) 322 l, lt-ltb (length text) SPEECH-ROOM h) (refl, refl, refl)
+  by-second : length changes ≡ 322 → length text < SPEECH-ROOM → SpeaksBy 9 text written
+  by-second l h = rw (eq-eqb (length changes) 322 l, lt-ltb (length text) SPEECH-ROOM h) (refl, refl, refl)
 
   module _ (l : length changes ≡ 322) (h : SPEECH-ROOM ≤ length text) where
-    pub spoken-wait : 3 ≤ getD changes 1 0 → Speaks 2 text written
-    unfolding spokenAnswerC spokenBytesC writtenC
-    spoken-wait w = rw (eq-eqb (length changes) 322 l, le-ltb (length text) SPEECH-ROOM h, le-ltb (getD changes 1 0) 3 w) (refl, refl, refl)
+    by-wait : 3 ≤ getD changes 1 0 → SpeaksBy 2 text written
+    by-wait w = rw (eq-eqb (length changes) 322 l, le-ltb (length text) SPEECH-ROOM h, le-ltb (getD changes 1 0) 3 w) (refl, refl, refl)
 
-    module _ (w : getD changes 1 0 < 3) (speech : Speech) (n : ℕ) (left : List ℕ) (s : speech ≡ speechOf (changesFrom changes) text) (e : n ≡ answerNumber (speech .answer))
-        (b : left ≡ speechBytes (changesFrom changes) text) where
-      pub spoken-refusal : (n ≡ 0 → ⊥) → Speaks n left written
-      unfolding spokenAnswerC spokenBytesC writtenC
-      spoken-refusal d =
-          let q : n ≡ answerNumber (speechOf (changesFrom changes) text .answer) = e ∙ ap (λ (r : Speech). answerNumber (r .answer)) s in
+    module _ (w : getD changes 1 0 < 3) (r : Speech) (n : ℕ) (left : List ℕ) (s : r ≡ speech (changesFrom changes) text) (e : n ≡ answerNumber (r .answer))
+        (b : left ≡ said (changesFrom changes) text) where
+      by-refusal : (n ≡ 0 → ⊥) → SpeaksBy n left written
+      by-refusal d =
+          let q : n ≡ answerNumber (speech (changesFrom changes) text .answer) = e ∙ ap (λ (v : Speech). answerNumber (v .answer)) s in
           rw (eq-eqb (length changes) 322 l, le-ltb (length text) SPEECH-ROOM h, lt-ltb (getD changes 1 0) 3 w, ← q, ne-eqb n 0 d) (refl, b, refl)
 
-      pub spoken-told : n ≡ 0 → Speaks 0 left (speech .written)
+      by-told : n ≡ 0 → SpeaksBy 0 left (r .written)
+      by-told z =
+          let q : 0 ≡ answerNumber (speech (changesFrom changes) text .answer) = sym z ∙ e ∙ ap (λ (v : Speech). answerNumber (v .answer)) s in
+          rw (eq-eqb (length changes) 322 l, le-ltb (length text) SPEECH-ROOM h, lt-ltb (getD changes 1 0) 3 w, ← q) (refl, b, ap (λ (v : Speech). v .written) s)
+
+-- one line a slot
+module _ (changes text : List ℕ) where
+  pub spoken-is : (cs : Changes) (r : Speech) → cs ≡ changesFrom changes → r ≡ speechOf cs text → r ≡ speechOf (changesFrom changes) text
+  spoken-is cs r ec e = e ∙ rw ec
+
+  pub spoken-bytes : (cs : Changes) (left : List ℕ) → cs ≡ changesFrom changes → left ≡ speechBytes cs text → left ≡ speechBytes (changesFrom changes) text
+  spoken-bytes cs left ec e = e ∙ rw ec
+
+  module _ (written : ℕ) where
+    abbrev Speaks : ℕ → List ℕ → ℕ → Type 0
+    Speaks n left w = (n ≡ spokenAnswerC changes text) × (left ≡ spokenBytesC changes text) × (w ≡ writtenC changes text written)
+
+    pub spoken-first : (length changes ≡ 322 → ⊥) → Speaks 9 text written
+    unfolding spokenAnswerC spokenBytesC writtenC
+    spoken-first d = by-first speechOf speechBytes changes text written d
+
+    pub spoken-second : length changes ≡ 322 → length text < SPEECH-ROOM → Speaks 9 text written
+    unfolding spokenAnswerC spokenBytesC writtenC
+    spoken-second l h = by-second speechOf speechBytes changes text written l h
+
+    module _ (l : length changes ≡ 322) (h : SPEECH-ROOM ≤ length text) where
+      pub spoken-wait : 3 ≤ getD changes 1 0 → Speaks 2 text written
       unfolding spokenAnswerC spokenBytesC writtenC
-      spoken-told z =
-          let q : 0 ≡ answerNumber (speechOf (changesFrom changes) text .answer) = sym z ∙ e ∙ ap (λ (r : Speech). answerNumber (r .answer)) s in
-          rw (eq-eqb (length changes) 322 l, le-ltb (length text) SPEECH-ROOM h, lt-ltb (getD changes 1 0) 3 w, ← q) (refl, b, ap (λ (r : Speech). r .written) s)
+      spoken-wait w = by-wait speechOf speechBytes changes text written l h w
+
+      module _ (w : getD changes 1 0 < 3) (r : Speech) (n : ℕ) (left : List ℕ) (s : r ≡ speechOf (changesFrom changes) text) (e : n ≡ answerNumber (r .answer))
+          (b : left ≡ speechBytes (changesFrom changes) text) where
+        pub spoken-refusal : (n ≡ 0 → ⊥) → Speaks n left written
+        unfolding spokenAnswerC spokenBytesC writtenC
+        spoken-refusal d = by-refusal speechOf speechBytes changes text written l h w r n left s e b d
+
+        pub spoken-told : n ≡ 0 → Speaks 0 left (r .written)
+        unfolding spokenAnswerC spokenBytesC writtenC
+        spoken-told z = by-told speechOf speechBytes changes text written l h w r n left s e b z
+
+-- in runs
+module _ (changes text : List ℕ) where
+  pub runs-is : (cs : Changes) (r : Speech) → cs ≡ changesFrom changes → r ≡ runsSpeechOf cs text → r ≡ runsSpeechOf (changesFrom changes) text
+  runs-is cs r ec e = e ∙ rw ec
+
+  pub runs-bytes : (cs : Changes) (left : List ℕ) → cs ≡ changesFrom changes → left ≡ runsSpeechBytes cs text → left ≡ runsSpeechBytes (changesFrom changes) text
+  runs-bytes cs left ec e = e ∙ rw ec
+
+  module _ (written : ℕ) where
+    abbrev Tells : ℕ → List ℕ → ℕ → Type 0
+    Tells n left w = (n ≡ runsAnswerC changes text) × (left ≡ runsBytesC changes text) × (w ≡ runsWrittenC changes text written)
+
+    pub runs-first : (length changes ≡ 322 → ⊥) → Tells 9 text written
+    unfolding runsAnswerC runsBytesC runsWrittenC
+    runs-first d = by-first runsSpeechOf runsSpeechBytes changes text written d
+
+    pub runs-second : length changes ≡ 322 → length text < SPEECH-ROOM → Tells 9 text written
+    unfolding runsAnswerC runsBytesC runsWrittenC
+    runs-second l h = by-second runsSpeechOf runsSpeechBytes changes text written l h
+
+    module _ (l : length changes ≡ 322) (h : SPEECH-ROOM ≤ length text) where
+      pub runs-wait : 3 ≤ getD changes 1 0 → Tells 2 text written
+      unfolding runsAnswerC runsBytesC runsWrittenC
+      runs-wait w = by-wait runsSpeechOf runsSpeechBytes changes text written l h w
+
+      module _ (w : getD changes 1 0 < 3) (r : Speech) (n : ℕ) (left : List ℕ) (s : r ≡ runsSpeechOf (changesFrom changes) text) (e : n ≡ answerNumber (r .answer))
+          (b : left ≡ runsSpeechBytes (changesFrom changes) text) where
+        pub runs-refusal : (n ≡ 0 → ⊥) → Tells n left written
+        unfolding runsAnswerC runsBytesC runsWrittenC
+        runs-refusal d = by-refusal runsSpeechOf runsSpeechBytes changes text written l h w r n left s e b d
+
+        pub runs-told : n ≡ 0 → Tells 0 left (r .written)
+        unfolding runsAnswerC runsBytesC runsWrittenC
+        runs-told z = by-told runsSpeechOf runsSpeechBytes changes text written l h w r n left s e b z

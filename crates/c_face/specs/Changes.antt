@@ -16,6 +16,7 @@ use Rattle.spoken.specs.declared.lists.Change.{Change}
 use Rattle.spoken.specs.declared.lists.Changes.{Changes}
 use Rattle.spoken.specs.declared.lists.WaitChange.{WaitChange}
 use Rattle.spoken.specs.declared.lists.WaitChange.the-variants.{Same, Opened, Closed}
+use Rattle.spoken.specs.declared.speaking.Speech.{Speech}
 use Rattle.spoken.specs.Shown.{waitCode}
 use Rattle.spoken.specs.Speaking.{SPEECH-ROOM, speechBytes, speechOf}
 use Rattle.c_face.specs.Boards.{boardBytes, boardBytesOf}
@@ -89,13 +90,23 @@ appliedBytesC board changes =
 abbrev pub roomy : Bytes → Bytes → Bool
 roomy changes text = areChanges changes && not (length text <? SPEECH-ROOM)
 
+-- what a call answers that speaks changes so, and what it leaves; how many bytes were written, which under a refusal stays as it was
+abbrev pub answerBy : (speech : Changes → Bytes → Speech) (changes : Bytes) (text : Bytes) → ℕ
+answerBy speech changes text =
+    if roomy changes text then (if isWait changes then answerNumber (speech (changesFrom changes) text .answer) else 2) else 9
+
+abbrev pub bytesBy : (said : Changes → Bytes → Bytes) (changes : Bytes) (text : Bytes) → Bytes
+bytesBy said changes text = if roomy changes text && isWait changes then said (changesFrom changes) text else text
+
+abbrev pub writtenBy : (speech : Changes → Bytes → Speech) (changes : Bytes) (text : Bytes) (written : ℕ) → ℕ
+writtenBy speech changes text written = if answerBy speech changes text == 0 then speech (changesFrom changes) text .written else written
+
+-- one line a slot
 unfoldable pub spokenAnswerC : Bytes → Bytes → ℕ
-spokenAnswerC changes text =
-    if roomy changes text then (if isWait changes then answerNumber (speechOf (changesFrom changes) text .answer) else 2) else 9
+spokenAnswerC changes text = answerBy speechOf changes text
 
 unfoldable pub spokenBytesC : Bytes → Bytes → Bytes
-spokenBytesC changes text = if roomy changes text && isWait changes then speechBytes (changesFrom changes) text else text
+spokenBytesC changes text = bytesBy speechBytes changes text
 
--- how many bytes were written; under a refusal the number stays
 unfoldable pub writtenC : (changes text : Bytes) (written : ℕ) → ℕ
-writtenC changes text written = if spokenAnswerC changes text == 0 then speechOf (changesFrom changes) text .written else written
+writtenC changes text written = writtenBy speechOf changes text written

@@ -11,5 +11,6 @@ pub mod Packets
 pub mod Payloads
 pub mod Plans
 pub mod Receivers
+pub mod Runs
 pub mod Senders
 pub mod Theorems

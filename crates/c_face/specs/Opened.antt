@@ -14,6 +14,7 @@ use Rattle.c_face.specs.Packets.{readAnswerC, readFieldsC, readFixedAnsw
 use Rattle.c_face.specs.Plans.{lentAnswer, lentBytes}
 use Rattle.c_face.specs.Senders.{callAnswerC, callStateC, packetAnswerC, packetBytesC, payloadAnswerC, payloadBytesC, sends, startAnswerC, startStateC}
 use Rattle.c_face.specs.CardCalls.{slotsOf}
+use Rattle.c_face.specs.Runs.{runsAnswerC, runsBytesC, runsWrittenC, wholeAnswerC, wholeBytesC, wholeWrittenC}
 
 unfoldable pub cFaceOpen : ℕ
 unfolding mendingOpen ordersOpen spokenOpen pathsOpen boardByte boardBytesOf rankByte ranksBytesOf shownAnswerC shownBytes callAnswerOn callStateOn
@@ -21,5 +22,6 @@ unfolding mendingOpen ordersOpen spokenOpen pathsOpen boardByte boardBytesOf ran
     startStateOn appliedAnswerC appliedBytesC changesByte changesBytesOf changesFrom comparedAnswerC comparedBytesC listFrom spokenAnswerC
     spokenBytesC writtenC byteAt bytesOf rowsIn senderOf slotsIn mendedLengthC notesLengthC kindAnswerOn kindStateOn orderAnswerOn orderAnswersOn
     orderStateOn readAnswerC readFieldsC readFixedAnswerC readFixedFieldsC readVc12AnswerC readVc12FieldsC lentAnswer lentBytes callAnswerC callStateC
-    packetAnswerC packetBytesC payloadAnswerC payloadBytesC sends startAnswerC startStateC slotsOf
+    packetAnswerC packetBytesC payloadAnswerC payloadBytesC sends startAnswerC startStateC slotsOf runsAnswerC runsBytesC runsWrittenC wholeAnswerC
+    wholeBytesC wholeWrittenC
 cFaceOpen = 0

@@ -19,7 +19,7 @@ ghost use Rattle.c_face.specs.Changes.{appliedAnswerC, appliedBytesC, bo
 // The changes between two boards.
 pub(crate) const CHANGES_BYTES: usize = 322;
 
-fn board_from(bytes: &[u8]) -> Board
+pub(crate) fn board_from(bytes: &[u8]) -> Board
     requires { ⌜ length (now bytes) ≡ boardBytes ⌝ }
     ensures { λ r. ⌜ r ≡ boardFrom (now (bytes .entry)) ⌝ }
 {
@@ -85,7 +85,7 @@ fn list_from(bytes: &[u8]) -> [Change; 64]
     list
 }
 
-fn changes_from(bytes: &[u8]) -> Changes
+pub(crate) fn changes_from(bytes: &[u8]) -> Changes
     requires { ⌜ length (now bytes) ≡ changesBytes ⌝ }
     ensures { λ r. ⌜ r ≡ changesFrom (now (bytes .entry)) ⌝ }
 {

@@ -1,3 +1,4 @@
 pub mod Fitting
 pub mod Listing
 pub mod Saying
+pub mod InRuns

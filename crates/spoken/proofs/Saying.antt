@@ -27,7 +27,7 @@ use Rattle.spoken.specs.Changes.{sameRow}
 use Rattle.spoken.specs.Speaking.{SPEECH-ROOM, canSpeak, changeLines, changeText, changesSpeak, isShown, nowText, rowText, slotText, speakAnswer, speaksBy, speechBytes, speechOf, spokenText, waitLine, wasText}
 
 -- what a call of the writers in crates/text says
-abbrev Said : List ℕ → ℕ → List ℕ → ℕ → List ℕ → Type 0
+abbrev pub Said : List ℕ → ℕ → List ℕ → ℕ → List ℕ → Type 0
 Said text at out next new = (next ≡ putNext text at out) × (new ≡ putBytes text at out)
 
 -- two texts, one behind the other
@@ -54,11 +54,11 @@ pub three-of-three : {x y out mid low : List ℕ} {at next last : ℕ} (z : List
     → last + length z ≤ length low
 three-of-three {x} {y} z h p q = room (put-then p q) z h
 
-slot-le : (i : ℕ) → i < 100 → length (slotText i) ≤ 8
+pub slot-le : (i : ℕ) → i < 100 → length (slotText i) ≤ 8
 unfolding slotText
 slot-le i h = let a = small-le i h in simp length-append (omega arith)
 
-row-le : (r : Row) (mark : ℕ) → length (rowText r mark) ≤ 9
+pub row-le : (r : Row) (mark : ℕ) → length (rowText r mark) ≤ 9
 unfolding rowText
 row-le r mark = let a = word-le (r .word) in let b = decimal-le (r .number) in simp length-append (omega arith)
 
@@ -70,7 +70,7 @@ now-le : (r : Row) → length (nowText r) ≤ 13
 unfolding nowText
 now-le r = let a = row-le r 10 in simp length-append (omega arith)
 
-change-le : (c : Change) → c .slot < 64 → length (changeText c) ≤ 34
+pub change-le : (c : Change) → c .slot < 64 → length (changeText c) ≤ 34
 unfolding changeText
 change-le c h =
     let a = slot-le (c .slot) (omega arith) in
@@ -85,7 +85,7 @@ lines-le list (suc n) h =
     let b = change-le (changeIn list n) (h n (omega arith)) in
     simp length-append (omega arith)
 
-wait-le : (w : WaitChange) → length (waitLine w) ≤ 12
+pub wait-le : (w : WaitChange) → length (waitLine w) ≤ 12
 unfolding waitLine
 wait-le Same = omega arith
 wait-le Opened = omega arith

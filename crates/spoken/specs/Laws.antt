@@ -2,5 +2,6 @@
 pub mod Laying
 pub mod Rising
 pub mod Rows
+pub mod Runs
 pub mod Spoken
 pub mod Waits

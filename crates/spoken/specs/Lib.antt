@@ -4,8 +4,10 @@ pub mod Fitting
 pub mod Laws
 pub mod Listening
 pub mod Opened
+pub mod Runs
 pub mod Shown
 pub mod Speaking
+pub mod SpeakingRuns
 pub mod Taking
 pub mod Theorems
 mod Wrong

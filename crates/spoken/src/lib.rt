@@ -2,8 +2,10 @@
 mod applying;
 mod comparing;
 mod lists;
+mod runs;
 mod speaking;
 mod taking;
+mod telling;
 
 pub use applying::Applied;
 pub use applying::apply;
@@ -13,7 +15,10 @@ pub use lists::Answer;
 pub use lists::Change;
 pub use lists::Changes;
 pub use lists::WaitChange;
+pub use runs::Run;
 pub use speaking::SPEECH_ROOM;
 pub use speaking::Speech;
 pub use speaking::speak;
 pub use taking::taken;
+pub use telling::speak_runs;
+pub use telling::speak_whole;

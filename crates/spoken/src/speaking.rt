@@ -24,7 +24,7 @@ pub struct Speech {
 // Room for the lines of any changes.
 pub const SPEECH_ROOM: usize = 2188;
 
-fn is_shown(word: Word) -> bool
+pub(crate) fn is_shown(word: Word) -> bool
     ensures { λ r. ⌜ r ≡ isShown word ⌝ }
 {
     let code = word.0;
@@ -60,7 +60,7 @@ fn changes_speak(list: [Change; 64], n: usize) -> bool
     all
 }
 
-fn can_speak(changes: Changes) -> bool
+pub(crate) fn can_speak(changes: Changes) -> bool
     ensures { λ r. ⌜ r ≡ canSpeak changes ⌝ }
 {
     let list = changes.list;
@@ -70,7 +70,7 @@ fn can_speak(changes: Changes) -> bool
     changes_speak(list, changes.count as usize)
 }
 
-fn put_slot(slot: u8, out: &mut [u8], at: usize) -> usize
+pub(crate) fn put_slot(slot: u8, out: &mut [u8], at: usize) -> usize
     requires { ⌜ at + length (slotText slot) ≤ length (now out) ⌝ }
     ensures { λ r. ⌜ Put (slotText slot) at (now (out .entry)) r (now (out .exit)) ⌝ }
 {
@@ -78,7 +78,7 @@ fn put_slot(slot: u8, out: &mut [u8], at: usize) -> usize
     text::put_number(slot, b'\t', out, next)
 }
 
-fn put_row(label: &[u8], row: Row, mark: u8, out: &mut [u8], at: usize) -> usize
+pub(crate) fn put_row(label: &[u8], row: Row, mark: u8, out: &mut [u8], at: usize) -> usize
     requires { ⌜ at + length (now label ++ rowText row mark) ≤ length (now out) ⌝ }
     ensures { λ r. ⌜ Put (now (label .entry) ++ rowText row mark) at (now (out .entry)) r (now (out .exit)) ⌝ }
 {
@@ -88,7 +88,7 @@ fn put_row(label: &[u8], row: Row, mark: u8, out: &mut [u8], at: usize) -> usize
     text::put_number(row.number, mark, out, third)
 }
 
-fn put_change(change: Change, out: &mut [u8], at: usize) -> usize
+pub(crate) fn put_change(change: Change, out: &mut [u8], at: usize) -> usize
     requires { ⌜ at + length (changeText change) ≤ length (now out) ⌝ }
     ensures { λ r. ⌜ Put (changeText change) at (now (out .entry)) r (now (out .exit)) ⌝ }
 {
@@ -113,7 +113,7 @@ fn put_changes(list: [Change; 64], n: usize, out: &mut [u8]) -> usize
     at
 }
 
-fn put_wait(wait: WaitChange, out: &mut [u8], at: usize) -> usize
+pub(crate) fn put_wait(wait: WaitChange, out: &mut [u8], at: usize) -> usize
     requires { ⌜ at + length (waitLine wait) ≤ length (now out) ⌝ }
     ensures { λ r. ⌜ Put (waitLine wait) at (now (out .entry)) r (now (out .exit)) ⌝ }
 {

@@ -1,4 +1,4 @@
-use Rattle.c_face.proofs.Telling.{speech-bytes, speech-is, spoken-first, spoken-refusal, spoken-second, spoken-told, spoken-wait}
+use Rattle.c_face.proofs.Telling.{spoken-bytes, spoken-first, spoken-is, spoken-refusal, spoken-second, spoken-told, spoken-wait}
 use native.Mathlib.Omega.{arith}
 use Rattle.c_face.proofs.changes.levelspruce_board_speak.Statement.{statement}
 use Rattle.c_face.proofs.changes.levelspruce_board_speak.Tie as tie
@@ -37,7 +37,7 @@ returns-4 c =
     let at-if3 = at-changes-from .before in
     let at-if2 = at-if3 .before .before in
     let at-if1 = at-if2 .before in
-    spoken-refusal _ _ _ (at-if1 .if1 .left) (at-if2 .if2 .left) (at-if3 .if3 .left) _ _ _ (speech-is _ _ _ _ (at-changes-from .changes-from .ensures) (at-speak .speak .ensures .0)) (c .before .number .ensures) (speech-bytes _ _ _ _ (at-changes-from .changes-from .ensures) (at-speak .speak .ensures .1)) (c .if4 .taken)
+    spoken-refusal _ _ _ (at-if1 .if1 .left) (at-if2 .if2 .left) (at-if3 .if3 .left) _ _ _ (spoken-is _ _ _ _ (at-changes-from .changes-from .ensures) (at-speak .speak .ensures .0)) (c .before .number .ensures) (spoken-bytes _ _ _ _ (at-changes-from .changes-from .ensures) (at-speak .speak .ensures .1)) (c .if4 .taken)
 
 same-length-2 : tie.Need-same-length-2
 same-length-2 c = omega arith
@@ -49,7 +49,7 @@ returns-5 c =
     let at-if3 = at-changes-from .before in
     let at-if2 = at-if3 .before .before in
     let at-if1 = at-if2 .before in
-    spoken-told _ _ _ (at-if1 .if1 .left) (at-if2 .if2 .left) (at-if3 .if3 .left) _ _ _ (speech-is _ _ _ _ (at-changes-from .changes-from .ensures) (at-speak .speak .ensures .0)) (c .before .number .ensures) (speech-bytes _ _ _ _ (at-changes-from .changes-from .ensures) (at-speak .speak .ensures .1)) (c .if4 .left)
+    spoken-told _ _ _ (at-if1 .if1 .left) (at-if2 .if2 .left) (at-if3 .if3 .left) _ _ _ (spoken-is _ _ _ _ (at-changes-from .changes-from .ensures) (at-speak .speak .ensures .0)) (c .before .number .ensures) (spoken-bytes _ _ _ _ (at-changes-from .changes-from .ensures) (at-speak .speak .ensures .1)) (c .if4 .left)
 
 pub levelspruce-board-speak-spec : {M : Type 1} → statement M
 levelspruce-board-speak-spec = tie.close (tie.spec returns returns-2 shared-slice-read-if3 returns-3 changes-from-requires speak-requires number-requires same-length returns-4 same-length-2 returns-5)
