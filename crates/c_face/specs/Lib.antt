@@ -9,5 +9,6 @@ pub mod Packets
 pub mod Payloads
 pub mod Plans
 pub mod Receivers
+pub mod Replays
 pub mod Senders
 pub mod Theorems

@@ -9,4 +9,5 @@ mod packets;
 mod payloads;
 mod plans;
 mod receivers;
+mod replays;
 mod senders;

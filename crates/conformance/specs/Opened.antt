@@ -11,6 +11,9 @@ use Rattle.c_face.specs.Mends.{mendedLengthC, notesLengthC}
 use Rattle.c_face.specs.Orders.{kindAnswerOn, kindStateOn, orderAnswerOn, orderAnswersOn, orderStateOn}
 use Rattle.c_face.specs.Packets.{readAnswerC, readFieldsC, readFixedAnswerC, readFixedFieldsC, readVc12AnswerC, readVc12FieldsC}
 use Rattle.c_face.specs.Plans.{lentAnswer, lentBytes}
+use Rattle.c_face.specs.Replays.{beginAnswerC, beginStateC, outLengthC, replayOf, storeLengthC, turnAnswerC, turnAtC, turnOutC, turnRowsC, turnSaidC, turnStateC, turnStoreC, turnWantsC, turnWrittenC}
+use Rattle.c_face.specs.Replays.{bytesOf as bytesOf-c_face-Replays}
+use Rattle.c_face.specs.Replays.{lineIn as lineIn-c_face-Replays}
 use Rattle.c_face.specs.Senders.{callAnswerC, callStateC, packetAnswerC, packetBytesC, payloadAnswerC, payloadBytesC, sends, startAnswerC, startStateC}
 use Rattle.circuits.specs.Commands.{claimOf, commandOf, groupCallOf, releaseOf}
 use Rattle.circuits.specs.Commands.{startOf as startOf-circuits-Commands}
@@ -87,6 +90,8 @@ use Rattle.recording.specs.Line.{foundOf}
 use Rattle.recording.specs.Opening.{lineOpening, opened, openingIn, settingsBy}
 use Rattle.recording.specs.Pairs.{fieldIn, holdRead, kindRead, named, restoreRead}
 use Rattle.recording.specs.Record.{flagIn, frameBy, lastRecord, lineRecord, recordIn}
+use Rattle.replaying.specs.Lengths.{inRange, lengthsIn}
+use Rattle.replaying.specs.Lengths.{lengthsOf as lengthsOf-replaying-Lengths}
 use Rattle.replaying.specs.Output.{countIn, epochText, markText, portText, reportText, stateAt, stateLine, stateText, statesIn}
 use Rattle.replaying.specs.Output.{answerText as answerText-replaying-Output}
 use Rattle.replaying.specs.Runs.{called, calls, deskAfter, saidTo}
@@ -162,6 +167,8 @@ unfolding indexAfter indexOf boardByte boardBytesOf rankByte ranksBytesOf shownA
     reportOf-receiver-Report reportedOf rulingEpoch seenAll seenOf startsOf statePut statesPut statesWorkedOut withState portIn portShown portsAnswer
     portsOut replyAnswer replyFit replyOf-receiver-Shown replyOut shownFit freshPort freshPorts sizedAnswer sizedFits sizedRows startAsAnswer
     startAsRows startFits startRight startSized timesWithin foundOf lineOpening opened openingIn settingsBy fieldIn holdRead kindRead named restoreRead flagIn
+    beginAnswerC beginStateC outLengthC replayOf storeLengthC turnAnswerC turnAtC turnOutC turnRowsC turnSaidC turnStateC turnStoreC turnWantsC turnWrittenC
+    bytesOf-c_face-Replays lineIn-c_face-Replays inRange lengthsIn lengthsOf-replaying-Lengths
     frameBy lastRecord lineRecord recordIn answerText-replaying-Output countIn epochText markText portText reportText stateAt stateLine stateText
     statesIn called calls deskAfter saidTo wholeOutput-replaying-Runs answeredSaid answeredTurn fetchRecordBy fetchRowsBy framedRows framedStore framedTurn isLent openRows openSaid openTurn
     openWithRows openWithSaid openWithTurn payloadAt readOnTurn readRows readSaid readStore readTurn recordNow reportOf-replaying-Turn reportTurn reportedTurn skipTurn
