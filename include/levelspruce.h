@@ -119,6 +119,8 @@ extern "C" {
 #define LEVELSPRUCE_PORT_BYTES 8    /* what is shown of a port */
 #define LEVELSPRUCE_REPLY_BYTES 2   /* a reply */
 #define LEVELSPRUCE_PLAN_BYTES 65   /* a plan of which paths to join */
+#define LEVELSPRUCE_REPLAY_BYTES 17 /* how far a recording has been replayed */
+#define LEVELSPRUCE_REPLAY_ROOM 1160 /* what one turn of a replay prints, at most */
 
 /* Of a receiver: the rows of its state, and the bytes of its store and of the
  * least output. */
@@ -1432,6 +1434,95 @@ LEVELSPRUCE_MUST_USE
 uint8_t levelspruce_mend(const uint8_t *recording, size_t recording_length,
                          uint8_t *mended, size_t mended_length,
                          uint8_t *notes, size_t notes_length);
+
+/*
+ * A recording run again at a desk, of a group of any size. The manual, 'At the
+ * desk', has the form of a recording and of what is printed of it: each report
+ * and each change of a port's state, in the order in which they arise, and of
+ * each line that is refused its number. levelspruce_replay_lengths says what to
+ * lend, levelspruce_replay_begin begins, and then each levelspruce_replay_turn
+ * reads one line or fetches one report.
+ */
+
+/*
+ * How much store and output the first line of a recording asks for.
+ *
+ *   recording      the recording from its first byte on: as far as its first
+ *                  line at least, or 8193 bytes of it
+ *   store_length   the bytes of the receiver's store
+ *   out_length     the bytes of an epoch's output
+ *
+ * store_length and out_length are two numbers apart, and neither is NULL. Under
+ * 13 and 4 both stay as they were. A group starts with a store as long as is
+ * told or longer, and with no shorter one.
+ *
+ * Answers, the first that fits:
+ *   13  the first line cannot be read, or there is none
+ *   4   the first line's settings are out of range
+ *   0   store_length and out_length are written
+ */
+LEVELSPRUCE_MUST_USE
+uint8_t levelspruce_replay_lengths(const uint8_t *recording,
+                                   size_t recording_length,
+                                   size_t *store_length, size_t *out_length);
+
+/*
+ * Begins a replay: its first line is to come.
+ *
+ *   state   LEVELSPRUCE_REPLAY_BYTES bytes
+ *
+ * Answers, the first that fits:
+ *   9  state_length is not 17
+ *   0  all of state is written
+ */
+LEVELSPRUCE_MUST_USE
+uint8_t levelspruce_replay_begin(uint8_t *state, size_t state_length);
+
+/*
+ * One turn of a replay: it reads a line of the text from a place on, or fetches
+ * a report. Call until wants is 1; then lend more of the recording, what is
+ * left of the text before it, and call again. However a recording is cut into
+ * texts, the same is printed.
+ *
+ *   state     as levelspruce_replay_begin or the last turn left it
+ *   text      a part of the recording
+ *   at        how far the text has been read: 0 at first. The turn reads from
+ *             there and moves it on, never behind the text's end. It is not
+ *             NULL, and so are written and wants not
+ *   last      not 0 where nothing follows the text: its last line may lack its
+ *             end. So a part ends that is a file of its own
+ *   rows      the receiver's state: LEVELSPRUCE_RECEIVER_ROWS(64) rows, whose
+ *             first are the group's own
+ *   store     at least as many bytes as levelspruce_replay_lengths says
+ *   out       at least as many bytes as it says
+ *   said      at least LEVELSPRUCE_REPLAY_ROOM bytes, into whose first the turn
+ *             writes the lines that it prints
+ *   written   how many bytes of said it has written
+ *   wants     1 where nothing more can be done without more text, or 0
+ *
+ * Lend rows and store as the last turn left them. Whatever stood in them before
+ * the first line, the same is printed: a group that starts clears them.
+ *
+ * A refused line is no refusal of the call: 'answer', the number, 'line' and the
+ * line's number are printed. 13 is a malformed line; of the first line the
+ * replay ends there, as it does with 4, settings out of range or a store that
+ * is shorter than they ask for. A replay that has ended swallows the text.
+ *
+ * Answers:
+ *   9  state_length is not 17, at lies behind the text's end, or rows, store,
+ *      out or said is shorter than the turn asks for
+ *   0  done; at, written and wants are written
+ */
+LEVELSPRUCE_MUST_USE
+uint8_t levelspruce_replay_turn(uint8_t *state, size_t state_length,
+                                const uint8_t *text, size_t text_length,
+                                size_t *at, uint32_t last,
+                                uint8_t (*rows)[LEVELSPRUCE_ROW_BYTES],
+                                size_t rows_length,
+                                uint8_t *store, size_t store_length,
+                                uint8_t *out, size_t out_length,
+                                uint8_t *said, size_t said_length,
+                                size_t *written, uint8_t *wants);
 
 #ifdef __cplusplus
 }

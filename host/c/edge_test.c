@@ -109,6 +109,33 @@ static int mend_at_edges(uint8_t *open_recording, uint8_t *open_mended, uint8_t 
     return held;
 }
 
+/* Any beginning of a recording, with what its first line asks for, turn by turn. */
+static int replay_at_edges(uint8_t *open_text, uint8_t *open_store, uint8_t *open_out)
+{
+    static const char recording[] = "2\t1\t16\n0\t05\t0\tAB\n1\t0\n0\t06\t1\tAB\n\n1\t0A\t0\tCD";
+    static uint8_t rows[LEVELSPRUCE_RECEIVER_ROWS(LEVELSPRUCE_PORTS_MOST)][LEVELSPRUCE_ROW_BYTES], said[LEVELSPRUCE_REPLAY_ROOM];
+    size_t length;
+    int at_end, held = 1;
+
+    for (length = 0; length < sizeof recording; length++)
+        for (at_end = 0; at_end < 8; at_end++) {
+            uint8_t *text = buffer_in(open_text, length, at_end % 2), state[LEVELSPRUCE_REPLAY_BYTES], wants = 0;
+            size_t store = 3, out = 5, at = 0, written;
+
+            memcpy(text, recording, length);
+            held = held
+                && levelspruce_replay_lengths(text, length, &store, &out)
+                    == (length < 5 ? LEVELSPRUCE_ANSWER_LINE : length == 5 ? LEVELSPRUCE_ANSWER_RANGE : LEVELSPRUCE_ANSWER_DONE)
+                && levelspruce_replay_begin(state, sizeof state) == LEVELSPRUCE_ANSWER_DONE;
+            while (held && !wants)
+                held = levelspruce_replay_turn(state, sizeof state, text, length, &at, 1, rows, COUNT(rows), buffer_in(open_store, store, at_end / 2 % 2), store,
+                                               buffer_in(open_out, out, at_end / 4), out, said, sizeof said, &written, &wants)
+                    == LEVELSPRUCE_ANSWER_DONE;
+            held = held && at == length;
+        }
+    return held;
+}
+
 int main(void)
 {
     uint8_t *first, *second, *third;
@@ -122,6 +149,7 @@ int main(void)
         check("writing touches nothing beside its buffer", write_at_edges(first));
         check("reading touches nothing beside its buffers", read_at_edges(first, second));
         check("mending touches nothing beside its buffers", mend_at_edges(first, second, third));
+        check("a replay touches nothing beside its text, store and output", replay_at_edges(first, second, third));
     }
     return tally();
 }

@@ -57,6 +57,15 @@ int main()
               && notes_length == sizeof notes
               && levelspruce_mend(torn, sizeof torn, mended, sizeof mended, notes, sizeof notes) == LEVELSPRUCE_ANSWER_DONE
               && std::memcmp(mended, torn, sizeof mended) == 0 && notes[0] == '2');
+    uint8_t replay[LEVELSPRUCE_REPLAY_BYTES], rows[LEVELSPRUCE_RECEIVER_ROWS(64)][LEVELSPRUCE_ROW_BYTES], store[32], out[16], said[LEVELSPRUCE_REPLAY_ROOM], wants;
+    std::size_t store_length, out_length, at = 0, written;
+    check("a C++ program replays a recording",
+          levelspruce_replay_lengths(torn, sizeof torn, &store_length, &out_length) == LEVELSPRUCE_ANSWER_DONE && store_length == sizeof store
+              && out_length == sizeof out && levelspruce_replay_begin(replay, sizeof replay) == LEVELSPRUCE_ANSWER_DONE
+              && levelspruce_replay_turn(replay, sizeof replay, torn, sizeof torn, &at, 1, rows, LEVELSPRUCE_RECEIVER_ROWS(64), store, sizeof store, out, sizeof out,
+                                         said, sizeof said, &written, &wants)
+                  == LEVELSPRUCE_ANSWER_DONE
+              && at == 7 && written == 0 && wants == 0);
     char version[32];
     std::snprintf(version, sizeof version, "%d.%d.%d", LEVELSPRUCE_VERSION_MAJOR, LEVELSPRUCE_VERSION_MINOR, LEVELSPRUCE_VERSION_PATCH);
     check("the version's text has its numbers, and the library has it", std::strcmp(version, LEVELSPRUCE_VERSION) == 0

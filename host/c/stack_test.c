@@ -212,6 +212,30 @@ static void mending(void)
     answers |= levelspruce_mend(recording, length, mended, mended_length, notes, notes_length);
 }
 
+/* The longest payload, and a line that is malformed. */
+static void replaying(void)
+{
+    static uint8_t recording[60000], replay[LEVELSPRUCE_REPLAY_BYTES], said[LEVELSPRUCE_REPLAY_ROOM];
+    size_t store_length = 0, out_length = 0, length, at = 0, written = 0;
+    uint8_t wants = 0;
+    int i;
+
+    length = (size_t)sprintf((char *)recording, "64\t%d\t16\nx\n", P);
+    for (i = 0; i < 10; i++) {
+        length += (size_t)sprintf((char *)recording + length, "%d\t0%X\t0\t", i, (unsigned)i);
+        memset(recording + length, 'A', 2 * P);
+        length += 2 * P;
+        recording[length++] = '\n';
+    }
+    answers |= levelspruce_replay_lengths(recording, length, &store_length, &out_length);
+    answers |= store_length > sizeof store || out_length > sizeof out;
+    answers |= levelspruce_replay_begin(replay, sizeof replay);
+    while (!wants)
+        answers |= levelspruce_replay_turn(replay, sizeof replay, recording, length, &at, 1, receiver, COUNT(receiver), store, store_length, out, out_length, said, sizeof said,
+                                           &written, &wants);
+    answers |= at != length;
+}
+
 static void (*calls)(void);
 
 static void *call(void *unused)
@@ -249,7 +273,7 @@ int main(void)
     } groups[] = { { "packets", packets, CARD }, { "payload", payloads, CARD }, { "sender", sending, CARD }, { "card", sharing, CARD },
                  { "receiver", receiving, CARD }, { "receiver of a fixed group", receiving_fixed, CARD },
                  { "sender of VC-12", sending_vc12, CARD }, { "receiver of VC-12", receiving_vc12, CARD }, { "paths", planning, CARD },
-                 { "spoken board", telling, CARD }, { "mending", mending, DESK } };
+                 { "spoken board", telling, CARD }, { "mending", mending, DESK }, { "replay", replaying, DESK } };
     size_t own, i;
     int within = 1;
 
@@ -262,6 +286,6 @@ int main(void)
         within &= used > 0 && used <= groups[i].limit;
     }
     check("every call was done, and epochs of 64 members were reported", answers == 0 && reported > 14);
-    check("no call takes more than 7,680 bytes of stack, mending no more than 8,192", within);
+    check("no call takes more than 7,680 bytes of stack, mending no more than 8,192, a replay no more than 10,240", within);
     return tally();
 }

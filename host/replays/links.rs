@@ -2,6 +2,7 @@
 //! states say the same. The link says states once all frames of a frame time are handed, so that reports which come together
 //! have one list of changes there. And beside the replay of its heads, one byte of each payload: the same but for how many bytes.
 
+use crate::desks::{Desk, Drawn};
 use crate::random::Random;
 use std::collections::BTreeMap;
 use std::process::Command;
@@ -53,10 +54,11 @@ pub struct Compared {
     pub reports: usize,
     pub states: usize,
     pub together: usize,
+    pub drawn: bool,
 }
 
 /// A link drawn from the seed.
-pub fn compared(folder: &str, link: &[String], replay: &[String], seed: u64) -> Compared {
+pub fn compared(folder: &str, link: &[String], replay: &[String], desk: Option<&Desk>, drawn: &mut Drawn, seed: u64) -> Compared {
     let mut random = Random::new(seed);
     let vc12 = seed % 4 == 1;
     let (epochs, idle) = if vc12 { (32, "IDLE 63") } else { (256, "IDLE 255") };
@@ -77,6 +79,7 @@ pub fn compared(folder: &str, link: &[String], replay: &[String], seed: u64) -> 
     };
     let link_text = run(link, &choices.split(' ').collect::<Vec<_>>());
     let replay_text = run(replay, &[&file]);
+    let drawn = desk.map_or(true, |desk| desk.prints(&[file.clone()], &replay_text, epochs, drawn));
     let (of_link, of_replay) = (reports(&link_text, first, epochs), reports(&replay_text, 0, epochs));
 
     let alike = |(a, b): (&Report, &Report)| a.epoch == b.epoch && a.mark == b.mark && a.bytes == b.bytes;
@@ -106,5 +109,5 @@ pub fn compared(folder: &str, link: &[String], replay: &[String], seed: u64) -> 
     if !same {
         println!("differs\tseed {}\t{}", seed, choices);
     }
-    Compared { same, reports: of_replay.len(), states: of_replay.iter().map(|r| r.states.len()).sum(), together }
+    Compared { same, reports: of_replay.len(), states: of_replay.iter().map(|r| r.states.len()).sum(), together, drawn }
 }

@@ -2,8 +2,9 @@
 //! every line, and cut at single lines, and read from standard input; and the program that mends recordings to the reference's mending.
 //! Every run makes the same ones.
 //!
-//! Usage: replays FOLDER COMMAND WORD.. [-- COMMAND WORD.. [-- COMMAND WORD..]], where FOLDER takes files, the first command runs the
-//! program, the second one the example link, whose recordings are then compared with what it said, and the third one the program that mends.
+//! Usage: replays FOLDER COMMAND WORD.. [-- COMMAND WORD..].., where FOLDER takes files, the first command runs the program, the second
+//! one the example link, whose recordings are then compared with what it said, the third one the program that mends, and the fourth one the
+//! program for a desk.
 
 #[path = "../differential/count.rs"]
 #[allow(dead_code)] // not all of it is used here
@@ -16,6 +17,7 @@ mod random;
 #[allow(dead_code)] // nor of this
 mod torn;
 
+mod desks;
 mod links;
 mod mends;
 mod recordings;
@@ -97,6 +99,7 @@ struct Held<'a> {
     lines: usize,
     differing: usize,
     refused: usize,
+    recordings: Vec<Vec<u8>>,
 }
 
 impl Held<'_> {
@@ -116,6 +119,7 @@ impl Held<'_> {
     /// A recording whole, line by line, and from standard input.
     fn recording(&mut self, lines: &[Vec<u8>]) -> Vec<u8> {
         let whole_text = joined(lines);
+        self.recordings.push(whole_text.clone());
         let expected = whole::<Plain>(&whole_text, STORE_MOST);
         self.refused += String::from_utf8_lossy(&expected).matches("answer\t").count();
         // the form for speed has no VC-12
@@ -158,10 +162,12 @@ fn main() {
     let words: Vec<String> = std::env::args().skip(1).collect();
     let mut commands = words[1..].split(|word| word == "--");
     let program = Program { folder: words[0].clone(), words: commands.next().expect("a command").to_vec() };
+    let desk = words[1..].split(|word| word == "--").nth(3).map(|words| desks::Desk { words });
+    let mut recordings = Vec::new();
     let mut count = Count::default();
     let mut random = Random::new(5);
 
-    let mut held = Held { program: &program, runs: 0, lines: 0, differing: 0, refused: 0 };
+    let mut held = Held { program: &program, runs: 0, lines: 0, differing: 0, refused: 0, recordings: Vec::new() };
     for _ in 0..RECORDINGS {
         let frames = 100 + random.below(400) as usize;
         held.recording(&recordings::made_up(&mut random, frames));
@@ -169,8 +175,9 @@ fn main() {
     println!("recordings\t{}\truns {}\tlines of output {}\trefused lines {}", RECORDINGS, held.runs, held.lines, held.refused);
     count.note("made-up recordings, whole, cut before every line, and piece by piece", held.differing == 0);
     count.note("they have many reports and refusals", held.lines > 3000 && held.refused > 100);
+    recordings.append(&mut held.recordings);
 
-    let mut held = Held { program: &program, runs: 0, lines: 0, differing: 0, refused: 0 };
+    let mut held = Held { program: &program, runs: 0, lines: 0, differing: 0, refused: 0, recordings: Vec::new() };
     let openings = recordings::openings();
     let mut ended = 0;
     for first in &openings {
@@ -182,13 +189,18 @@ fn main() {
         ended += usize::from(said.starts_with(b"answer\t") && said.ends_with(b"\tline\t1\n"));
     }
     count.note(&format!("first lines, {} of {} end the run", ended, openings.len()), held.differing == 0 && (15..openings.len()).contains(&ended));
+    recordings.append(&mut held.recordings);
 
-    let mut held = Held { program: &program, runs: 0, lines: 0, differing: 0, refused: 0 };
+    let mut held = Held { program: &program, runs: 0, lines: 0, differing: 0, refused: 0, recordings: Vec::new() };
     held.recording(&recordings::long_lines());
     count.note("lines of 8,192 and 8,193 bytes", held.differing == 0 && held.refused == 120);
+    recordings.append(&mut held.recordings);
+    if let Some(desk) = &desk {
+        desks::held(&mut count, desk, &program.folder, &recordings);
+    }
 
     // one recording cut in two at each of its lines
-    let mut held = Held { program: &program, runs: 0, lines: 0, differing: 0, refused: 0 };
+    let mut held = Held { program: &program, runs: 0, lines: 0, differing: 0, refused: 0, recordings: Vec::new() };
     let lines = recordings::made_up(&mut random, 80);
     let expected = held.recording(&lines);
     for cut in 0..=lines.len() {
@@ -198,12 +210,17 @@ fn main() {
     count.note(&format!("a recording cut in two at each of its {} lines", lines.len()), held.differing == 0);
 
     if let Some(link) = commands.next() {
-        let compared: Vec<links::Compared> = (1..=LINKS).map(|seed| links::compared(&program.folder, link, &program.words, seed)).collect();
+        let mut drawn = desks::Drawn::default();
+        let compared: Vec<links::Compared> = (1..=LINKS).map(|seed| links::compared(&program.folder, link, &program.words, desk.as_ref(), &mut drawn, seed)).collect();
         let total = |f: fn(&links::Compared) -> usize| compared.iter().map(f).sum::<usize>();
         let (reports, states, together) = (total(|c| c.reports), total(|c| c.states), total(|c| c.together));
         println!("links\t{}\treports {}\tstates {}\twhere several reports came together {}", LINKS, reports, states, together);
         count.note("what the example link said at once, replayed from its recording and from its heads", compared.iter().all(|c| c.same));
         count.note("it said many reports and states", reports > 4000 && states > 500);
+        if desk.is_some() {
+            println!("desk\tlinks {}\tlines {}\tdrawn together in {}", LINKS, drawn.lines, drawn.printed);
+            count.note("the program for a desk prints what the replay program prints of them, drawn together", compared.iter().all(|c| c.drawn) && 2 * drawn.printed < drawn.lines);
+        }
 
         if let Some(words) = commands.next() {
             mending(&mut count, &program, link, words);

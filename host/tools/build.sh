@@ -75,6 +75,13 @@ build_mend() {
     $archive_compiler -std=c99 $strict -O2 host/mend/*.c "$archive" -o target/host/mend
 }
 
+# build_desk: a recording of any group replayed, what is alike drawn together.
+build_desk() {
+    mkdir -p target/host
+    # shellcheck disable=SC2086
+    $archive_compiler -std=c99 $strict -O2 host/desk/*.c "$archive" -o target/host/desk
+}
+
 # build_own NAME SOURCE COMPILER WORD..: a C or C++ program for this machine's own processor.
 build_own() {
     own_name=$1 own_source=$2

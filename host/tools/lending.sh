@@ -125,9 +125,10 @@ out_of_range() {
             if (said == "" && (n + 0 < least || n + 0 > most)) said = name "\t" (n + 0) "\tnot " least " to " most
         }
         {
+            vc12 = 0
+            for (i = 4; i < NF; i++) if ($i == "kind" && $(i + 1) == "VC12") vc12 = 1
             out("ports", $1, 1, 64)
-            out("P", $2, 1, 2340)
-            out("W", $3, 16, 2048)
+            if (vc12) { out("P", $2, 136, 136); out("W", $3, 32, 512) } else { out("P", $2, 1, 2340); out("W", $3, 16, 2048) }
             for (i = 4; i <= NF; i++) if ($i ~ /^[0-9]+$/) out("time", $i, 0, 5000)
             if (said == "") said = "store\t" $1 * $3 * ($2 + 1) "\tabove 65536"
             print said

@@ -23,6 +23,7 @@ example_of() {
     proposal) echo host/data/proposal.txt ;;
     order) echo host/order/order.txt ;;
     mend) echo host/mend/torn.txt ;;
+    desk) echo crates/replay/stdin ;;
     *) echo "crates/$1/stdin" ;;
     esac
 }

@@ -4,6 +4,7 @@ pub mod Ordering
 pub mod Parts
 pub mod Pieces
 pub mod Planning
+pub mod Replaying
 pub mod SenderCalls
 pub mod Showing
 pub mod Telling

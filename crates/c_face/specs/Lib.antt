@@ -11,6 +11,7 @@ pub mod Packets
 pub mod Payloads
 pub mod Plans
 pub mod Receivers
+pub mod Replays
 pub mod Runs
 pub mod Senders
 pub mod Theorems

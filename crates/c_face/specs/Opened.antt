@@ -15,6 +15,7 @@ use Rattle.c_face.specs.Plans.{lentAnswer, lentBytes}
 use Rattle.c_face.specs.Senders.{callAnswerC, callStateC, packetAnswerC, packetBytesC, payloadAnswerC, payloadBytesC, sends, startAnswerC, startStateC}
 use Rattle.c_face.specs.CardCalls.{slotsOf}
 use Rattle.c_face.specs.Runs.{runsAnswerC, runsBytesC, runsWrittenC, wholeAnswerC, wholeBytesC, wholeWrittenC}
+use Rattle.c_face.specs.Replays.{beginAnswerC, beginStateC, bytesOf as bytesOf-Replays, lineIn, outLengthC, replayOf, storeLengthC, turnAnswerC, turnAtC, turnOutC, turnRowsC, turnSaidC, turnStateC, turnStoreC, turnWantsC, turnWrittenC}
 
 unfoldable pub cFaceOpen : ℕ
 unfolding mendingOpen ordersOpen spokenOpen pathsOpen boardByte boardBytesOf rankByte ranksBytesOf shownAnswerC shownBytes callAnswerOn callStateOn
@@ -23,5 +24,6 @@ unfolding mendingOpen ordersOpen spokenOpen pathsOpen boardByte boardBytesOf ran
     spokenBytesC writtenC byteAt bytesOf rowsIn senderOf slotsIn mendedLengthC notesLengthC kindAnswerOn kindStateOn orderAnswerOn orderAnswersOn
     orderStateOn readAnswerC readFieldsC readFixedAnswerC readFixedFieldsC readVc12AnswerC readVc12FieldsC lentAnswer lentBytes callAnswerC callStateC
     packetAnswerC packetBytesC payloadAnswerC payloadBytesC sends startAnswerC startStateC slotsOf runsAnswerC runsBytesC runsWrittenC wholeAnswerC
-    wholeBytesC wholeWrittenC
+    wholeBytesC wholeWrittenC lineIn replayOf bytesOf-Replays storeLengthC outLengthC beginAnswerC beginStateC turnAnswerC turnStateC turnAtC
+    turnRowsC turnStoreC turnOutC turnWrittenC turnWantsC turnSaidC
 cFaceOpen = 0

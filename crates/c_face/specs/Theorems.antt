@@ -5,6 +5,7 @@ pub mod CratesOwn
 pub mod Ordered
 pub mod OrdersOwn
 pub mod Relay
+pub mod Replayed
 pub mod Round
 pub mod Runs
 pub mod Told

@@ -9,5 +9,6 @@ mod packets;
 mod payloads;
 mod plans;
 mod receivers;
+mod replays;
 mod runs;
 mod senders;

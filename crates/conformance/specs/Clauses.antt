@@ -16,6 +16,7 @@ pub mod Ports
 pub mod Receivers
 pub mod Recording
 pub mod Replaying
+pub mod ReplaysInC
 pub mod Replying
 pub mod Reports
 pub mod Rows

@@ -93,6 +93,7 @@ entries =
     ∷ row "receiver::ports" receiver.ports receiver.ports-copes
     ∷ row "receiver::reply" receiver.reply receiver.reply-copes
     ∷ row "replaying::turn" replay.turn replay.turn-copes
+    ∷ row "replaying::replay_lengths" replay.lengths replay.lengths-copes
     ∷ row "mending::mend_lengths" mending.lengths mending.lengths-copes
     ∷ row "mending::mend" mending.mend mending.mend-copes
     ∷ row "levelspruce_packet_write" packet.writeC packet.writeC-copes
@@ -138,6 +139,9 @@ entries =
     ∷ row "levelspruce_board_speak" spoken.speakC spoken.speakC-copes
     ∷ row "levelspruce_mend_lengths" mending.lengthsC mending.lengthsC-copes
     ∷ row "levelspruce_mend" mending.mendC mending.mend-copes
+    ∷ row "levelspruce_replay_lengths" replay.lengthsC replay.lengthsC-copes
+    ∷ row "levelspruce_replay_begin" replay.beginC replay.beginC-copes
+    ∷ row "levelspruce_replay_turn" replay.turnC replay.turnC-copes
     ∷ row "levelspruce_receiver_start" receiver.startC receiver.startC-copes
     ∷ row "levelspruce_receiver_start_as" receiver.startAsC receiver.startAsC-copes
     ∷ row "levelspruce_receiver_frame" receiver.frameC receiver.frameC-copes

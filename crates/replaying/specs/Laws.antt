@@ -5,3 +5,4 @@ pub mod Lengths
 pub mod Lent
 pub mod Starts
 pub mod Texts
+pub mod Used

@@ -1,5 +1,6 @@
 pub mod Deeds
 pub mod Laws
+pub mod Lengths
 pub mod Opened
 pub mod Output
 pub mod Replay

@@ -9,6 +9,7 @@ use Rattle.ground.specs.Truth.{and-left, and-right}
 use Rattle.packet.specs.Laws.Epochs.{half-fits}
 use Rattle.receiver.specs.Laws.Sizes.{start-sizes-of}
 use Rattle.recording.specs.declared.pairs.Settings.{Settings}
+use Rattle.replaying.specs.Lengths.{inRange}
 use Rattle.replaying.specs.Turn.{isSized, startable, storeIn, timesFit}
 
 module _ (g : Settings) (store : ℕ) where
@@ -28,6 +29,19 @@ module _ (g : Settings) (store : ℕ) where
     pub start-stored : storeIn g ≤ store
     unfolding startable
     start-stored = leb-true (storeIn g) store (and-right (isSized g && timesFit g) (leb (storeIn g) store) t)
+
+module _ (g : Settings) where
+  pub range-out : isSized g ≡ false → false ≡ inRange g
+  unfolding inRange
+  range-out t = rw t
+
+  pub range-in : isSized g ≡ true → timesFit g ≡ inRange g
+  unfolding inRange
+  range-in t = rw t
+
+  pub range-sized : inRange g ≡ true → isSized g ≡ true
+  unfolding inRange
+  range-sized t = and-left (isSized g) (timesFit g) t
 
 pub record Small (g : Settings) : Type 0 where
   pub ports-most : g .ports ≤ 64

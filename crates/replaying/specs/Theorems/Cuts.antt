@@ -35,11 +35,12 @@ use Rattle.replaying.specs.Deeds.Deed.{Call, Close, Read}
 use Rattle.replaying.specs.Laws.Lent.{Lent, lent-is}
 use Rattle.replaying.specs.Laws.Lengths.{fetch-record-alike, fetch-rows-alike, length-fetch-out, length-fetch-rows, length-frame-rows, length-frame-store, length-part, length-started-rows}
 use Rattle.replaying.specs.Laws.Starts.{start-sized, start-stored}
+use Rattle.replaying.specs.Laws.Used.{line-closed}
 use Rattle.replaying.specs.Laws.Texts.{behind-append, behind-none, behindOf, firstOf, free-all, free-behind, goes-on, lines-first, lines-last, no-lines}
 use Rattle.replaying.specs.Output.{ROOM, answerText}
 use Rattle.replaying.specs.Replay.{nextLine, outputOf, storeOf}
 use Rattle.replaying.specs.Runs.{Desk, Host, answer, called, calls, deskAfter, outputFrom, reported, reports, saidTo, wholeOutput}
-use Rattle.replaying.specs.Theorems.Ends.{called-narrow, calls-narrow, ends, line-closed}
+use Rattle.replaying.specs.Theorems.Ends.{called-narrow, calls-narrow, ends}
 use Rattle.replaying.specs.Theorems.Lines.{bad-first-line, bad-settings}
 use Rattle.replaying.specs.Turn as T
 use Rattle.replaying.specs.Turn.{over, within}
