@@ -10,7 +10,7 @@
 #include "check.h"
 
 enum { STACK = 1 << 20, PAINT = 0xA5, PORTS = LEVELSPRUCE_PORTS_MOST, P = LEVELSPRUCE_PAYLOAD_MOST, W = 64 };
-enum { CARD = 7680, DESK = 8192 }; /* what a call on a card may take, and one at a desk */
+enum { CARD = 7680, DESK = 8192, REPLAY = 10240 }; /* what a call on a card may take, one at a desk, and one that replays, which calls the receiver */
 
 static uint8_t card[LEVELSPRUCE_CARD_BYTES], owned[LEVELSPRUCE_OWNED_BYTES];
 static uint8_t sender[LEVELSPRUCE_SENDER_BYTES], receiver[LEVELSPRUCE_RECEIVER_ROWS(PORTS)][LEVELSPRUCE_ROW_BYTES];
@@ -273,7 +273,7 @@ int main(void)
     } groups[] = { { "packets", packets, CARD }, { "payload", payloads, CARD }, { "sender", sending, CARD }, { "card", sharing, CARD },
                  { "receiver", receiving, CARD }, { "receiver of a fixed group", receiving_fixed, CARD },
                  { "sender of VC-12", sending_vc12, CARD }, { "receiver of VC-12", receiving_vc12, CARD }, { "paths", planning, CARD },
-                 { "spoken board", telling, CARD }, { "mending", mending, DESK }, { "replay", replaying, DESK } };
+                 { "spoken board", telling, CARD }, { "mending", mending, DESK }, { "replay", replaying, REPLAY } };
     size_t own, i;
     int within = 1;
 

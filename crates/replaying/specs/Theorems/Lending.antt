@@ -1,9 +1,9 @@
 -- What a first line asks to be lent is what its replay wants, no less and no more: with the store that is told the group starts, with a smaller one it does not, and with the output that is
 -- told, rows for 64 ports and room for what is printed no later turn of the group is answered 9 for want of room.
-use mathlib.Core.Path.{_≡_, refl, sym, ap, _∙_}
+use mathlib.Core.Path.{_≡_, refl, sym, ap}
 use mathlib.Core.Bool.{Bool, true, false, cond, _&&_, true≢false}
 use mathlib.Core.List.{List}
-use Prim.Native.Nat.{ℕ, _+_, _≤_}
+use Prim.Native.Nat.{ℕ, _≤_}
 use native.Mathlib.Omega.{arith}
 use lib.Dec.{eqb, leb, ltb}
 use lib.ListN.{length}
@@ -14,7 +14,6 @@ use Rattle.recording.specs.Line.{MOST, foundOf}
 use Rattle.recording.specs.Opening.{Opening, openingIn}
 use Rattle.recording.specs.Opening.{Opening as O}
 use Rattle.recording.specs.declared.pairs.Settings.{Settings}
-use Rattle.replaying.specs.declared.lengths.Lengths.{Lengths}
 use Rattle.replaying.specs.declared.replay.Replay.{Replay}
 use Rattle.replaying.specs.Laws.Lent.{lent-is}
 use Rattle.replaying.specs.Laws.Starts.{small, start-sized, start-stored}
