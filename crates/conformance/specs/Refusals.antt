@@ -82,6 +82,8 @@ entries =
     ∷ row "spoken::changes_between" spoken.changes spoken.changes-copes
     ∷ row "spoken::apply" spoken.apply spoken.apply-copes
     ∷ row "spoken::speak" spoken.speak spoken.speak-copes
+    ∷ row "spoken::speak_runs" spoken.speakRuns spoken.speakRuns-copes
+    ∷ row "spoken::speak_whole" spoken.speakWhole spoken.speakWhole-copes
     ∷ row "console::feed" console.feed console.feed-copes
     ∷ row "console::finish" console.finish console.finish-copes
     ∷ row "console::reply_to" console.reply console.reply-copes
@@ -137,6 +139,8 @@ entries =
     ∷ row "levelspruce_board_changes" spoken.changesC spoken.changesC-copes
     ∷ row "levelspruce_board_apply" spoken.applyC spoken.applyC-copes
     ∷ row "levelspruce_board_speak" spoken.speakC spoken.speakC-copes
+    ∷ row "levelspruce_board_speak_runs" spoken.speakRunsC spoken.speakRunsC-copes
+    ∷ row "levelspruce_board_speak_whole" spoken.speakWholeC spoken.speakWholeC-copes
     ∷ row "levelspruce_mend_lengths" mending.lengthsC mending.lengthsC-copes
     ∷ row "levelspruce_mend" mending.mendC mending.mend-copes
     ∷ row "levelspruce_replay_lengths" replay.lengthsC replay.lengthsC-copes

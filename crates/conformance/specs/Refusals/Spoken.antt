@@ -5,12 +5,14 @@ use Prim.Native.Nat.{ℕ}
 use lib.ListN.{getD, length}
 use Rattle.ground.specs.Plain.{_==_, _<?_, _≤?_}
 use Rattle.c_face.specs.Changes.{appliedAnswerC, appliedBytesC, boardFrom, changesFrom, comparedAnswerC, comparedBytesC, spokenAnswerC, spokenBytesC, writtenC}
+use Rattle.c_face.specs.Runs.{runsAnswerC, runsBytesC, runsWrittenC, wholeAnswerC, wholeBytesC, wholeWrittenC}
 use Rattle.conformance.specs.Entries.{Call, Copes, If, Refusal, Unless, copes, stateful, stateless}
 use Rattle.sender.specs.declared.board.Board.{Board}
 use Rattle.spoken.specs.Applying.{appliedOf, fits}
 use Rattle.spoken.specs.Changes.{answerNumber, comparedOf, noChanges}
 use Rattle.spoken.specs.declared.lists.Changes.{Changes}
 use Rattle.spoken.specs.Speaking.{canSpeak, speakAnswer, speechBytes, speechOf}
+use Rattle.spoken.specs.SpeakingRuns.{canSpeakWhole, runsSpeechBytes, runsSpeechOf, wholeAnswer, wholeSpeechBytes, wholeSpeechOf}
 
 -- 4 also where both counts are above 64. There are no changes before the call, so none stand for what is given.
 abbrev countRefusals : Board → Board → List Refusal
@@ -39,6 +41,25 @@ speak (changes, out) =
 pub speak-copes : (x : Changes × List ℕ) → Copes (speak x)
 unfolding speechOf speakAnswer speechBytes
 speak-copes (changes, out) = copes _ (λ l. rw l (refl, refl, refl), λ l. (λ s. rw (l, s), λ s. rw (l, s) (refl, refl, refl)))
+
+-- in runs it is refused as one line a slot is
+abbrev pub speakRuns : Changes × List ℕ → Call
+speakRuns (changes, out) =
+    stateful (If 9 (length out <? 2188) ∷ Unless 2 (canSpeak changes) ∷ [])
+    (answerNumber (runsSpeechOf changes out .answer)) (out ∷ []) (runsSpeechBytes changes out ∷ []) 0 (runsSpeechOf changes out .written) 0
+
+pub speakRuns-copes : (x : Changes × List ℕ) → Copes (speakRuns x)
+unfolding runsSpeechOf speakAnswer runsSpeechBytes
+speakRuns-copes (changes, out) = copes _ (λ l. rw l (refl, refl, refl), λ l. (λ s. rw (l, s), λ s. rw (l, s) (refl, refl, refl)))
+
+abbrev pub speakWhole : Board × List ℕ → Call
+speakWhole (board, out) =
+    stateful (If 9 (length out <? 2188) ∷ Unless 2 (canSpeakWhole board) ∷ [])
+    (answerNumber (wholeSpeechOf board out .answer)) (out ∷ []) (wholeSpeechBytes board out ∷ []) 0 (wholeSpeechOf board out .written) 0
+
+pub speakWhole-copes : (x : Board × List ℕ) → Copes (speakWhole x)
+unfolding wholeSpeechOf wholeAnswer wholeSpeechBytes
+speakWhole-copes (board, out) = copes _ (λ l. rw l (refl, refl, refl), λ l. (λ s. rw (l, s), λ s. rw (l, s) (refl, refl, refl)))
 
 abbrev pub changesC : List ℕ × List ℕ × List ℕ → Call
 changesC (before, after, changes) =
@@ -81,3 +102,24 @@ unfolding spokenAnswerC spokenBytesC writtenC speechOf speakAnswer speechBytes
 speakC-copes (changes, text, written) =
     copes _
     (λ l. (λ h. rw (l, h) (refl, refl, refl), λ h. (λ w. (λ s. rw (l, h, w, s), λ s. rw (l, h, w, s) (refl, refl, refl)), λ w. rw (l, h, w) (refl, refl, refl))), λ l. rw l (refl, refl, refl))
+
+abbrev pub speakRunsC : List ℕ × List ℕ × ℕ → Call
+speakRunsC (changes, text, written) =
+    stateful (Unless 9 (length changes == 322) ∷ If 9 (length text <? 2188) ∷ Unless 2 (getD changes 1 0 <? 3) ∷ Unless 2 (canSpeak (changesFrom changes)) ∷ [])
+    (runsAnswerC changes text) (text ∷ []) (runsBytesC changes text ∷ []) written (runsWrittenC changes text written) written
+
+pub speakRunsC-copes : (x : List ℕ × List ℕ × ℕ) → Copes (speakRunsC x)
+unfolding runsAnswerC runsBytesC runsWrittenC runsSpeechOf speakAnswer runsSpeechBytes
+speakRunsC-copes (changes, text, written) =
+    copes _
+    (λ l. (λ h. rw (l, h) (refl, refl, refl), λ h. (λ w. (λ s. rw (l, h, w, s), λ s. rw (l, h, w, s) (refl, refl, refl)), λ w. rw (l, h, w) (refl, refl, refl))), λ l. rw l (refl, refl, refl))
+
+abbrev pub speakWholeC : List ℕ × List ℕ × ℕ → Call
+speakWholeC (board, text, written) =
+    stateful (Unless 9 (length board == 130) ∷ If 9 (length text <? 2188) ∷ Unless 2 (canSpeakWhole (boardFrom board)) ∷ [])
+    (wholeAnswerC board text) (text ∷ []) (wholeBytesC board text ∷ []) written (wholeWrittenC board text written) written
+
+pub speakWholeC-copes : (x : List ℕ × List ℕ × ℕ) → Copes (speakWholeC x)
+unfolding wholeAnswerC wholeBytesC wholeWrittenC wholeSpeechOf wholeAnswer wholeSpeechBytes
+speakWholeC-copes (board, text, written) =
+    copes _ (λ l. (λ h. rw (l, h) (refl, refl, refl), λ h. (λ s. rw (l, h, s), λ s. rw (l, h, s) (refl, refl, refl))), λ l. rw l (refl, refl, refl))
