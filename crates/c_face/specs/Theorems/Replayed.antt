@@ -1,9 +1,8 @@
 -- A replay for C is the crate's own (2026-05): what is kept in the 17 bytes is read back as it was, so a host in C that makes turn after turn has the replay, the rows, the store, the output
 -- and the printed lines of a host that calls the crate itself. What is proved of that one (crates/replaying/specs/Theorems) holds of it.
-use mathlib.Core.Path.{_≡_, refl, sym, ap, _∙_}
-use mathlib.Core.Bool.{Bool}
+use mathlib.Core.Path.{_≡_, refl, sym}
 use mathlib.Core.List.{List, _++_}
-use Prim.Native.Nat.{ℕ, _+_, _*_, _/_, _%_, _≤_, _<_}
+use Prim.Native.Nat.{ℕ, _+_, _*_, _/_, _%_, _≤_}
 use native.Mathlib.Omega.{arith}
 use lib.ListN.{drop, length, take}
 use lib.Seq.{drop-drop}
@@ -11,10 +10,8 @@ use borrow.Author.Tests.{eq-eqb, le-leb}
 use Rattle.replaying.specs.declared.replay.Phase.{Phase}
 use Rattle.replaying.specs.declared.replay.Phase.the-variants.{Settings, Reading, Fetching, Skipping, Ended}
 use Rattle.replaying.specs.declared.replay.Replay.{Replay}
-use Rattle.replaying.specs.declared.turns.Replayed.{Replayed}
 use Rattle.replaying.specs.Runs.{Host, answer, called}
-use Rattle.replaying.specs.Turn.{turnOf, turnOut, turnRows, turnSaid, turnStore}
-use Rattle.c_face.specs.Replays.{bytesOf, fourOf, lastC, lineIn, phaseCode, phaseOf, replayOf, turnAnswerC, turnAtC, turnOutC, turnRowsC, turnSaidC, turnStateC, turnStoreC, turnWantsC, turnWrittenC, twoOf}
+use Rattle.c_face.specs.Replays.{bytesOf, fourOf, lastC, lineIn, phaseCode, phaseOf, replayOf, turnAnswerC, turnAtC, turnOutC, turnRowsC, turnSaidC, turnStateC, turnStoreC, turnWrittenC, twoOf}
 
 phase-back : (p : Phase) → phaseOf (phaseCode p) ≡ p
 phase-back Settings = refl

@@ -21,7 +21,6 @@ use Rattle.recording.specs.Record.{lastRecord, lineRecord, recordIn}
 use Rattle.replaying.specs.declared.replay.Phase.{Phase}
 use Rattle.replaying.specs.declared.replay.Phase.the-variants.{Settings, Reading, Fetching, Skipping, Ended}
 use Rattle.replaying.specs.declared.replay.Replay.{Replay}
-use Rattle.replaying.specs.declared.turns.Replayed.{Replayed}
 use Rattle.replaying.specs.Turn as T
 use Rattle.text.specs.Text.{LINE-END}
 
