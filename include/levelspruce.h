@@ -949,11 +949,56 @@ uint8_t levelspruce_card_order(
 
 /*
  * The spoken board: for a console that tells what changes. A board to be told
- * is one going out, read whole by levelspruce_sender_board_going after the
- * start of an epoch: it stays as it is until the next start, so no list of
- * changes mixes two orders. The board as it stands now may come and go in
- * between.
+ * is one going out: it stays as it is from one start of an epoch to the next,
+ * so no list of changes mixes two orders. The board as it stands now may come
+ * and go in between. levelspruce_sender_changes and levelspruce_card_changes
+ * take the board going out from the state themselves, so that a console cannot
+ * tell another.
  */
+
+/*
+ * Lists what has changed on the sender's board going out since the board told
+ * last, as levelspruce_board_changes does, and makes the board told the one
+ * going out. Whenever it is called, that is the board of the last start of an
+ * epoch; before the first one it is the board of the sender's start, all slots
+ * IDLE. Applied by levelspruce_board_apply to the board told before, the
+ * changes make it the board told now.
+ *
+ *   state     LEVELSPRUCE_SENDER_BYTES bytes
+ *   told      LEVELSPRUCE_BOARD_BYTES bytes: the board told last, at first
+ *             the one that levelspruce_sender_board_going shows
+ *   changes   LEVELSPRUCE_CHANGES_BYTES bytes, as levelspruce_board_changes
+ *             writes them
+ *
+ * Answers, the first that fits:
+ *   9  a length is wrong
+ *   4  the counts of told and of the board going out differ, or are above 64
+ *   0  all of told and of changes is written
+ */
+LEVELSPRUCE_MUST_USE
+uint8_t levelspruce_sender_changes(const uint8_t *state, size_t state_length,
+                                   uint8_t *told, size_t told_length,
+                                   uint8_t *changes, size_t changes_length);
+
+/*
+ * The same of a group of a card. At first told is the board that
+ * levelspruce_card_board_going shows.
+ *
+ *   state     LEVELSPRUCE_CARD_BYTES bytes
+ *   group     0 or 1
+ *
+ * Answers, the first that fits:
+ *   9  state_length is wrong
+ *   1  there is no such group
+ *   9  told_length or changes_length is wrong
+ *   4  the counts of told and of the board going out differ, or are above 64
+ *   0  all of told and of changes is written
+ */
+LEVELSPRUCE_MUST_USE
+uint8_t levelspruce_card_changes(const uint8_t *state, size_t state_length,
+                                 uint32_t group,
+                                 uint8_t *told, size_t told_length,
+                                 uint8_t *changes, size_t changes_length);
 
 /*
  * Lists what has changed from one board to another: each slot whose word or

@@ -15,7 +15,7 @@ enum { CARD = 7680, DESK = 8192, REPLAY = 10240 }; /* what a call on a card may 
 static uint8_t card[LEVELSPRUCE_CARD_BYTES], owned[LEVELSPRUCE_OWNED_BYTES];
 static uint8_t sender[LEVELSPRUCE_SENDER_BYTES], receiver[LEVELSPRUCE_RECEIVER_ROWS(PORTS)][LEVELSPRUCE_ROW_BYTES];
 static uint8_t h4[LEVELSPRUCE_PACKET_BYTES], bits[LEVELSPRUCE_PACKET_BYTES_VC12], frame[PORTS * P], member[PORTS * P], ports[PORTS][LEVELSPRUCE_PORT_BYTES];
-static uint8_t board[LEVELSPRUCE_BOARD_BYTES], ranks[LEVELSPRUCE_RANKS_BYTES], reply[LEVELSPRUCE_REPLY_BYTES];
+static uint8_t board[LEVELSPRUCE_BOARD_BYTES], list[LEVELSPRUCE_CHANGES_BYTES], ranks[LEVELSPRUCE_RANKS_BYTES], reply[LEVELSPRUCE_REPLY_BYTES];
 static uint8_t fields[LEVELSPRUCE_FIELDS_BYTES], report[LEVELSPRUCE_REPORT_BYTES];
 static uint8_t store[LEVELSPRUCE_STORE_BYTES(PORTS, P, W)], out[LEVELSPRUCE_OUTPUT_BYTES(PORTS, P)];
 static unsigned answers; /* all of them, so that none is left out */
@@ -55,6 +55,7 @@ static void sending_as(uint32_t kind, uint32_t p, uint8_t *packet, size_t packet
     }
     answers |= levelspruce_sender_board(sender, sizeof sender, board, sizeof board);
     answers |= levelspruce_sender_board_going(sender, sizeof sender, board, sizeof board);
+    answers |= levelspruce_sender_changes(sender, sizeof sender, board, sizeof board, list, sizeof list);
     answers |= levelspruce_sender_ranks(sender, sizeof sender, ranks, sizeof ranks);
     answers |= levelspruce_sender_packet(sender, sizeof sender, 3, packet, packet_bytes);
     answers |= levelspruce_sender_payload(sender, sizeof sender, 3, p, frame, (size_t)ranks[LEVELSPRUCE_RANKS_X] * p, member, p);
@@ -97,6 +98,7 @@ static void sharing(void)
     }
     answers |= levelspruce_card_board(card, sizeof card, 1, board, sizeof board);
     answers |= levelspruce_card_board_going(card, sizeof card, 1, board, sizeof board);
+    answers |= levelspruce_card_changes(card, sizeof card, 1, board, sizeof board, list, sizeof list);
     answers |= levelspruce_card_ranks(card, sizeof card, 1, ranks, sizeof ranks);
     answers |= levelspruce_card_owned(card, sizeof card, 1, owned, sizeof owned);
     answers |= levelspruce_card_packet(card, sizeof card, 1, 3, h4, sizeof h4);

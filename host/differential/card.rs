@@ -65,6 +65,12 @@ extern "C" {
     fn levelspruce_card_order(
         state: *mut u8, state_length: usize, commands: *const [u32; 3], commands_length: usize, answers: *mut u8, answers_length: usize,
     ) -> u8;
+    fn levelspruce_sender_changes(
+        state: *const u8, state_length: usize, told: *mut u8, told_length: usize, changes: *mut u8, changes_length: usize,
+    ) -> u8;
+    fn levelspruce_card_changes(
+        state: *const u8, state_length: usize, group: u32, told: *mut u8, told_length: usize, changes: *mut u8, changes_length: usize,
+    ) -> u8;
     fn levelspruce_board_changes(
         before: *const u8, before_length: usize, after: *const u8, after_length: usize, changes: *mut u8, changes_length: usize,
     ) -> u8;
@@ -265,6 +271,22 @@ pub fn card_order(state: &mut [u8], commands: &[[u32; 3]], answers: &mut [u8]) -
     unsafe {
         levelspruce_card_order(
             state.as_mut_ptr(), state.len(), commands.as_ptr(), commands.len(), answers.as_mut_ptr(), answers.len(),
+        )
+    }
+}
+
+pub fn sender_changes(state: &[u8], told: &mut [u8], changes: &mut [u8]) -> u8 {
+    unsafe {
+        levelspruce_sender_changes(
+            state.as_ptr(), state.len(), told.as_mut_ptr(), told.len(), changes.as_mut_ptr(), changes.len(),
+        )
+    }
+}
+
+pub fn card_changes(state: &[u8], group: u32, told: &mut [u8], changes: &mut [u8]) -> u8 {
+    unsafe {
+        levelspruce_card_changes(
+            state.as_ptr(), state.len(), group, told.as_mut_ptr(), told.len(), changes.as_mut_ptr(), changes.len(),
         )
     }
 }

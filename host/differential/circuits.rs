@@ -6,6 +6,7 @@ use crate::card;
 use crate::count::{Count, Test};
 use crate::random::Random;
 use crate::senders::{epoch_most, sizes};
+use crate::tellings;
 use reference::circuits::{answered, Card};
 use reference::receiver::{KIND_H4, KIND_VC12};
 
@@ -17,19 +18,23 @@ pub fn compare(count: &mut Count) {
     let mut random = Random::new(23);
     let mut calls = Test::new("histories of a card's calls");
     let mut sent = Test::new("what a card's slots send over these histories");
+    let mut told = Test::new("what is told of each group's boards going out over these histories");
     for _ in 0..300 {
-        history(&mut random, KIND_H4, &mut calls, &mut sent);
+        history(&mut random, KIND_H4, &mut calls, &mut sent, &mut told);
     }
     calls.end(count, &[0, 1, 2, 3, 8, 9, 14, 15]);
     sent.end(count, &[0, 1, 2, 4, 9, 14]);
+    told.end(count, &[0, 4, 9]);
 
     let mut calls = Test::new("histories of the calls of a card of VC-12");
     let mut sent = Test::new("what its slots send over these histories");
+    let mut told = Test::new("what is told of each of its groups' boards going out over these histories");
     for _ in 0..300 {
-        history(&mut random, KIND_VC12, &mut calls, &mut sent);
+        history(&mut random, KIND_VC12, &mut calls, &mut sent, &mut told);
     }
     calls.end(count, &[0, 1, 2, 3, 8, 9, 14, 15]);
     sent.end(count, &[0, 1, 2, 4, 9, 14]);
+    told.end(count, &[0, 4, 9]);
 
     let mut starts = Test::new("starts of a card");
     for given in (0..300).chain([65536, 65600, u32::MAX]) {
@@ -175,13 +180,14 @@ fn part(state: &[u8], group: u32) -> &[u8] {
     &state[at..at + PART_BYTES]
 }
 
-fn history(random: &mut Random, kind: u32, calls: &mut Test, sent: &mut Test) {
+fn history(random: &mut Random, kind: u32, calls: &mut Test, sent: &mut Test, told: &mut Test) {
     let slots = random.one_of(&[1u32, 2, 3, 5, 8, 20, 64]);
     let epochs = u64::from(epoch_most(kind)) + 1;
     let first = [random.below(epochs) as u32, random.below(epochs) as u32];
     let mut state = vec![0u8; STATE_BYTES];
     let mut reference = Card::start_as(kind, slots, first).expect("the count fits");
     assert_eq!(card::card_start_as(kind, slots, first, &mut state), 0);
+    let mut boards_told = [0, 1].map(|group| reference.of(group).expect("a group of the two").going.bytes());
     for turn in 0..400 {
         let before = state.clone();
         let group = match random.below(40) {
@@ -199,6 +205,10 @@ fn history(random: &mut Random, kind: u32, calls: &mut Test, sent: &mut Test) {
         let all = (right, wanted(&mut reference, 0), wanted(&mut reference, 1), true);
         calls.case(right, &all, &(answer, shown(&state, 0), shown(&state, 1), untouched), &(slots, turn, group, call));
         sends(random, kind, sent, &mut reference, &state, group, slots);
+        for (group, board_told) in (0..).zip(&mut boards_told) {
+            let going = reference.of(group).expect("a group of the two").going.bytes();
+            tellings::tell(random, told, &going, board_told, |board, changes| card::card_changes(&state, group, board, changes));
+        }
     }
 }
 

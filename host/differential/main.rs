@@ -15,6 +15,7 @@ mod plans;
 mod random;
 mod receivers;
 mod senders;
+mod tellings;
 mod torn;
 
 fn main() {

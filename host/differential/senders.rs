@@ -3,6 +3,7 @@
 use crate::card;
 use crate::count::{Count, Test};
 use crate::random::Random;
+use crate::tellings;
 use reference::receiver::{clock, KIND_H4, KIND_VC12};
 use reference::sender::Sender;
 
@@ -12,19 +13,23 @@ pub fn compare(count: &mut Count) {
     let mut random = Random::new(9);
     let mut calls = Test::new("histories of the sender's calls");
     let mut sent = Test::new("what slots send over these histories");
+    let mut told = Test::new("what is told of the boards going out over these histories");
     for _ in 0..400 {
-        history(&mut random, KIND_H4, &mut calls, &mut sent);
+        history(&mut random, KIND_H4, &mut calls, &mut sent, &mut told);
     }
     calls.end(count, &[0, 1, 2, 3, 8, 9]);
     sent.end(count, &[0, 1, 2, 4, 9]);
+    told.end(count, &[0, 4, 9]);
 
     let mut calls = Test::new("histories of a VC-12 sender's calls");
     let mut sent = Test::new("what its slots send over these histories");
+    let mut told = Test::new("what is told of its boards going out over these histories");
     for _ in 0..400 {
-        history(&mut random, KIND_VC12, &mut calls, &mut sent);
+        history(&mut random, KIND_VC12, &mut calls, &mut sent, &mut told);
     }
     calls.end(count, &[0, 1, 2, 3, 8, 9]);
     sent.end(count, &[0, 1, 2, 4, 9]);
+    told.end(count, &[0, 4, 9]);
 
     let mut starts = Test::new("starts of a sender");
     for given in (0..300).chain([65536, 65600, u32::MAX]) {
@@ -104,12 +109,13 @@ fn any_slot(random: &mut Random, slots: u64) -> u32 {
     }
 }
 
-fn history(random: &mut Random, kind: u32, calls: &mut Test, sent: &mut Test) {
+fn history(random: &mut Random, kind: u32, calls: &mut Test, sent: &mut Test, told: &mut Test) {
     let slots = random.one_of(&[1u64, 2, 3, 5, 8, 20, 64]);
     let first = random.below(u64::from(epoch_most(kind)) + 1) as u32;
     let mut state = vec![0u8; STATE_BYTES];
     let mut sender = Sender::start_as(kind, slots as u32, first).expect("the count fits");
     assert_eq!(card::sender_start_as(kind, slots as u32, first, &mut state), 0);
+    let mut board_told = sender.going.bytes();
     for turn in 0..300 {
         let before = state.clone();
         let (expected, answer) = match random.below(20) {
@@ -146,6 +152,7 @@ fn history(random: &mut Random, kind: u32, calls: &mut Test, sent: &mut Test) {
         let wanted = (expected, (0, 0, 0), sender.table.board().bytes(), sender.going.bytes(), sender.ranks(), true);
         calls.case(expected, &wanted, &(answer, read, board, going, ranks, untouched), &(slots, turn));
         sends(random, kind, sent, &sender, &state, slots);
+        tellings::tell(random, told, &sender.going.bytes(), &mut board_told, |board, changes| card::sender_changes(&state, board, changes));
     }
 }
 

@@ -4,13 +4,13 @@
 
 #include "rooms.h"
 
-enum { CLAIM, RELEASE, ADD, REMOVE, REPORT, LAPSE, EPOCH, PACKET, MEMBER, BOARD, GOING, RANKS, OWNED, CALLS };
+enum { CLAIM, RELEASE, ADD, REMOVE, REPORT, LAPSE, EPOCH, PACKET, MEMBER, BOARD, GOING, RANKS, OWNED, CHANGES, CALLS };
 enum { ROW = LEVELSPRUCE_OWNED_BYTES, PART = LEVELSPRUCE_SENDER_BYTES };
 
 /* The answers of each call, a bit for each number. */
-static const unsigned answers[CALLS] = { 0x4203, 0xC203, 0x420F, 0x420F, 0x303, 0x207, 0x303, 0x4307, 0x4217, 0x203, 0x203, 0x203, 0x203 };
+static const unsigned answers[CALLS] = { 0x4203, 0xC203, 0x420F, 0x420F, 0x303, 0x207, 0x303, 0x4307, 0x4217, 0x203, 0x203, 0x203, 0x203, 0x213 };
 static const size_t results[CALLS] = { [PACKET] = LEVELSPRUCE_PACKET_BYTES, [BOARD] = LEVELSPRUCE_BOARD_BYTES, [GOING] = LEVELSPRUCE_BOARD_BYTES,
-                                       [RANKS] = LEVELSPRUCE_RANKS_BYTES, [OWNED] = LEVELSPRUCE_OWNED_BYTES };
+                                       [RANKS] = LEVELSPRUCE_RANKS_BYTES, [OWNED] = LEVELSPRUCE_OWNED_BYTES, [CHANGES] = LEVELSPRUCE_CHANGES_BYTES };
 
 /* What libFuzzer takes for new, since it cannot see into the archive: answers by call. */
 __attribute__((section("__libfuzzer_extra_counters"))) static uint8_t counters[CALLS * 16];
@@ -30,7 +30,8 @@ static uint8_t make(int which, uint32_t g, const uint32_t *n, struct block s, st
     case BOARD: return levelspruce_card_board(s.bytes, s.length, g, o.bytes, o.length);
     case GOING: return levelspruce_card_board_going(s.bytes, s.length, g, o.bytes, o.length);
     case RANKS: return levelspruce_card_ranks(s.bytes, s.length, g, o.bytes, o.length);
-    default: return levelspruce_card_owned(s.bytes, s.length, g, o.bytes, o.length);
+    case OWNED: return levelspruce_card_owned(s.bytes, s.length, g, o.bytes, o.length);
+    default: return levelspruce_card_changes(s.bytes, s.length, g, f.bytes, f.length, o.bytes, o.length);
     }
 }
 
@@ -44,7 +45,7 @@ static size_t x_of(struct kept card, uint32_t g)
     return levelspruce_card_ranks(card.bytes, card.length, g, ranks, sizeof ranks) == LEVELSPRUCE_ANSWER_DONE ? ranks[LEVELSPRUCE_RANKS_X] : 0;
 }
 
-static void any_call(struct kept card, struct program *p, int which)
+static void any_call(struct kept card, struct kept told, struct program *p, int which)
 {
     static const struct kept nothing;
     uint32_t g = byte_of(p) % 16 == 15 ? number_of(p) : byte_of(p) % LEVELSPRUCE_GROUPS, n[3];
@@ -59,7 +60,7 @@ static void any_call(struct kept card, struct program *p, int which)
         n[1] = LEVELSPRUCE_PAYLOAD_VC12;
     small = n[1] < 64 || n[1] == LEVELSPRUCE_PAYLOAD_VC12 ? n[1] : 1;
     state = lend(STATE, card, about(p, card.length));
-    frame = lend(PAYLOAD, nothing, which == MEMBER ? about(p, x_of(card, g) * small) : 0);
+    frame = which == CHANGES ? lend(PAYLOAD, told, about(p, told.length)) : lend(PAYLOAD, nothing, which == MEMBER ? about(p, x_of(card, g) * small) : 0);
     out = lend(RESULT, nothing,
                about(p, which == MEMBER ? small : which == PACKET && kind == LEVELSPRUCE_KIND_VC12 ? LEVELSPRUCE_PACKET_BYTES_VC12 : results[which]));
     answer = make(which, g, n, state, frame, out);
@@ -67,12 +68,16 @@ static void any_call(struct kept card, struct program *p, int which)
         fail("an answer that the call does not have");
     if (state.length != LEVELSPRUCE_CARD_BYTES ? answer != 9 : g >= LEVELSPRUCE_GROUPS ? answer != 1 : 0)
         fail("9 and 1 do not come first");
-    stands(frame, 0, "a group frame changed");
+    stands(frame, answer == 0 && which == CHANGES ? frame.length : 0, "a group frame or the board told of a refusal changed");
     stands(out, answer == 0 ? out.length : 0, "a refused reading was written");
     stands(state, answer == 0 && which < PACKET ? state.length : 0, "a refusal or a reading changed the state");
     if (answer == 0 && memcmp(state.bytes + ROW + (1 - g) * PART, before[STATE] + ROW + (1 - g) * PART, PART) != 0)
         fail("a call changed the other group's part");
     put_back(card, state);
+    if (which == CHANGES)
+        put_back(told, frame);
+    else if (which == GOING && answer == 0)
+        put_back(told, out);
     counters[which * 16 + answer] = 1;
 }
 
@@ -105,7 +110,7 @@ static void damage(struct kept card, struct program *p)
 int LLVMFuzzerTestOneInput(const uint8_t *data, size_t size)
 {
     struct program p = { data, data + size };
-    struct kept card = keep(LEVELSPRUCE_CARD_BYTES);
+    struct kept card = keep(LEVELSPRUCE_CARD_BYTES), told = keep(LEVELSPRUCE_BOARD_BYTES);
 
     open_rooms();
     turn = 0;
@@ -114,7 +119,7 @@ int LLVMFuzzerTestOneInput(const uint8_t *data, size_t size)
         uint32_t which = byte_of(&p) % (CALLS + 3);
 
         if (which < CALLS)
-            any_call(card, &p, (int)which);
+            any_call(card, told, &p, (int)which);
         else if (which == CALLS)
             start(card, &p);
         else if (which == CALLS + 1)
@@ -123,5 +128,6 @@ int LLVMFuzzerTestOneInput(const uint8_t *data, size_t size)
             fill(card.bytes, card.length, byte_of(&p));
     }
     free(card.bytes);
+    free(told.bytes);
     return 0;
 }

@@ -124,17 +124,13 @@ static void says_changes(uint8_t *changes)
     fwrite(text, 1, written, stdout);
 }
 
-void says_start(struct says *s, uint64_t epoch, uint32_t x, size_t bytes, const uint8_t *going)
+void says_start(struct says *s, uint64_t epoch, uint32_t x, size_t bytes, uint8_t *changes)
 {
-    uint8_t changes[LEVELSPRUCE_CHANGES_BYTES];
-
-    must(levelspruce_board_changes(s->going, sizeof s->going, going, sizeof s->going, changes, sizeof changes), "the changes of the board going out");
     if ((s->x == x && changes[LEVELSPRUCE_CHANGES_COUNT] == 0) || !talks(s))
         return;
     printf("start\tepoch\t%" PRIu64 "\tmembers\t%" PRIu32 "\tbytes\t%lu\n", epoch, x, (unsigned long)bytes);
     says_changes(changes);
     s->x = x;
-    memcpy(s->going, going, sizeof s->going);
 }
 
 void says_told(struct says *s, uint64_t epoch, uint32_t mst, uint32_t rs_ack)

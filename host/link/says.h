@@ -21,7 +21,7 @@ struct says {
     uint32_t slots;
     struct alike alike; /* reports that are not said yet */
     uint8_t wait; /* as last said */
-    uint8_t going[LEVELSPRUCE_BOARD_BYTES];
+    uint8_t going[LEVELSPRUCE_BOARD_BYTES]; /* the board told last */
     uint32_t x;
     uint8_t ports[LINES_MOST][LEVELSPRUCE_PORT_BYTES];
     uint8_t rs_ack;
@@ -40,9 +40,9 @@ void says_command(struct says *s, const char *command, uint32_t slot, uint8_t an
  * that. */
 void says_wait(struct says *s, const uint8_t *board, const char *closed_by);
 
-/* An epoch starts at the sender: its members, the bytes it carries, and what has changed on the board that goes out, where
- * something has. */
-void says_start(struct says *s, uint64_t epoch, uint32_t x, size_t bytes, const uint8_t *going);
+/* An epoch starts at the sender: its members, the bytes it carries, and these changes of the board that goes out, where
+ * something has changed. */
+void says_start(struct says *s, uint64_t epoch, uint32_t x, size_t bytes, uint8_t *changes);
 
 /* What came back from the far end, in the packet of that epoch of its own. */
 void says_told(struct says *s, uint64_t epoch, uint32_t mst, uint32_t rs_ack);

@@ -35,10 +35,10 @@ static void must(uint8_t answer, const char *call)
         stop(call);
 }
 
-/* The board going out, which the last start of an epoch has fixed. */
-static void take(uint8_t *board)
+/* Who listens begins with the board going out, which is that of the start. */
+static void begin(void)
 {
-    must(levelspruce_sender_board_going(sender, sizeof sender, board, LEVELSPRUCE_BOARD_BYTES), "the board going out was refused");
+    must(levelspruce_sender_board_going(sender, sizeof sender, heard, sizeof heard), "the board going out was refused");
 }
 
 static uint8_t size(uint32_t count)
@@ -49,7 +49,7 @@ static uint8_t size(uint32_t count)
     if (answer != LEVELSPRUCE_ANSWER_DONE)
         return answer;
     memcpy(sender, started, sizeof sender);
-    take(heard);
+    begin();
     printf("size\t%lu\n", (unsigned long)count);
     return answer;
 }
@@ -57,16 +57,14 @@ static uint8_t size(uint32_t count)
 /* Starts an epoch, and tells what goes out in it that did not before. */
 static void epoch(void)
 {
-    uint8_t now[LEVELSPRUCE_BOARD_BYTES], changes[LEVELSPRUCE_CHANGES_BYTES];
+    uint8_t changes[LEVELSPRUCE_CHANGES_BYTES];
     size_t written;
 
     must(levelspruce_sender_start_epoch(sender, sizeof sender, 0, 0xFF, 0), "the start of an epoch was refused");
-    take(now);
-    must(levelspruce_board_changes(heard, sizeof heard, now, sizeof now, changes, sizeof changes), "the changes of a board were refused");
+    must(levelspruce_sender_changes(sender, sizeof sender, heard, sizeof heard, changes, sizeof changes), "the changes of a board were refused");
     must(each ? levelspruce_board_speak(changes, sizeof changes, text, sizeof text, &written)
               : levelspruce_board_speak_runs(changes, sizeof changes, text, sizeof text, &written),
          "the lines of changes were refused");
-    must(levelspruce_board_apply(heard, sizeof heard, changes, sizeof changes), "applying changes was refused");
     fwrite(text, 1, written, stdout);
 }
 
@@ -137,7 +135,7 @@ int main(int argc, char **argv)
     /* before any size there are no slots: an empty group, under 4 */
     if (levelspruce_sender_start(0, 0, sender, sizeof sender) != LEVELSPRUCE_ANSWER_RANGE)
         stop("a group cannot be started");
-    take(heard);
+    begin();
     for (number = 1; next_line(stdin, &line); number++) {
         answer = done(&line);
         if (answer != LEVELSPRUCE_ANSWER_DONE)

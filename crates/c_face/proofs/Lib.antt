@@ -8,6 +8,7 @@ pub mod Replaying
 pub mod SenderCalls
 pub mod Showing
 pub mod Telling
+pub mod Tells
 pub mod TwoGroups
 pub mod WholeBoards
 pub mod Wholes

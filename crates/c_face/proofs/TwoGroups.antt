@@ -118,7 +118,7 @@ pub record Open (state : List ℕ) (g : ℕ) : Type 0 where
   pub group : g < 2
 
 module _ (state : List ℕ) (g r : ℕ) (e : r ≡ refusalOf (length state) g) where
-  shut : (r ≡ 0 → ⊥) → (n : ℕ) (new old : List ℕ) → (r ≡ behind state g n) × (old ≡ bytesBehind state g new old)
+  pub shut : (r ≡ 0 → ⊥) → (n : ℕ) (new old : List ℕ) → (r ≡ behind state g n) × (old ≡ bytesBehind state g new old)
   unfolding refusalOf
   shut d n new old = go (isCard state) (ltb g 2) e
     where

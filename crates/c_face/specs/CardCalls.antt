@@ -11,6 +11,7 @@ use Rattle.circuits.specs.Calls.Call.{Claim, Release, AddSlot, RemoveSlot, Repo
 use Rattle.circuits.specs.Owners.{isMarked}
 use Rattle.orders.specs.Orders.{callBy}
 use Rattle.c_face.specs.Cards.{boardBytesOn, callAnswerOn, callStateOn, outgoingBytesOn, ownedBytesOn, ownersIn, packetAnswerOn, packetBytesOn, payloadAnswerOn, payloadBytesOn, ranksBytesOn, shownAnswerOn}
+use Rattle.c_face.specs.Going.{changesAnswerOn, changesBytesOn, changesToldOn}
 use Rattle.c_face.specs.Orders.{kindOf, orderAnswerOn, orderAnswersOn, orderStateOn}
 use Rattle.c_face.specs.Senders.{areBytes}
 
@@ -33,6 +34,7 @@ pub data CardCall : Type 0 where
   Going : (board : List ℕ) → CardCall
   Ranks : (ranks : List ℕ) → CardCall
   Owned : (owned : List ℕ) → CardCall
+  Changes : (told changes : List ℕ) → CardCall
   -- a row of a work order that is no command
   NoKind : CardCall
 
@@ -52,6 +54,8 @@ backOf state g (Board board) = record { number = shownAnswerOn 130 state g board
 backOf state g (Going board) = record { number = shownAnswerOn 130 state g board; lent = outgoingBytesOn state g board ∷ [] }
 backOf state g (Ranks ranks) = record { number = shownAnswerOn 68 state g ranks; lent = ranksBytesOn state g ranks ∷ [] }
 backOf state g (Owned owned) = record { number = shownAnswerOn 64 state g owned; lent = ownedBytesOn state g owned ∷ [] }
+backOf state g (Changes told changes) =
+    record { number = changesAnswerOn state g told changes; lent = changesToldOn state g told changes ∷ changesBytesOn state g told changes ∷ [] }
 backOf state g NoKind = answered 8
 
 -- the state that it leaves; a reading leaves it as it is
@@ -63,6 +67,7 @@ leftBy state g (Board board) = state
 leftBy state g (Going board) = state
 leftBy state g (Ranks ranks) = state
 leftBy state g (Owned owned) = state
+leftBy state g (Changes told changes) = state
 leftBy state g NoKind = state
 
 -- the slots that a group owns
@@ -87,6 +92,7 @@ bitOf state g (Board board) = false
 bitOf state g (Going board) = false
 bitOf state g (Ranks ranks) = false
 bitOf state g (Owned owned) = false
+bitOf state g (Changes told changes) = false
 bitOf state g NoKind = false
 
 -- A host's calls: a group's call, or a work order with its commands and the answers lent to it, which may hold commands of both groups.

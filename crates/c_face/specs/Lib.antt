@@ -2,8 +2,10 @@ pub mod Boards
 pub mod CardCalls
 pub mod Cards
 pub mod Changes
+pub mod Going
 pub mod Keeping
 pub mod Laws
+pub mod Listening
 pub mod Mends
 pub mod Opened
 pub mod Orders

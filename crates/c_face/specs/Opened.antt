@@ -16,6 +16,7 @@ use Rattle.c_face.specs.Senders.{callAnswerC, callStateC, packetAnswerC,
 use Rattle.c_face.specs.CardCalls.{slotsOf}
 use Rattle.c_face.specs.Runs.{runsAnswerC, runsBytesC, runsWrittenC, wholeAnswerC, wholeBytesC, wholeWrittenC}
 use Rattle.c_face.specs.Replays.{beginAnswerC, beginStateC, bytesOf as bytesOf-Replays, lineIn, outLengthC, replayOf, storeLengthC, turnAnswerC, turnAtC, turnOutC, turnRowsC, turnSaidC, turnStateC, turnStoreC, turnWantsC, turnWrittenC}
+use Rattle.c_face.specs.Going.{changesAnswerC, changesAnswerOn, changesBytesC, changesBytesOn, changesToldC, changesToldOn, goingAnswer, goingChanges, goingTold}
 
 unfoldable pub cFaceOpen : ℕ
 unfolding mendingOpen ordersOpen spokenOpen pathsOpen boardByte boardBytesOf rankByte ranksBytesOf shownAnswerC shownBytes callAnswerOn callStateOn
@@ -25,5 +26,6 @@ unfolding mendingOpen ordersOpen spokenOpen pathsOpen boardByte boardBytesOf ran
     orderStateOn readAnswerC readFieldsC readFixedAnswerC readFixedFieldsC readVc12AnswerC readVc12FieldsC lentAnswer lentBytes callAnswerC callStateC
     packetAnswerC packetBytesC payloadAnswerC payloadBytesC sends startAnswerC startStateC slotsOf runsAnswerC runsBytesC runsWrittenC wholeAnswerC
     wholeBytesC wholeWrittenC lineIn replayOf bytesOf-Replays storeLengthC outLengthC beginAnswerC beginStateC turnAnswerC turnStateC turnAtC
-    turnRowsC turnStoreC turnOutC turnWrittenC turnWantsC turnSaidC
+    turnRowsC turnStoreC turnOutC turnWrittenC turnWantsC turnSaidC goingAnswer goingChanges goingTold changesAnswerC changesBytesC changesToldC
+    changesAnswerOn changesBytesOn changesToldOn
 cFaceOpen = 0

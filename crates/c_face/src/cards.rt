@@ -31,7 +31,7 @@ const FIRST_PART: usize = 64;
 const SECOND_PART: usize = 461;
 
 // 9 for a state of another length, then 1 for a group other than the two.
-fn refusal(length: usize, group: u32) -> u8
+pub(crate) fn refusal(length: usize, group: u32) -> u8
     ensures { λ r. ⌜ r ≡ refusalOf length group ⌝ }
 {
     if length != CARD_BYTES {
@@ -53,7 +53,7 @@ fn owners_in(state: &[u8]) -> [u8; 64]
     owners
 }
 
-fn part_in(state: &[u8], group: u32) -> Sender
+pub(crate) fn part_in(state: &[u8], group: u32) -> Sender
     requires { ⌜ length (now state) ≡ cardBytes ⌝ }
     ensures { λ r. ⌜ r ≡ senderOf (partIn group (now (state .entry))) ⌝ }
 {

@@ -121,7 +121,7 @@ fn put_list(list: [Change; 64], out: &mut [u8])
     }
 }
 
-fn put_changes(changes: Changes, out: &mut [u8])
+pub(crate) fn put_changes(changes: Changes, out: &mut [u8])
     requires { ⌜ length (now out) ≡ changesBytes ⌝ }
     ensures { λ r. ⌜ now (out .exit) ≡ changesBytesOf changes ⌝ }
 {

@@ -3,6 +3,7 @@ mod boards;
 mod cards;
 mod changes;
 mod commands;
+mod going;
 mod keeping;
 mod mends;
 mod packets;

@@ -26,6 +26,7 @@ pub mod Sessions
 pub mod Settling
 pub mod Sizes
 pub mod Spoken
+pub mod Telling
 pub mod Texts
 pub mod Vc12
 pub mod Vc12Ports

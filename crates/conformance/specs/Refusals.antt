@@ -2,6 +2,7 @@
 pub mod Cards
 pub mod CardStates
 pub mod Epochs
+pub mod Going
 pub mod Lines
 pub mod Mending
 pub mod Orders
@@ -18,6 +19,7 @@ use Rattle.conformance.specs.Entries.{Coping, row}
 use Cards as card
 use CardStates as cardState
 use Epochs as sender
+use Going as going
 use Lines as console
 use Mending as mending
 use Orders as orders
@@ -136,6 +138,8 @@ entries =
     ∷ row "levelspruce_card_ranks" cardState.ranked cardState.ranked-copes
     ∷ row "levelspruce_card_owned" cardState.owned cardState.owned-copes
     ∷ row "levelspruce_card_order" orders.orderC orders.orderC-copes
+    ∷ row "levelspruce_sender_changes" going.sender going.sender-copes
+    ∷ row "levelspruce_card_changes" going.card going.card-copes
     ∷ row "levelspruce_board_changes" spoken.changesC spoken.changesC-copes
     ∷ row "levelspruce_board_apply" spoken.applyC spoken.applyC-copes
     ∷ row "levelspruce_board_speak" spoken.speakC spoken.speakC-copes

@@ -10,6 +10,7 @@ use lib.ListN.{getD, length}
 use borrow.Author.Tests.{eq-eqb, eqb-false, eqb-true, lt-ltb}
 use Rattle.ground.specs.Table.{length-tabulate, tabulate}
 use Rattle.ground.specs.Truth.{cond-by}
+use Rattle.sender.specs.declared.board.Board.{Board as SenderBoard}
 use Rattle.sender.specs.Epochs.{senderOutcomeOf}
 use Rattle.circuits.specs.declared.card.Card.{Card}
 use Rattle.circuits.specs.Alone.{outcomeSeen, replySeen}
@@ -27,9 +28,10 @@ use Rattle.circuits.specs.Views.Reply.{Answered, Wrote, Showed, Ranked, Owns}
 use Rattle.orders.specs.Orders.{callBy}
 use Rattle.c_face.specs.Boards.{boardBytesOf, ranksBytesOf}
 use Rattle.c_face.specs.CardCalls.{Back, CardCall, Made, Single, answered, backOf, backTo, bitOf, bitsOf, callsOf, claimBit, fitting, leftAfter, leftBy, ownAnswers, rowCall, rowsMade, singles, slotsOf}
-use Rattle.c_face.specs.CardCalls.CardCall.{Do, Packet, Payload, Board, Going, Ranks, Owned, NoKind}
+use Rattle.c_face.specs.CardCalls.CardCall.{Do, Packet, Payload, Board, Going, Ranks, Owned, Changes, NoKind}
 use Rattle.c_face.specs.CardCalls.Made.{One, Order}
 use Rattle.c_face.specs.Cards.{callAnswerOn, callStateOn, cardOf, isCard, ownersIn, packetAnswerOn, packetBytesOn, partIn, payloadAnswerOn, payloadBytesOn, putOwn, shownAnswerOn, shownBytesOn}
+use Rattle.c_face.specs.Going.{changesAnswerOn, changesBytesOn, changesToldOn, goingAnswer, goingChanges, goingTold}
 use Rattle.c_face.specs.Keeping.{bytesOf, senderOf}
 use Rattle.c_face.specs.Orders.{commandAnswerOn, commandStateOn, kindAnswerOn, kindOf, kindStateOn, orderAnswerOn, orderAnswersOn, orderStateOn, ordersOn}
 use Rattle.c_face.specs.Theorems.CardRuns.{others-part, own-part, own-row, part-of}
@@ -92,6 +94,7 @@ left-length state g (Board board) = refl
 left-length state g (Going board) = refl
 left-length state g (Ranks ranks) = refl
 left-length state g (Owned owned) = refl
+left-length state g (Changes told changes) = refl
 left-length state g NoKind = refl
 
 -- ---- what comes back, by the library's reply
@@ -104,6 +107,7 @@ askedIn (Board board) = Q.Board
 askedIn (Going board) = Q.Outgoing
 askedIn (Ranks ranks) = Q.Ranks
 askedIn (Owned owned) = Q.Owned
+askedIn (Changes told changes) = Q.Outgoing
 askedIn NoKind = Q.Owned
 
 abbrev numberIn : Reply → ℕ
@@ -120,6 +124,16 @@ bytesIn (Showed o) = boardBytesOf (o .board)
 bytesIn (Ranked o) = ranksBytesOf (o .ranks)
 bytesIn (Owns o) = o .owned
 
+abbrev noBoard : SenderBoard
+noBoard = record { rows = []; count = 0; wait = false }
+
+abbrev boardIn : Reply → SenderBoard
+boardIn (Answered a) = noBoard
+boardIn (Wrote a bytes) = noBoard
+boardIn (Showed o) = o .board
+boardIn (Ranked o) = noBoard
+boardIn (Owns o) = noBoard
+
 abbrev wrote : Reply → Back
 wrote r = record { number = numberIn r; lent = bytesIn r ∷ [] }
 
@@ -134,11 +148,13 @@ backBy (Board board) r = showed 130 board r
 backBy (Going board) r = showed 130 board r
 backBy (Ranks ranks) r = showed 68 ranks r
 backBy (Owned owned) r = showed 64 owned r
+backBy (Changes told changes) r =
+    record { number = goingAnswer (boardIn r) told changes; lent = goingTold (boardIn r) told changes ∷ goingChanges (boardIn r) told changes ∷ [] }
 backBy NoKind r = answered 8
 
 module _ (g : ℕ) (hg : g < 2) (state : List ℕ) (sized : length state ≡ 858) where
   back-is : (k : CardCall) → backOf state g k ≡ backBy k (replyTo (cardOf state) g (askedIn k))
-  unfolding callAnswerOn packetAnswerOn packetBytesOn payloadAnswerOn payloadBytesOn shownAnswerOn shownBytesOn
+  unfolding callAnswerOn packetAnswerOn packetBytesOn payloadAnswerOn payloadBytesOn shownAnswerOn shownBytesOn changesAnswerOn changesToldOn changesBytesOn
   back-is (Do call) = rw (eq-eqb (length state) 858 sized, lt-ltb g 2 hg) refl
   back-is (Packet slot h4) = rw (eq-eqb (length state) 858 sized, lt-ltb g 2 hg) refl
   back-is (Payload slot p frame member) = rw (eq-eqb (length state) 858 sized, lt-ltb g 2 hg) refl
@@ -146,6 +162,7 @@ module _ (g : ℕ) (hg : g < 2) (state : List ℕ) (sized : length state ≡ 858
   back-is (Going board) = rw (eq-eqb (length state) 858 sized, lt-ltb g 2 hg) refl
   back-is (Ranks ranks) = rw (eq-eqb (length state) 858 sized, lt-ltb g 2 hg) refl
   back-is (Owned owned) = rw (eq-eqb (length state) 858 sized, lt-ltb g 2 hg) refl
+  back-is (Changes told changes) = rw (eq-eqb (length state) 858 sized, lt-ltb g 2 hg) refl
   back-is NoKind = refl
 
   -- the bit is the library's
@@ -167,6 +184,7 @@ module _ (g : ℕ) (hg : g < 2) (state : List ℕ) (sized : length state ≡ 858
   bit-is (Going board) = refl
   bit-is (Ranks ranks) = refl
   bit-is (Owned owned) = refl
+  bit-is (Changes told changes) = refl
   bit-is NoKind = refl
 
 -- ---- one call, from what the group has, the call and the bit alone
@@ -186,6 +204,7 @@ leftSeen h (Board board) b = h
 leftSeen h (Going board) b = h
 leftSeen h (Ranks ranks) b = h
 leftSeen h (Owned owned) b = h
+leftSeen h (Changes told changes) b = h
 leftSeen h NoKind b = h
 
 module _ (g : ℕ) (hg : g < 2) (state : List ℕ) (sized : length state ≡ 858) where
@@ -231,6 +250,7 @@ module _ (g : ℕ) (hg : g < 2) (state : List ℕ) (sized : length state ≡ 858
   left-seen (Going board) = refl
   left-seen (Ranks ranks) = refl
   left-seen (Owned owned) = refl
+  left-seen (Changes told changes) = refl
   left-seen NoKind = refl
 
   -- a call of the other group, and of no group, leaves it all
@@ -259,11 +279,12 @@ module _ (g : ℕ) (hg : g < 2) (state : List ℕ) (sized : length state ≡ 858
   others-leave h n (Going board) = refl
   others-leave h n (Ranks ranks) = refl
   others-leave h n (Owned owned) = refl
+  others-leave h n (Changes told changes) = refl
   others-leave h n NoKind = refl
 
 -- ---- lists of single calls
 
-abbrev singlesLeft : List ℕ → List Single → List ℕ
+abbrev pub singlesLeft : List ℕ → List Single → List ℕ
 singlesLeft state [] = state
 singlesLeft state (m ∷ ms) = singlesLeft (leftBy state (m .group) (m .call)) ms
 
@@ -360,10 +381,10 @@ rows-back g state (row ∷ rows) =
     go false e rest = rest
 
 module _ (g : ℕ) (state : List ℕ) (sized : length state ≡ 858) (commands : List (List ℕ)) (answers : List ℕ) where
-  abbrev orderMade : List Single
+  abbrev pub orderMade : List Single
   orderMade = cond (eqb (length commands) (length answers)) (rowsMade commands) []
 
-  order-left : orderStateOn state commands answers ≡ singlesLeft state orderMade
+  pub order-left : orderStateOn state commands answers ≡ singlesLeft state orderMade
   unfolding orderStateOn
   order-left = rw (eq-eqb (length state) 858 sized) (go (eqb (length commands) (length answers)))
     where

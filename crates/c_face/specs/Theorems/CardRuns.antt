@@ -202,7 +202,7 @@ pub no-group : (c : Card) (g : ℕ) (k : Call) → ltb g 2 ≡ false → outcome
 no-group c g k e = by-ways (λ r. r .card ≡ c) c g (λ a. refl) (λ i m h. clash (ltb g 2) (lt-ltb g 2 h) e) (λ s h. clash (ltb g 2) (lt-ltb g 2 h) e) k
 
 -- a card whose senders and owner row are whole
-record KeepableCard (c : Card) : Type 0 where
+pub record KeepableCard (c : Card) : Type 0 where
   pub row : length (c .owners) ≡ 64
   pub part : (g : ℕ) → g < 2 → Keepable (P.senderOf c g)
 
@@ -231,13 +231,13 @@ call-leaves c g k hg o =
     k
 
 -- A state in which a card is keepable, and what a C call makes of it.
-record KeepsCard (state : List ℕ) (c : Card) : Type 0 where
+pub record KeepsCard (state : List ℕ) (c : Card) : Type 0 where
   pub sized : length state ≡ 858
   pub row : ownersIn state ≡ c .owners
   pub part : (g : ℕ) → g < 2 → senderOf (partIn g state) ≡ P.senderOf c g
   pub keepable : KeepableCard c
 
-card-is : (state : List ℕ) (c : Card) → KeepsCard state c → cardOf state ≡ c
+pub card-is : (state : List ℕ) (c : Card) → KeepsCard state c → cardOf state ≡ c
 unfolding cardOf P.senderOf
 card-is state c k = rw (k .row, k .part 0 (omega arith), k .part 1 (omega arith)) refl
 
@@ -310,7 +310,7 @@ abbrev pub meant : List Made → List Made
 meant [] = []
 meant (m ∷ ms) = cond (fits (m .asked)) (m ∷ meant ms) (meant ms)
 
-call-keeps : (state : List ℕ) (c : Card) (g : ℕ) (k : Call) (b : Bool) → KeepsCard state c
+pub call-keeps : (state : List ℕ) (c : Card) (g : ℕ) (k : Call) (b : Bool) → KeepsCard state c
     → KeepsCard (callStateOn b g k state) (cond b (outcomeOf c g k .card) c)
 call-keeps state c g k true o = fit-keeps state c g k o
 call-keeps state c g k false o = unfit-keeps state c g k o
@@ -357,7 +357,7 @@ module _ (kind count e₀ e₁ : ℕ) (state : List ℕ) (ms : List Made) (done 
       first (suc zero) b n l = absurd (n refl)
       first (suc (suc h)) b n l = absurd (omega arith)
 
-  start-keeps : KeepsCard (startStateOn kind count e₀ e₁ state) (startOf kind count e₀ e₁ .card)
+  pub start-keeps : KeepsCard (startStateOn kind count e₀ e₁ state) (startOf kind count e₀ e₁ .card)
   unfolding startAnswerOn startStateOn
   start-keeps = go (noStart kind count) (isCard state) (areEpochs kind e₀ e₁) refl done
     where

@@ -120,7 +120,7 @@ call-given s (OnTable c) k =
 call-given s (StartEpoch gid mst ack) k = epoch-given s (startedSender s gid mst ack) (ltb gid 2 && ltb ack 2) k
 
 -- A state in which a sender is keepable, and what a C call makes of it.
-record Keeps (state : List ℕ) (s : Sender) : Type 0 where
+pub record Keeps (state : List ℕ) (s : Sender) : Type 0 where
   pub sized : length state ≡ 397
   pub is : senderOf state ≡ s
   pub keepable : Keepable s
@@ -137,11 +137,11 @@ kept-call state s c k = go (refuses (senderOutcomeOf s c .answer)) refl
     go true e = bytes-keep (senderOutcomeOf s c .sender) (keepable-call s c (k .keepable))
     go false e = rw (call-given s c e) k
 
-call-keeps : (state : List ℕ) (s : Sender) (c : SenderCall) → Keeps state s → Keeps (callStateC true c state) (senderOutcomeOf s c .sender)
+pub call-keeps : (state : List ℕ) (s : Sender) (c : SenderCall) → Keeps state s → Keeps (callStateC true c state) (senderOutcomeOf s c .sender)
 unfolding callStateC
 call-keeps state s c k = rw (eq-eqb (length state) 397 (k .sized), k .is) (kept-call state s c k)
 
-unfit-keeps : (state : List ℕ) (s : Sender) (c : SenderCall) → Keeps state s → Keeps (callStateC false c state) s
+pub unfit-keeps : (state : List ℕ) (s : Sender) (c : SenderCall) → Keeps state s → Keeps (callStateC false c state) s
 unfolding callStateC
 unfit-keeps state s c k = rw (eq-eqb (length state) 397 (k .sized)) k
 
@@ -155,7 +155,7 @@ run-keeps state s (c ∷ cs) k = go (λ t u w. run-keeps t u cs w) (fits c)
     go rest false = rest (callStateC false c state) s (unfit-keeps state s c k)
 
 module _ (kind count first : ℕ) (state : List ℕ) (cs : List SenderCall) (done : startAnswerC kind count first state ≡ 0) where
-  start-keeps : Keeps (startStateC kind count first state) (beginOf kind count first .sender)
+  pub start-keeps : Keeps (startStateC kind count first state) (beginOf kind count first .sender)
   unfolding startAnswerC startStateC
   start-keeps = go (noStart kind count) (isState state) (isEpoch kind first) done
     where

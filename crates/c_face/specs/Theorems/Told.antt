@@ -128,23 +128,24 @@ module _ (cs : Changes) where
   pub changes-wait : getD (changesBytesOf cs) 1 0 < 3
   changes-wait = rw second-back (wait-code-known (cs .wait))
 
+-- the board of a table is read back as it was
+size-own : (v : Table) → sizeOf (boardOf v .count) ≡ boardOf v .count
+unfolding boardOf
+size-own v = size-size (v .count)
+
+pub back : (v : Table) → boardFrom (boardBytesOf (boardOf v)) ≡ boardOf v
+back v = board-back (boardOf v) (board-whole v) (size-own v)
+
 -- Two boards of tables of one kind and count, such as go out in two epochs of one sender. Whatever stood in the buffer of the changes.
 module _ (t u : Table) (k : t .kind ≡ u .kind) (c : t .count ≡ u .count) (out : List ℕ) (room : length out ≡ 322) where
-  abbrev old : List ℕ
+  abbrev pub old : List ℕ
   old = boardBytesOf (boardOf t)
 
-  abbrev new : List ℕ
+  abbrev pub new : List ℕ
   new = boardBytesOf (boardOf u)
 
-  abbrev cs : Changes
+  abbrev pub cs : Changes
   cs = comparedOf (boardOf t) (boardOf u) .changes
-
-  size-own : (v : Table) → sizeOf (boardOf v .count) ≡ boardOf v .count
-  unfolding boardOf
-  size-own v = size-size (v .count)
-
-  back : (v : Table) → boardFrom (boardBytesOf (boardOf v)) ≡ boardOf v
-  back v = board-back (boardOf v) (board-whole v) (size-own v)
 
   pub told-answer : comparedAnswerC old new out ≡ 0
   unfolding comparedAnswerC
@@ -159,13 +160,13 @@ module _ (t u : Table) (k : t .kind ≡ u .kind) (c : t .count ≡ u .count) (ou
   applied-own : appliedOf (boardFrom old) (changesFrom (changesBytesOf cs)) ≡ record { board = boardOf u; answer = Done }
   applied-own = rw (back t, changes-back cs (compared-whole (boardOf t) (boardOf u))) (outright t u k c)
 
-  applied-answer : appliedAnswerC old (changesBytesOf cs) ≡ 0
+  pub applied-answer : appliedAnswerC old (changesBytesOf cs) ≡ 0
   unfolding appliedAnswerC
   applied-answer =
       rw (eq-eqb (length old) 130 (board-long (boardOf t)), eq-eqb (length (changesBytesOf cs)) 322 (changes-long cs), lt-ltb (getD (changesBytesOf cs) 1 0) 3 (changes-wait cs))
       (ap (λ (a : Applied). answerNumber (a .answer)) applied-own)
 
-  applied-bytes : appliedBytesC old (changesBytesOf cs) ≡ new
+  pub applied-bytes : appliedBytesC old (changesBytesOf cs) ≡ new
   unfolding appliedBytesC
   applied-bytes = rw applied-answer (ap (λ (a : Applied). boardBytesOf (a .board)) applied-own)
 

@@ -1,0 +1,74 @@
+-- What is told of the board going out through C: the changes and the board told, of a sender and of a card's group, and one who listens to a host for two epochs.
+use mathlib.Core.Path.{_≡_, refl}
+use mathlib.Core.List.{List, [], _∷_}
+use Prim.Native.Nat.{ℕ}
+use lib.ListN.{replicate, take}
+use Rattle.c_face.specs.Boards.{boardBytesOf}
+use Rattle.c_face.specs.CardCalls.{backOf}
+use Rattle.c_face.specs.CardCalls.CardCall.{Changes}
+use Rattle.c_face.specs.Cards.{putCard}
+use Rattle.c_face.specs.Going.{changesAnswerC, changesAnswerOn, changesBytesC, changesBytesOn, changesToldC, changesToldOn}
+use Rattle.c_face.specs.Keeping.{bytesOf}
+use Rattle.c_face.specs.Listening.{Heard, Said, answersTo, heardAfter, senderHost}
+use Rattle.c_face.specs.Listening.Said.{Make, Tell}
+use Rattle.conformance.specs.Clauses.Filled.{nines}
+use Rattle.conformance.specs.Opened.{allOpen}
+use Rattle.sender.specs.Calls.Call.{AddSlot}
+use Rattle.sender.specs.declared.epochs.Sender.{Sender}
+use Rattle.sender.specs.Epochs.{SenderCall, beginOf, senderRun}
+use Rattle.sender.specs.Epochs.SenderCall.{OnTable, StartEpoch}
+
+-- Three slots: slot 0 is added, an epoch starts, slot 1 is added.
+abbrev after : Sender
+after = senderRun (beginOf 0 3 7 .sender) (OnTable (AddSlot 0) ∷ StartEpoch 1 0x3C 0 ∷ OnTable (AddSlot 1) ∷ [])
+
+abbrev sender : List ℕ
+sender = bytesOf after
+
+-- group 1 has it so, and group 0 stands at its start
+abbrev card : List ℕ
+card = putCard (record { owners = 2 ∷ 2 ∷ replicate 62 0; first = beginOf 0 3 7 .sender; second = after }) (nines 858)
+
+-- the board of the start, with any rows past its count
+abbrev started : List ℕ
+started = 3 ∷ 0 ∷ 5 ∷ 255 ∷ 5 ∷ 255 ∷ 5 ∷ 255 ∷ nines 122
+
+-- slot 0 was IDLE 255 and is ADD 0; slot 1 is not told before the next start
+tellings :
+    (changesAnswerC sender started (nines 322) ≡ 0)
+    × (take 12 (changesBytesC sender started (nines 322)) ≡ 1 ∷ 0 ∷ 0 ∷ 5 ∷ 255 ∷ 1 ∷ 0 ∷ replicate 5 0)
+    × (take 10 (changesToldC sender started (nines 322)) ≡ 3 ∷ 0 ∷ 1 ∷ 0 ∷ 5 ∷ 255 ∷ 5 ∷ 255 ∷ 5 ∷ 255 ∷ [])
+    × (changesAnswerC sender (nines 130) (nines 322) ≡ 4)
+    × (changesToldC sender (nines 130) (nines 322) ≡ nines 130)
+    × (changesBytesC sender (nines 130) (nines 322) ≡ nines 322)
+    × (changesAnswerC sender (nines 129) (nines 322) ≡ 9)
+    × (changesAnswerC sender (nines 130) (nines 323) ≡ 9)
+    × (changesAnswerC (nines 396) started (nines 322) ≡ 9)
+    × (changesToldC (nines 396) started (nines 322) ≡ started)
+    × (changesAnswerOn card 1 started (nines 322) ≡ 0)
+    × (take 12 (changesBytesOn card 1 started (nines 322)) ≡ 1 ∷ 0 ∷ 0 ∷ 5 ∷ 255 ∷ 1 ∷ 0 ∷ replicate 5 0)
+    × (take 10 (changesToldOn card 1 started (nines 322)) ≡ 3 ∷ 0 ∷ 1 ∷ 0 ∷ 5 ∷ 255 ∷ 5 ∷ 255 ∷ 5 ∷ 255 ∷ [])
+    × (take 7 (changesBytesOn card 0 started (nines 322)) ≡ replicate 7 0)
+    × (changesAnswerOn card 2 (nines 129) (nines 322) ≡ 1)
+    × (changesToldOn card 2 started (nines 322) ≡ started)
+    × (changesBytesOn card 2 started (nines 322) ≡ nines 322)
+    × (changesAnswerOn (nines 857) 2 started (nines 322) ≡ 9)
+    × (backOf card 2 (Changes started (nines 322)) ≡ record { number = 1; lent = started ∷ nines 322 ∷ [] })
+unfolding allOpen
+tellings = (refl, refl, refl, refl, refl, refl, refl, refl, refl, refl, refl, refl, refl, refl, refl, refl, refl, refl, refl)
+
+-- a host of three slots that tells before the first epoch, in it and in the second
+abbrev said : List (Said SenderCall)
+said =
+    Make (OnTable (AddSlot 0)) ∷ Tell (nines 322) ∷ Make (StartEpoch 1 0x3C 0) ∷ Make (OnTable (AddSlot 1)) ∷ Make (StartEpoch 2 0 0) ∷ Tell (nines 322) ∷ []
+
+abbrev begun : Heard
+begun = record { state = bytesOf (beginOf 0 3 7 .sender); told = boardBytesOf (beginOf 0 3 7 .sender .outgoing); held = boardBytesOf (beginOf 0 3 7 .sender .outgoing) }
+
+-- a start that is refused fixes no board
+heard :
+    (take 8 (heardAfter senderHost begun said .told) ≡ 3 ∷ 0 ∷ 1 ∷ 0 ∷ 5 ∷ 255 ∷ 5 ∷ 255 ∷ [])
+    × (take 8 (heardAfter senderHost begun said .held) ≡ 3 ∷ 0 ∷ 1 ∷ 0 ∷ 5 ∷ 255 ∷ 5 ∷ 255 ∷ [])
+    × (answersTo senderHost begun said ≡ replicate 4 0)
+unfolding allOpen
+heard = (refl, refl, refl)
