@@ -77,7 +77,7 @@ impl Desk<'_> {
     pub fn prints(&self, files: &[String], expected: &str, epochs: u64, drawn: &mut Drawn) -> bool {
         let output = Command::new(&self.words[0]).args(&self.words[1..]).args(files).output().expect("the program for a desk starts");
         let text = String::from_utf8_lossy(&output.stdout).into_owned();
-        let counts = text.find("sure\t").filter(|at| *at == 0 || text[..*at].ends_with('\n')).expect("counts at the end");
+        let counts = if text.starts_with("sure\t") { 0 } else { text.find("\nsure\t").expect("counts at the end") + 1 };
         let lines: Vec<String> = text[..counts].lines().flat_map(|line| spread_line(line, epochs)).collect();
         let wanted: Vec<&str> = expected.lines().collect();
         drawn.lines += lines.len();
