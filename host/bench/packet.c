@@ -2,7 +2,7 @@
  * one process, round by round, on the same packets. A line for packets as written and one for packets with a bit changed: the
  * median of the rounds in nanoseconds a packet, and the ratio to each form. Time is that for which the process had a processor.
  * With BEFORE also beside the same call of another archive; as_before.c has held the two to each other by then. With MANY also 64
- * packets in one call, which takes the table of shares once for all of them, as a fetch does (many.rt).
+ * packets in one call, which takes the table of shares once for all of them, as a fetch does (many.part).
  */
 #define _POSIX_C_SOURCE 199309L
 #include "levelspruce.h"
