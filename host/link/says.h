@@ -40,9 +40,9 @@ void says_command(struct says *s, const char *command, uint32_t slot, uint8_t an
  * that. */
 void says_wait(struct says *s, const uint8_t *board, const char *closed_by);
 
-/* An epoch starts at the sender: its members, the bytes it carries, and these changes of the board that goes out, where
+/* An epoch starts at the sender: its members, the bytes it carries, and the changes to this board, which goes out, where
  * something has changed. */
-void says_start(struct says *s, uint64_t epoch, uint32_t x, size_t bytes, uint8_t *changes);
+void says_start(struct says *s, uint64_t epoch, uint32_t x, size_t bytes, const uint8_t *going);
 
 /* What came back from the far end, in the packet of that epoch of its own. */
 void says_told(struct says *s, uint64_t epoch, uint32_t mst, uint32_t rs_ack);
