@@ -11,7 +11,7 @@ use Rattle.circuits.specs.Answers.{answerNumber as cardNumber, fromSender}
 use Rattle.circuits.specs.Calls.{Call, outcomeOf}
 use Rattle.circuits.specs.Commands.{startOf as cardStart}
 use Rattle.circuits.specs.Readings as card
-use Rattle.packet.specs.Clock.{h4-clock}
+use Rattle.packet.specs.Laws.Clock.{h4-clock}
 use Rattle.packet.specs.declared.layout.Fields.{Fields}
 use Rattle.packet.specs.Fixed.{readFixedAnswer, writeFixedAnswer}
 use Rattle.packet.specs.Kinds.{epochs}
