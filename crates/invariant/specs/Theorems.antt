@@ -50,8 +50,8 @@ use Rattle.store.specs.Marks.{firstMark}
 use Rattle.invariant.specs.Calls.{Receiver, ReceiverCall, portAfter, receiverAfter, receiverRun, startedWith}
 use Rattle.invariant.specs.Claims.{Claimed, HandedBy, HandedLast, tagIn}
 use Rattle.invariant.specs.Kept.Group.{Kept}
+use Rattle.invariant.specs.Proofs.Kept.Calls as EachCall
 use Rattle.invariant.specs.Words.{Unflagged}
-use Rattle.step.specs.Theorems.Heard.{InStepExactly}
 use Rattle.invariant.specs.Heard.{Fourth, Recorded, Second}
 use Rattle.invariant.specs.Live.{Live, heardOf, isHeard}
 use Rattle.invariant.specs.Proofs.Calls as Calls
@@ -81,6 +81,7 @@ use Rattle.invariant.specs.Reports.{ByNumber, Given, HeldReport, Others,
 use Rattle.invariant.specs.Ruled.{OneEpoch}
 use Rattle.step.specs.OwnCount.{withoutMfi2}
 use Rattle.step.specs.Run.{inStepAt}
+use Rattle.step.specs.Words.{InStepExactly}
 use Rattle.invariant.specs.Times.{SameShown, outcomesOf, standingIn, standingsAfter}
 use Rattle.invariant.specs.Waits.{Claimant, InARow, Unclaimed, Zeros, sawOf}
 
@@ -89,6 +90,13 @@ use Rattle.invariant.specs.Waits.{Claimant, InARow, Unclaimed, Zeros, sa
 pub kept : (kind count P W : ℕ) (hold restore : List ℕ) (rows : List (List ℕ)) (store : List ℕ) → startAsAnswer kind count P W (length store) hold restore (length rows) ≡ 0 → (calls : List ReceiverCall)
     → Kept (receiverRun (startedWith kind count P W hold restore rows store) calls .rows)
 kept = Calls.kept
+
+-- one call keeps it, whatever store is lent with it
+pub frame-kept : (s : List (List ℕ)) → Kept s → (i : ℕ) (failed : Bool) (h : ℕ) (payload store : List ℕ) → Kept (frameRows s i failed h payload store)
+frame-kept = EachCall.frame-kept
+
+pub fetch-kept : (s : List (List ℕ)) → Kept s → (store out report : List ℕ) → Kept (fetchRows s store out report)
+fetch-kept = EachCall.fetch-kept
 
 -- R-7: after a frame, stopping, beginning and gathering may be tested always or only where takenOf says so
 pub settles-always : (s : List (List ℕ)) → Kept s → (i : ℕ) (failed : Bool) (h : ℕ) → i < groupAt s .count → (store : List ℕ)

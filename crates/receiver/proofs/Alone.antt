@@ -8,9 +8,9 @@ use Rattle.counting.specs.Each.{done-none, done-more, getD-each}
 use Rattle.judge.specs.declared.order.Order.{Order}
 use Rattle.payload.specs.Joining.{joinedFrom}
 use Rattle.phases.specs.Passing.{groupTo}
+use Rattle.reply.specs.Theorems.Alone.{ack-first, leaves-first}
 use Rattle.reply.specs.declared.members.Port.{Port}
 use Rattle.reply.specs.declared.waiting.Standing.{Standing}
-use Rattle.reply.specs.Laws.Alone.{ack-first, leaves-first}
 use Rattle.reply.specs.Members.{portAt}
 use Rattle.reply.specs.Telling.{ackOf}
 use Rattle.reply.specs.Waiting.{noStanding, standingsOf}

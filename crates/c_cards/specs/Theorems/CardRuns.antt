@@ -28,10 +28,10 @@ use Rattle.circuits.specs.Parts.{groupOutcome, marked, withSender}
 use Rattle.circuits.specs.Theorems.Owned.{demand2-each}
 use Rattle.circuits.specs.Views.{Asked, Made, cardAfter, run}
 use Rattle.circuits.specs.Views.Asked.{Do, Packet, Payload, Board, Outgoing, Ranks, Owned}
+use Rattle.sender.specs.SenderRuns.{Demand2Kept}
 use Rattle.sender.specs.declared.epochs.Sender.{Sender}
 use Rattle.sender.specs.Epochs.{SenderCall, senderOutcomeOf}
 use Rattle.sender.specs.Table.{answerNumber as senderNumber}
-use Rattle.sender.specs.Theorems.Epochs.{Demand2Kept}
 use Rattle.c_cards.specs.CardCalls.{fitting}
 use Rattle.c_cards.specs.Cards.{areEpochs, callAnswerOn, callStateOn, cardOf, isCard, keptCard, ownersIn, partAt, partIn, putCard, putOwn, startAnswerOn, startStateOn}
 use Rattle.c_face.specs.Keeping.{byteAt, bytesOf, senderOf}

@@ -6,7 +6,7 @@ use Prim.Native.Nat.{ℕ, _<_}
 use lib.Dec.{ltb}
 use lib.ListN.{length}
 use borrow.Author.Tests.{eq-eqb, lt-ltb, ne-eqb}
-use Rattle.packet.specs.Clock.{h4-clock}
+use Rattle.packet.specs.Laws.Clock.{h4-clock}
 use Rattle.packet.specs.declared.layout.Fields.{Fields}
 use Rattle.packet.specs.Fixed.{readFixedAnswer, writeFixedAnswer}
 use Rattle.packet.specs.Kinds.{epochs}

@@ -30,7 +30,7 @@ use Rattle.receiver.specs.Report.{framesInto, noSeen, outputBy, outputOf, repor
 use Rattle.rows.specs.declared.group.Group.{Group}
 use Rattle.rows.specs.Group.{groupAt}
 use Rattle.rows.specs.Rows.{rowsFor}
-use Rattle.store.specs.Laws.Stands.{Stands}
+use Rattle.store.specs.Frames.{Stands}
 use Rattle.link.specs.Proofs.Contents.{allSeenAfter, framesFrom, numberOf, reportAfter, seenAfter}
 use Rattle.link.specs.Road.{L, Road}
 use Rattle.link.specs.Proofs.Fair.{Fair, sizes-in}

@@ -5,12 +5,12 @@ use mathlib.Core.List.{List}
 use Prim.Native.Nat.{ℕ, _≤_}
 use lib.ListN.{length}
 use Rattle.ground.specs.Plain.{if_then_else_, _==_}
-use Rattle.packet.specs.declared.ruling.Ruling.{Ruling}
 use Rattle.packet.specs.Fixed.{fixedRulingOf}
 use Rattle.packet.specs.Kinds.{fixedKind}
 use Rattle.packet.specs.Ruling.{refused}
 use Rattle.packet.specs.Shares.{sharesOf}
 use Rattle.packet.specs.Theorems.ByTable.{ruling-with}
+use Rattle.packet.specs.declared.ruling.Ruling.{Ruling}
 use Rattle.step.specs.ByTable.{ownRulingWith, rulingInWith}
 use Rattle.step.specs.OwnCount.{ownNumber, ownRuling, rulingIn, withoutMfi2}
 

@@ -1,25 +1,26 @@
 -- A packet as our sender writes it, by the receiver's own count and over the kind of packet: it reads back as its fields, and one that came changed is refused and is not odd.
-use mathlib.Core.Path.{_≡_, refl, ap, _∙_}
+use mathlib.Core.Path.{_≡_, refl, _∙_, ap}
 use mathlib.Core.Bool.{Bool, true, false, cond, not, _&&_, _||_, false≢true}
 use mathlib.Core.List.{List}
 use Prim.Native.Nat.{ℕ, _≤_}
 use lib.Dec.{eqb}
 use borrow.Author.Tests.{eq-eqb}
 use Rattle.ground.specs.Truth.{cond-by}
+use Rattle.packet.specs.AsSent.{Sent}
 use Rattle.packet.specs.Changes.{changed, mostChanges}
-use Rattle.packet.specs.declared.layout.Fields.{Fields}
-use Rattle.packet.specs.declared.reader.Reading.{Reading}
-use Rattle.packet.specs.declared.reader.Reading.the-variants.{Crc, Packet}
-use Rattle.packet.specs.declared.ruling.Ruling.{Ruling}
-use Rattle.packet.specs.declared.writer.Writing.the-variants.{Done}
 use Rattle.packet.specs.Kinds.{fixedKind, vc12Kind}
 use Rattle.packet.specs.Laws.Reading.{fields-of-read, h4-read, rules-as-read}
-use Rattle.packet.specs.Laws.Sent.{Sent, sent-as}
 use Rattle.packet.specs.Layout.{fieldsOf}
 use Rattle.packet.specs.Reading.{readNibbles, readingNumber}
 use Rattle.packet.specs.Ruling.{readRow, refused, rulingBy}
 use Rattle.packet.specs.Sent.{sentAnswer, sentBytes}
 use Rattle.packet.specs.Symbols.{packetRow}
+use Rattle.packet.specs.Theorems.Sent.{sent-as}
+use Rattle.packet.specs.declared.layout.Fields.{Fields}
+use Rattle.packet.specs.declared.reader.Reading.{Reading}
+use Rattle.packet.specs.declared.reader.Reading.the-variants.{Crc, Packet}
+use Rattle.packet.specs.declared.ruling.Ruling.{Ruling}
+use Rattle.packet.specs.declared.writer.Writing.the-variants.{Done}
 use Rattle.step.specs.OwnCount.{oddPacket, ownNumber, ownRuling, rightCrc, rulingIn}
 
 -- a packet that is read as good is not odd

@@ -1,7 +1,7 @@
 -- A port in step is kept (request 2026-04): through every frame of which what lines never change came as sent, if no packet of it that ends has a right CRC and another MFI2. It comes into step as before.
 use mathlib.Core.Path.{_≡_, refl, _∙_, sym, ap}
 use mathlib.Core.Logic.{⊎-elim, _≢_}
-use mathlib.Core.Bool.{Bool, true, false, cond, true≢false}
+use mathlib.Core.Bool.{Bool, true, false, true≢false}
 use Prim.Native.Nat.{ℕ, _+_, _-_, _*_, _/_, _%_, _≤_, _<_}
 use native.Mathlib.Nat.{mod-eq-of-lt}
 use native.Mathlib.Omega.{arith}
@@ -9,29 +9,26 @@ use lib.Dec.{eqb}
 use borrow.Author.Tests.{eq-eqb, le-ltb, leb-true, ne-eqb}
 use Rattle.ground.specs.Truth.{eq-or-ne}
 use Rattle.packet.specs.Changes.{bringsMfi2}
-use Rattle.packet.specs.Clock.{by, by-kind}
 use Rattle.packet.specs.Counts.{counts, h4Counts, saysStart, toldBits}
-use Rattle.packet.specs.Kinds.{frames, lead, placeOf, tagAfter, vc12Kind}
+use Rattle.packet.specs.Kinds.{frames, lead, placeOf, tagAfter, tagOf, vc12Kind}
 use Rattle.packet.specs.Laws.Changes.{brings-not, counts-kept, vc12-brings}
+use Rattle.packet.specs.Laws.Clock.{by, by-kind}
 use Rattle.packet.specs.Laws.Counting.{counts-h4}
 use Rattle.packet.specs.Laws.Vc12Clock.{vc12-frames, vc12-next, vc12-tag}
-use Rattle.packet.specs.Theorems.Tags.{next-tag, place-of, tagOf}
-use Rattle.step.specs.declared.run.Run.{Run}
+use Rattle.packet.specs.Theorems.Tags.{next-tag, place-of}
 use Rattle.step.specs.Laws.H4Run.{odd-none, run-broken, run-on}
-use Rattle.step.specs.Laws.Run.{RunAt, run-even, run-in-step, run-next, run-told, run-unbroken, sent-vc12}
 use Rattle.step.specs.Laws.StartsRun.{Vc12Sent, fifth-bit, other-bit, told-all, told-on}
-use Rattle.step.specs.Laws.Sent.{KeptAs, SentWith}
 use Rattle.step.specs.Run.{h4RunOn, inStepAt, oddAfter, runOn, withBits}
+use Rattle.step.specs.Sent.{KeptAs, SentWith}
+use Rattle.step.specs.SentRuns.{BitsTold, RunAt, Stays, mostBreaks}
 use Rattle.step.specs.Starts.{bitsAfter, countAfter, fifthBit, goesOn, startsRun}
+use Rattle.step.specs.Theorems.Run.{run-even, run-in-step, run-next, run-told, run-unbroken, sent-vc12}
+use Rattle.step.specs.declared.run.Run.{Run}
 
 -- With its kept part as sent a frame breaks the count only where it brings a nibble of MFI2.
 
 spared-counts : (kind x h : ℕ) → KeptAs kind x h → bringsMfi2 kind (placeOf kind (tagOf kind x)) ≡ false → SentWith kind x h
 spared-counts kind x h k none = counts-kept kind (tagOf kind x) h (k .byte) (k .sent) (k .same) (λ z. absurd (true≢false (sym z ∙ none)))
-
--- so at most so many in a row break it before the frame with a tag
-unfoldable pub mostBreaks : ℕ → ℕ → ℕ
-mostBreaks kind t = cond (eqb (placeOf kind t) (lead kind + 1)) 1 (cond (eqb (placeOf kind t) (lead kind + 2)) 2 0)
 
 place-next : (kind x : ℕ) → placeOf kind (tagOf kind (x + 1)) ≡ (placeOf kind (tagOf kind x) + 1) % frames kind
 place-next kind x =
@@ -70,18 +67,6 @@ few-on kind x h b as-kept broken l =
     absurd (true≢false (sym (spared-counts kind x h as-kept (brings-not kind (placeOf kind (tagOf kind x)) d f)) ∙ broken)))
     (eq-or-ne (placeOf kind (tagOf kind x)) (lead kind + 1)))
     (eq-or-ne (placeOf kind (tagOf kind x)) (lead kind))
-
--- VC-12: what the bits of the packet's count say before the frame at x
-abbrev pub BitsTold : ℕ → ℕ → Run → Type 0
-BitsTold kind x run = eqb kind vc12Kind ≡ true → x % 32 ≢ 0 → run .bits ≡ toldBits (x % 1024 / 32) (x % 32 - 1)
-
--- a run in step, the next frame of which is the x-th after one with tag 0
-pub record Stays (kind x : ℕ) (run : Run) : Type 0 where
-  pub count : inStepAt kind (run .count) ≡ true
-  pub next : run .next ≡ tagOf kind x
-  pub breaks : run .breaks ≤ mostBreaks kind (tagOf kind x)
-  pub even : run .odd ≡ 0
-  pub told : BitsTold kind x run
 
 h4-kept : (kind x : ℕ) (run : Run) (odd : Bool) (h : ℕ) → eqb kind vc12Kind ≡ false → Stays kind x run → KeptAs kind x h → odd ≡ false → Stays kind (x + 1) (h4RunOn kind run odd h)
 h4-kept kind x run odd h clock o as-kept even = go (h4Counts (run .next) h) refl

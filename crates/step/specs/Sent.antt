@@ -4,8 +4,7 @@ use mathlib.Core.Bool.{true}
 use Prim.Native.Nat.{ℕ}
 use Rattle.packet.specs.Changes.{keptPart}
 use Rattle.packet.specs.Counts.{counts}
-use Rattle.packet.specs.Kinds.{placeOf}
-use Rattle.packet.specs.Theorems.Tags.{tagOf}
+use Rattle.packet.specs.Kinds.{placeOf, tagOf}
 
 -- a byte as sent in the x-th frame after one with tag 0
 abbrev pub SentWith : ℕ → ℕ → ℕ → Type 0

@@ -1,36 +1,27 @@
 -- The rounds: who keeps a number, that such a port has lost its claim, and that they end.
 -- The idea: taken numbers only grow from round to round, so a claim once lost comes back by no round; and in a round in which some port joins at least one port more keeps a number, and there are n.
-use mathlib.Core.Path.{_≡_, refl, sym, ap, _∙_}
-use mathlib.Core.Logic.{_⊎_, ⊎-elim, _≢_}
+use mathlib.Core.Path.{_≡_, refl, _∙_, sym, ap}
+use mathlib.Core.Logic.{⊎-elim, _≢_, _⊎_}
 use mathlib.Core.Bool.{Bool, true, false, cond, not, true≢false}
 use mathlib.Core.List.{List}
 use Prim.Native.Nat.{ℕ, zero, suc, _+_, _≤_, _<_}
 use native.Mathlib.Omega.{arith}
 use lib.Dec.{eqb}
-use lib.ListN.{length, getD-replicate, length-replicate, List·getD-eq-default}
+use lib.ListN.{List·getD-eq-default, getD-replicate, length, length-replicate}
 use borrow.Author.Tests.{eq-eqb, eqb-true, ne-eqb, not-true}
+use Rattle.ground.specs.Truth.{and-left, and-right, and-true, cond-by, eq-or-ne, fails, le-or-lt}
 use Rattle.counting.specs.Laws.Numbers.{count-le, count-lt}
-use Rattle.counting.specs.Laws.Tests.{One, none-at, some-none, some-one}
-use Rattle.counting.specs.Words.{count}
-use Rattle.ground.specs.Truth.{and-true, and-left, and-right, cond-by, eq-or-ne, fails, le-or-lt}
-use Rattle.reply.specs.declared.members.Port.{Port}
-use Rattle.reply.specs.Choosing.{FREE, holderOf, holders, allFree}
+use Rattle.counting.specs.Laws.Tests.{none-at, some-none, some-one}
+use Rattle.counting.specs.Words.{One, count}
+use Rattle.reply.specs.Choosing.{FREE, allFree, holderOf, holders}
 use Rattle.reply.specs.Laws.Choosing.{choosing, holders-first, holders-kept, holders-same}
 use Rattle.reply.specs.Laws.Claims.{claim-lost, claim-none, claim-other}
 use Rattle.reply.specs.Laws.Granting.{Granted, granted-after, granted-from, granted-kept, length-granted}
 use Rattle.reply.specs.Laws.Members.{left-low, left-ok, ok-rested, was-number, was-ok, was-state}
 use Rattle.reply.specs.Members.{hasHoldOff, isCandidate, okState, portAt}
-use Rattle.reply.specs.Waiting.{hasClaim, keptNumbers, joinsKept, moreKept, mustKeep, rounds, someJoin}
-
--- what the last report left: OK ports have different numbers,
-abbrev pub Apart : List Port → ℕ → Type 0
-Apart ports n =
-    (i j : ℕ) → i < n → j < n → portAt ports i .state ≡ okState → portAt ports j .state ≡ okState
-    → portAt ports i .«state_number» ≡ portAt ports j .«state_number» → i ≡ j
-
--- below 64
-abbrev pub Low : List Port → ℕ → Type 0
-Low ports n = (i : ℕ) → i < n → portAt ports i .state ≡ okState → portAt ports i .«state_number» < 64
+use Rattle.reply.specs.Reports.{Apart, Lost}
+use Rattle.reply.specs.Waiting.{hasClaim, joinsKept, keptNumbers, moreKept, mustKeep, rounds, someJoin}
+use Rattle.reply.specs.declared.members.Port.{Port}
 
 pub all-free : (q : ℕ) → holderOf allFree q ≡ FREE
 all-free q =
@@ -48,10 +39,6 @@ pub record KeptBy (ports : List Port) (n q x : ℕ) : Type 0 where
 pub record AllKept (ports : List Port) (n : ℕ) (kept : List ℕ) : Type 0 where
   pub len : length kept ≡ 64
   pub by : (q x : ℕ) → holderOf kept q ≡ x → x ≢ FREE → KeptBy ports n q x
-
--- and each port that keeps one has lost its claim
-abbrev pub Lost : List Port → ℕ → List ℕ → Type 0
-Lost ports n kept = (q x : ℕ) → holderOf kept q ≡ x → x ≢ FREE → hasClaim (holders ports n kept) x (portAt ports x) ≡ false
 
 module _ (ports : List Port) (n : ℕ) where
   abbrev port : ℕ → Port

@@ -1,5 +1,5 @@
 -- A packet as our sender writes it, over the kind of packet: it has a byte for each frame of its epoch, these count as their tags say, it reads back as its fields, and one that came changed is refused with 5. Each law goes by H4's layout and by VC-12's.
-use mathlib.Core.Path.{_≡_, refl, sym, ap, _∙_}
+use mathlib.Core.Path.{_≡_, refl, _∙_, sym, ap}
 use mathlib.Core.Bool.{Bool, true, false, cond}
 use mathlib.Core.List.{List}
 use Prim.Native.Nat.{ℕ, zero, suc, _+_, _-_, _*_, _/_, _%_, _^_, _≤_, _<_}
@@ -9,14 +9,12 @@ use lib.ListN.{getD, length}
 use Rattle.ground.specs.Bits.{bit-number, odd}
 use Rattle.ground.specs.Polynomial.{apart}
 use Rattle.ground.specs.Table.{getD-tabulate, tabulate, tabulate-ext}
+use Rattle.packet.specs.AsSent.{Sent}
 use Rattle.packet.specs.Changes.{changed, changedBits, mostChanges}
-use Rattle.packet.specs.Clock.{by-kind}
 use Rattle.packet.specs.Counts.{counts, saysStart, toldBits, vc12Counts}
-use Rattle.packet.specs.declared.layout.Fields.{Fields}
-use Rattle.packet.specs.declared.reader.Reading.the-variants.{Crc, Packet}
-use Rattle.packet.specs.declared.writer.Writing.the-variants.{Done}
-use Rattle.packet.specs.Kinds.{epochOf, fixedKind, frames, lead, placeOf, tags, vc12Kind}
+use Rattle.packet.specs.Kinds.{epochOf, fixedKind, frames, lead, placeOf, tagOf, tags, vc12Kind}
 use Rattle.packet.specs.Laws.Bounds.{bounds}
+use Rattle.packet.specs.Laws.Clock.{by-kind}
 use Rattle.packet.specs.Laws.Counting.{counted-as-sent, counts-as-vc12, counts-h4, counts-vc12}
 use Rattle.packet.specs.Laws.Vc12.{bits-damaged, length-data as length-bits, length-lowest}
 use Rattle.packet.specs.Layout.{dataOf, h4Of, highsOf, nibblesOf}
@@ -25,10 +23,12 @@ use Rattle.packet.specs.Sent.{sentAnswer, sentBytes, sentFits}
 use Rattle.packet.specs.Symbols.{entryFrom, packetRow, rowFrom}
 use Rattle.packet.specs.Theorems.Damage.{length-data, length-highs, nibbles-damaged, sent}
 use Rattle.packet.specs.Theorems.ReadBack.{nibbles-back, written-as}
-use Rattle.packet.specs.Theorems.Tags.{tagOf}
 use Rattle.packet.specs.Theorems.Vc12.{bits-back, vc12-bits, vc12-written}
 use Rattle.packet.specs.Vc12.{frameByte, lowestOf, readVc12Bits, readVc12Row, rowBits, vc12Bits, vc12Bytes, vc12Data, writeVc12Answer, writeVc12Bytes}
 use Rattle.packet.specs.Writing.{writeAnswer, writeBytes}
+use Rattle.packet.specs.declared.layout.Fields.{Fields}
+use Rattle.packet.specs.declared.reader.Reading.the-variants.{Crc, Packet}
+use Rattle.packet.specs.declared.writer.Writing.the-variants.{Done}
 
 -- The entries of a packet's row: of H4 the high nibbles, of VC-12 the lowest bits.
 
@@ -95,13 +95,6 @@ vc12-counted x f e =
     (λ l. bit-of (eqb (x % 1024 % 32) 0) (getD (vc12Bits f) (x % 1024 % 32) false) ∙ count-bit f (x % 1024 % 32) l ∙ ap (λ (n : ℕ). toldBits n (x % 1024 % 32) % 2) own))
 
 -- The laws, one kind after the other.
-
-pub record Sent (kind : ℕ) (f : Fields) (s : List ℕ) : Type 0 where
-  pub fits : sentFits kind f ≡ true
-  pub long : length (sentBytes kind f s) ≡ frames kind
-  pub told : (x : ℕ) → f .epoch ≡ epochOf kind (tagOf kind x) → counts kind (tagOf kind x) (getD (sentBytes kind f s) (placeOf kind (tagOf kind x)) 0) ≡ true
-  pub reads : readRow kind (packetRow kind (sentBytes kind f s)) ≡ Packet f
-  pub refused : (came : List ℕ) → 1 ≤ changed kind (sentBytes kind f s) came → changed kind (sentBytes kind f s) came ≤ mostChanges kind → readRow kind (packetRow kind came) ≡ Crc
 
 damaged-vc12 : (f : Fields) (came : List ℕ) → apart (vc12Bits f) (lowestOf came) ≡ 1 → readVc12Bits (lowestOf came) ≡ Crc
 unfolding vc12Bits

@@ -4,17 +4,17 @@ use mathlib.Core.List.{List}
 use Prim.Native.Nat.{ℕ, zero, suc, _≤_}
 use native.Mathlib.Omega.{arith}
 use lib.ListN.{length}
-use Rattle.packet.specs.declared.ruling.Ruling.{Ruling}
-use Rattle.packet.specs.Laws.Symbols.{length-row}
 use Rattle.packet.specs.Shares.{sharesOf}
-use Rattle.phases.specs.ByTable.{passedPortWith, passedPortsWith, passedWith}
-use Rattle.phases.specs.Passing.{passedGroup, passedOf, passedPort, passedPortBy, passedPorts}
-use Rattle.rows.specs.declared.group.Group.{Group}
+use Rattle.packet.specs.Theorems.Symbols.{length-row}
+use Rattle.packet.specs.declared.ruling.Ruling.{Ruling}
 use Rattle.rows.specs.Group.{putGroup}
 use Rattle.rows.specs.Laws.Port.{length-put}
 use Rattle.rows.specs.Part.{TheMarks, TheMember, ThePackets, TheStep}
-use Rattle.step.specs.Laws.ByTable.{own-ruling-with}
+use Rattle.rows.specs.declared.group.Group.{Group}
+use Rattle.step.specs.Theorems.ByTable.{own-ruling-with}
 use Rattle.store.specs.Frames.{packetIn}
+use Rattle.phases.specs.ByTable.{passedPortWith, passedPortsWith, passedWith}
+use Rattle.phases.specs.Passing.{passedGroup, passedOf, passedPort, passedPortBy, passedPorts}
 
 pub length-passed-ports-with : (table : List (List ℕ)) (g : Group) (store : List ℕ) (n : ℕ) (s : List (List ℕ)) → length (passedPortsWith table g store n s) ≡ length s
 unfolding passedPortsWith passedPortWith

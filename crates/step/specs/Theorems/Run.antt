@@ -2,34 +2,28 @@
 -- The run after the frame at position x is written down outright (`runAt`), and one frame more leads from it to the next (`run-goes`): H4's in H4Run, VC-12's in StartsRun.
 use mathlib.Core.Path.{_≡_, refl, _∙_, sym, ap}
 use mathlib.Core.Logic.{⊎-elim, _≢_}
-use mathlib.Core.Bool.{Bool, true, false, cond}
+use mathlib.Core.Bool.{Bool, true, false}
 use Prim.Native.Nat.{ℕ, _+_, _-_, _*_, _/_, _%_, _≤_, _<_, min}
 use native.Mathlib.Omega.{arith}
-use lib.Dec.{eqb, ltb}
-use borrow.Author.Tests.{eqb-true, ne-eqb, lt-ltb, le-ltb, le-leb, lt-leb}
+use lib.Dec.{eqb}
+use borrow.Author.Tests.{eqb-true, le-leb, le-ltb, lt-leb, lt-ltb, ne-eqb}
 use Rattle.ground.specs.Truth.{eq-or-ne, le-or-lt}
-use Rattle.packet.specs.Clock.{by-kind}
 use Rattle.packet.specs.Counts.{saysStart, toldBits, vc12Counts}
-use Rattle.packet.specs.Kinds.{frames, placeOf, tagBefore, vc12Kind}
+use Rattle.packet.specs.Kinds.{frames, placeOf, tagBefore, tagOf, vc12Kind}
+use Rattle.packet.specs.Laws.Clock.{by-kind}
 use Rattle.packet.specs.Laws.Counting.{counts-bit, counts-h4, counts-start, counts-vc12}
 use Rattle.packet.specs.Laws.Vc12Clock.{vc12-before, vc12-frames, vc12-place, vc12-tag}
-use Rattle.packet.specs.Theorems.Tags.{frames-two, tagOf}
-use Rattle.step.specs.declared.run.Run.{Run}
+use Rattle.packet.specs.Theorems.Tags.{frames-two}
 use Rattle.step.specs.Laws.H4Run as H
-pub use Rattle.step.specs.Laws.Positions.{Starts, count-fits, few-breaks, few-short, start-from, startFrom, starts-least}
-use Rattle.step.specs.Laws.Sent.{SentWith}
+pub use Rattle.step.specs.Laws.Positions.{count-fits, few-breaks, few-short, start-from, starts-least}
 use Rattle.step.specs.Laws.StartsRun as S
 use Rattle.step.specs.Run.{h4RunOn, inStepAt, noRun, runOn, withBits}
+use Rattle.step.specs.Sent.{SentWith}
+use Rattle.step.specs.SentRuns.{RunAt, Starts, h4RunAt, runAt, vc12RunAt}
 use Rattle.step.specs.Starts.{startsRun}
+use Rattle.step.specs.declared.run.Run.{Run}
 
--- the run after the frame at x, of frames as sent from a on, where the first of a count stands
-unfoldable pub runAt : ℕ → ℕ → ℕ → ℕ → Run
-runAt kind c0 a x = cond (eqb kind vc12Kind) (cond (ltb x a) noRun (S.vc12RunAt (c0 + a) (c0 + x))) (H.h4RunAt kind c0 a x)
-
-abbrev pub RunAt : ℕ → ℕ → ℕ → ℕ → Run → Type 0
-RunAt kind c0 a x run = run ≡ runAt kind c0 a x
-
-at-h4 : (kind c0 a x : ℕ) → eqb kind vc12Kind ≡ false → runAt kind c0 a x ≡ H.h4RunAt kind c0 a x
+at-h4 : (kind c0 a x : ℕ) → eqb kind vc12Kind ≡ false → runAt kind c0 a x ≡ h4RunAt kind c0 a x
 unfolding runAt
 at-h4 kind c0 a x clock = rw clock refl
 
@@ -44,7 +38,7 @@ at-before : (c0 a x : ℕ) → x < a → runAt vc12Kind c0 a x ≡ noRun
 unfolding runAt
 at-before c0 a x b = rw (lt-ltb x a b) refl
 
-at-from : (c0 a x : ℕ) → a ≤ x → runAt vc12Kind c0 a x ≡ S.vc12RunAt (c0 + a) (c0 + x)
+at-from : (c0 a x : ℕ) → a ≤ x → runAt vc12Kind c0 a x ≡ vc12RunAt (c0 + a) (c0 + x)
 unfolding runAt
 at-from c0 a x l = rw (le-ltb x a l) refl
 
@@ -65,7 +59,7 @@ on-vc12 run odd h = refl
 -- In step exactly from the frame at which so many have come since a, and then with the tag of the position.
 
 vc12-in-step : (c0 a x : ℕ) (run : Run) → RunAt vc12Kind c0 a x run → a + frames vc12Kind * 2 ≤ x + 1 → inStepAt vc12Kind (run .count) ≡ true
-unfolding inStepAt S.vc12RunAt
+unfolding inStepAt vc12RunAt
 vc12-in-step c0 a x run is enough =
     let f = vc12-frames in
     rw (is, at-from c0 a x (omega arith)) (le-leb (frames vc12Kind * 2) (min (c0 + x - (c0 + a) + 1) 64) (omega arith))
@@ -76,7 +70,7 @@ run-in-step kind =
     (λ k clock c0 a x run is. H.run-in-step k c0 a x run (is ∙ at-h4 k c0 a x clock)) kind
 
 vc12-short : (c0 a x : ℕ) (run : Run) → RunAt vc12Kind c0 a x run → x + 1 < a + frames vc12Kind * 2 → inStepAt vc12Kind (run .count) ≡ false
-unfolding inStepAt S.vc12RunAt
+unfolding inStepAt vc12RunAt
 vc12-short c0 a x run is near =
     let f = vc12-frames in
     ⊎-elim (λ (l : a ≤ x). rw (is, at-from c0 a x l) (lt-leb (frames vc12Kind * 2) (min (c0 + x - (c0 + a) + 1) 64) (omega arith)))
@@ -89,7 +83,7 @@ run-short kind =
 
 -- it has a frame from a on
 vc12-counted : (c0 a x : ℕ) (run : Run) → RunAt vc12Kind c0 a x run → a ≤ x → run .count ≢ 0
-unfolding S.vc12RunAt
+unfolding vc12RunAt
 vc12-counted c0 a x run is late none =
     let many : run .count ≡ min (c0 + x - (c0 + a) + 1) 64 = ap (λ (q : Run). q .count) (is ∙ at-from c0 a x late) in
     omega arith
@@ -99,8 +93,8 @@ run-counted kind =
     by-kind (λ k. (c0 a x : ℕ) (run : Run) → RunAt k c0 a x run → a ≤ x → run .count ≢ 0) vc12-counted
     (λ k clock c0 a x run is. H.run-counted k c0 a x run (is ∙ at-h4 k c0 a x clock)) kind
 
-vc12-next-is : (c0 a x : ℕ) → a + 4 ≤ x → S.vc12RunAt (c0 + a) (c0 + x) .next ≡ (c0 + x + 1) % 1024
-unfolding S.vc12RunAt
+vc12-next-is : (c0 a x : ℕ) → a + 4 ≤ x → vc12RunAt (c0 + a) (c0 + x) .next ≡ (c0 + x + 1) % 1024
+unfolding vc12RunAt
 vc12-next-is c0 a x l = rw (le-ltb (c0 + x - (c0 + a)) 4 (omega arith)) refl
 
 vc12-run-next : (c0 a x : ℕ) (run : Run) → RunAt vc12Kind c0 a x run → a + frames vc12Kind * 2 ≤ x + 1 → run .next ≡ tagOf vc12Kind (c0 + (x + 1))
@@ -117,10 +111,10 @@ run-next kind =
 -- it has broken no count, and ended no odd packet
 
 vc12-whole : (c0 a x : ℕ) → (runAt vc12Kind c0 a x .breaks ≡ 0) × (runAt vc12Kind c0 a x .odd ≡ 0)
-unfolding S.vc12RunAt
+unfolding vc12RunAt
 vc12-whole c0 a x = ⊎-elim (λ (l : a ≤ x). rw (at-from c0 a x l) (refl, refl)) (λ (l : x < a). rw (at-before c0 a x l) (refl, refl)) (le-or-lt a x)
 
-h4-whole : (kind c0 a x : ℕ) → (H.h4RunAt kind c0 a x .breaks ≡ 0) × (H.h4RunAt kind c0 a x .odd ≡ 0)
+h4-whole : (kind c0 a x : ℕ) → (h4RunAt kind c0 a x .breaks ≡ 0) × (h4RunAt kind c0 a x .odd ≡ 0)
 h4-whole kind c0 a x =
     ⊎-elim
     (λ (l : a ≤ x).
@@ -146,7 +140,7 @@ told-before y d =
 
 vc12-told : (c0 a x : ℕ) (run : Run) → RunAt vc12Kind c0 a x run → a + frames vc12Kind * 2 ≤ x + 1 → (c0 + (x + 1)) % 32 ≢ 0
     → run .bits ≡ toldBits ((c0 + (x + 1)) % 1024 / 32) ((c0 + (x + 1)) % 32 - 1)
-unfolding S.vc12RunAt
+unfolding vc12RunAt
 vc12-told c0 a x run is enough d =
     let f = vc12-frames in
     let sum : c0 + (x + 1) ≡ c0 + x + 1 = omega arith in
@@ -160,14 +154,14 @@ run-told kind c0 a x run is enough vc12 =
 
 -- H4: and it has no bits of a count
 
-at-bits : (kind c0 a x : ℕ) → H.h4RunAt kind c0 a x .bits ≡ 0
+at-bits : (kind c0 a x : ℕ) → h4RunAt kind c0 a x .bits ≡ 0
 at-bits kind c0 a x =
     ⊎-elim
     (λ (l : a ≤ x).
     ⊎-elim (λ (e : x ≡ a). rw (e, H.at-first kind c0 a) refl) (λ (n : x ≢ a). rw (H.at-after kind c0 a x (omega arith)) refl) (eq-or-ne x a))
     (λ (l : x < a). rw (H.at-before kind c0 a x l) refl) (le-or-lt a x)
 
-blank-at : (kind c0 a x bits : ℕ) (run : Run) → bits ≡ 0 → run ≡ H.h4RunAt kind c0 a x → withBits bits run ≡ H.h4RunAt kind c0 a x
+blank-at : (kind c0 a x bits : ℕ) (run : Run) → bits ≡ 0 → run ≡ h4RunAt kind c0 a x → withBits bits run ≡ h4RunAt kind c0 a x
 blank-at kind c0 a x bits run blank is =
     ap (λ (n : ℕ). withBits n run) (blank ∙ sym (at-bits kind c0 a x) ∙ sym (ap (λ (q : Run). q .bits) is)) ∙ is
 
@@ -186,7 +180,7 @@ vc12-begins c0 f a x h run o low high none sent =
     ⊎-elim
     (λ (e : x ≡ a).
     let z : (c0 + x) % 32 ≡ 0 = rw e (due c0 f a o) in
-    S.run-starts (c0 + x) h run z none (sent-vc12 (c0 + x) h sent) ∙ ap (λ (n : ℕ). S.vc12RunAt (c0 + n) (c0 + x)) e ∙ sym (at-from c0 a x (omega arith)))
+    S.run-starts (c0 + x) h run z none (sent-vc12 (c0 + x) h sent) ∙ ap (λ (n : ℕ). vc12RunAt (c0 + n) (c0 + x)) e ∙ sym (at-from c0 a x (omega arith)))
     (λ (n : x ≢ a). S.run-none h run none (not-due c0 f a x o low (omega arith) h sent) ∙ sym (at-before c0 a x (omega arith)))
     (eq-or-ne x a)
 
@@ -205,7 +199,7 @@ vc12-goes c0 f a x h run o low is sent =
     (λ (l : a ≤ x).
     ap (λ (q : Run). startsRun q h) (is ∙ at-from c0 a x l)
     ∙ S.run-goes (c0 + a) (c0 + x) h (due c0 f a o) (omega arith) (sent-vc12 (c0 + x + 1) h (rw sum at sent))
-    ∙ ap (S.vc12RunAt (c0 + a)) (sym sum)
+    ∙ ap (vc12RunAt (c0 + a)) (sym sum)
     ∙ sym (at-from c0 a (x + 1) (omega arith)))
     (λ (l : x < a).
     vc12-begins c0 f a (x + 1) h run o (omega arith) (omega arith) (ap (λ (q : Run). q .count) (is ∙ at-before c0 a x l)) sent)
@@ -233,8 +227,8 @@ back-near d l = omega arith
 near-start : (b d : ℕ) → b % 32 ≡ 0 → d < 4 → (b + d) % 1024 % 32 ≡ d
 near-start b d z l = omega arith
 
-vc12-place-is : (c0 a x : ℕ) → (c0 + a) % 32 ≡ 0 → a ≤ x → (S.vc12RunAt (c0 + a) (c0 + x) .next + 1023) % 1024 % 32 ≡ (c0 + x) % 1024 % 32
-unfolding S.vc12RunAt
+vc12-place-is : (c0 a x : ℕ) → (c0 + a) % 32 ≡ 0 → a ≤ x → (vc12RunAt (c0 + a) (c0 + x) .next + 1023) % 1024 % 32 ≡ (c0 + x) % 1024 % 32
+unfolding vc12RunAt
 vc12-place-is c0 a x z late =
     ⊎-elim (λ (l : 4 ≤ c0 + x - (c0 + a)). rw (le-ltb (c0 + x - (c0 + a)) 4 l) (back-one (c0 + x)))
     (λ (l : c0 + x - (c0 + a) < 4).

@@ -9,23 +9,23 @@ use lib.Dec.{eqb, leb, ltb}
 use lib.ListN.{length}
 use borrow.Author.Tests.{eqb-true}
 use Rattle.ground.specs.Truth.{and-left, and-right}
+use Rattle.text.specs.Fields.{areDigits, hexOf, isHex, numberOf}
+use Rattle.text.specs.Text.{TAB, ahead, fieldsOf, parted}
+use Rattle.text.specs.declared.fields.Number.{Number}
+use Rattle.text.specs.declared.fields.Number.the-variants.{Unreadable, Value}
+use Rattle.recording.specs.Line.{MOST}
 use Rattle.recording.specs.Opening.{Opening}
 use Rattle.recording.specs.Opening.{Opening as O}
+use Rattle.recording.specs.Opening.{handed, lineOpening, opened, openedBy, openingBy, settingsBy}
+use Rattle.recording.specs.Pairs.{firstPairs, pairsFrom}
+use Rattle.recording.specs.Record.{Lies, flagIn, frameBy, lineRecord, recordBy}
 use Rattle.recording.specs.declared.opening.First.{First}
 use Rattle.recording.specs.declared.opening.FirstLine.the-variants as F
 use Rattle.recording.specs.declared.pairs.Awaited.{Awaited}
 use Rattle.recording.specs.declared.pairs.Awaited.the-variants as A
 use Rattle.recording.specs.declared.pairs.Pairs.{Pairs}
 use Rattle.recording.specs.declared.record.Record.{Record}
-use Rattle.recording.specs.declared.record.Record.the-variants.{Frame, Malformed, Long, Unfinished, End}
-use Rattle.recording.specs.Line.{MOST}
-use Rattle.recording.specs.Opening.{handed, lineOpening, opened, openedBy, openingBy, settingsBy}
-use Rattle.recording.specs.Pairs.{firstPairs, pairsFrom}
-use Rattle.recording.specs.Record.{flagIn, frameBy, lineRecord, recordBy}
-use Rattle.text.specs.declared.fields.Number.{Number}
-use Rattle.text.specs.declared.fields.Number.the-variants.{Value, Unreadable}
-use Rattle.text.specs.Fields.{areDigits, hexOf, isHex, numberOf}
-use Rattle.text.specs.Text.{TAB, ahead, fieldsOf, parted}
+use Rattle.recording.specs.declared.record.Record.the-variants.{End, Frame, Long, Malformed, Unfinished}
 
 -- a frame or a malformed line, with another next line
 abbrev pub goingTo : ℕ → Record → Record
@@ -226,10 +226,6 @@ weight-fields (b ∷ line) = go (eqb b TAB) (weight-fields line)
     go : (t : Bool) → weight (parted TAB ([] ∷ []) line) ≡ suc (length line) → weight (cond t ([] ∷ parted TAB ([] ∷ []) line) (ahead b (parted TAB ([] ∷ []) line))) ≡ suc (suc (length line))
     go true h = omega arith
     go false h = weight-ahead b (parted TAB ([] ∷ []) line) (length line) h
-
--- the payload of a frame lies in its line
-pub record Lies (size end : ℕ) (r : Record) : Type 0 where
-  pub within : (port h4 flag place next : ℕ) → r ≡ Frame port h4 flag place next → place + size + size ≤ end
 
 lies-none : (size end n : ℕ) → Lies size end (Malformed n)
 lies-none size end n = record { within = λ port h4 flag place next e. let z : _≡_ {A = ℕ} 0 1 = cc in absurd (omega arith) }

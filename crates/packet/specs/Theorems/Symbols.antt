@@ -1,5 +1,5 @@
 -- Rows of sixteen entries by their symbols, over the kind of packet: what is put at a place stands there, all other places stay, and a row is told by its symbols.
-use mathlib.Core.Path.{_≡_, refl, sym, ap, _∙_}
+use mathlib.Core.Path.{_≡_, refl, _∙_, sym, ap}
 use mathlib.Core.Logic.{⊎-elim, _≢_}
 use mathlib.Core.Bool.{Bool, true, false, cond}
 use mathlib.Core.List.{List}

@@ -5,7 +5,6 @@ use mathlib.Core.List.{List}
 use Prim.Native.Nat.{ℕ, _<_}
 use borrow.Author.Tests.{eq-eqb}
 use Rattle.ground.specs.Truth.{cond-by}
-use Rattle.packet.specs.declared.ruling.Ruling.{Ruling}
 use Rattle.packet.specs.Fixed.{fixedNibblesWith, fixedRulingOf}
 use Rattle.packet.specs.Kinds.{fixedKind}
 use Rattle.packet.specs.Layout.{h4Of}
@@ -13,6 +12,7 @@ use Rattle.packet.specs.Ruling.{refused}
 use Rattle.packet.specs.Symbols.{packetRow}
 use Rattle.packet.specs.Theorems.Fixed.{fixed-epoch, fixed-rules, fixed-word}
 use Rattle.packet.specs.Words.{FIXED}
+use Rattle.packet.specs.declared.ruling.Ruling.{Ruling}
 use Rattle.step.specs.OwnCount.{ownNumber, ownRuling, rulingIn}
 
 pub own-fixed : (epoch : ℕ) (ns : List ℕ) → ownRuling fixedKind epoch ns .word ≡ FIXED

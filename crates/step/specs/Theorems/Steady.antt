@@ -7,19 +7,19 @@ use lib.Dec.{eqb, ltb}
 use borrow.Author.Tests.{eqb-true, not-true}
 use Rattle.ground.specs.Truth.{and-left, and-right}
 use Rattle.packet.specs.Counts.{h4Counts}
+use Rattle.packet.specs.Kinds.{endsEpoch, epochsIn, placeOf, tagAfter, vc12Kind}
 use Rattle.packet.specs.Laws.Distances.{place-after}
 use Rattle.packet.specs.Laws.Epochs.{ends-alike}
-use Rattle.packet.specs.Kinds.{endsEpoch, epochsIn, placeOf, tagAfter, vc12Kind}
+use Rattle.rows.specs.Step.{withNext}
 use Rattle.rows.specs.declared.group.Group.{Group}
 use Rattle.rows.specs.declared.step.Step.{Step}
-use Rattle.rows.specs.Step.{withNext}
 use Rattle.step.specs.Arrival.{advanced, distanceIn, flagOf, inStep, keeps, runOf, takenOf}
 use Rattle.step.specs.Laws.Arrival.{ranOn, stepped, taken-keeps}
 use Rattle.step.specs.Laws.H4Run.{run-on}
-use Rattle.step.specs.Laws.Run.{on-h4}
 use Rattle.step.specs.OwnCount.{endsOdd}
 use Rattle.step.specs.Run.{endsPacket, oddAfter, withBits}
 use Rattle.step.specs.Steady.{midEpoch, steady, steadyTaken}
+use Rattle.step.specs.Theorems.Run.{on-h4}
 
 quiet : (a b c : Bool) → b ≡ false → (a && b && c) ≡ false
 quiet true b c e = rw e

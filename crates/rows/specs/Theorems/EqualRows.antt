@@ -1,16 +1,16 @@
 -- Equal records mean equal rows.
-use mathlib.Core.Path.{_≡_, refl, sym, ap, _∙_}
+use mathlib.Core.Path.{_≡_, refl, _∙_, sym, ap}
 use mathlib.Core.List.{List}
 use Prim.Native.Nat.{ℕ, zero, suc, _+_, _*_, _/_, _%_, _<_}
 use native.Mathlib.Omega.{arith}
 use lib.ListN.{length, replicate}
 use lib.Seq.{ext-getD}
 use Rattle.rows.specs.Group.{groupAt, groupRow}
-use Rattle.rows.specs.Laws.Records.{group-row-back, step-row-back, member-row-back}
+use Rattle.rows.specs.Laws.Records.{group-row-back, member-row-back, step-row-back}
 use Rattle.rows.specs.Member.{memberAt, memberRow}
-use Rattle.rows.specs.Packets.{packetsAt, marksAt}
+use Rattle.rows.specs.Packets.{marksAt, packetsAt}
 use Rattle.rows.specs.Port.{Port, portAt}
-use Rattle.rows.specs.Rows.{rowIn, rowsFor, Shaped}
+use Rattle.rows.specs.Rows.{Shaped, rowIn, rowsFor}
 use Rattle.rows.specs.Step.{stepAt, stepRow}
 
 module _ (s : List (List ℕ)) (o : Shaped s) where

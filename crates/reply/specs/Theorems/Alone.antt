@@ -1,25 +1,25 @@
 -- A port alone: what a report leaves of it hangs on itself, and so does RS-Ack.
-use mathlib.Core.Path.{_≡_, refl, sym, ap, _∙_}
-use mathlib.Core.Logic.{_⊎_, inl, inr, ⊎-elim}
+use mathlib.Core.Path.{_≡_, refl, _∙_, sym, ap}
+use mathlib.Core.Logic.{inl, inr, ⊎-elim, _⊎_}
 use mathlib.Core.Bool.{Bool, true, false, cond, not, _&&_}
 use mathlib.Core.List.{List, [], _∷_}
 use Prim.Native.Nat.{ℕ, _+_, _<_}
 use native.Mathlib.Omega.{arith}
 use lib.Dec.{eqb}
 use lib.ListN.{getD, length, length-replicate, replicate, set}
-use Rattle.counting.specs.Each.{getD-each}
 use Rattle.ground.specs.Truth.{and-left, same-test}
-use Rattle.reply.specs.Choosing.{FREE, chooses, claims, grant, granted, holderOf, holders, allFree}
-use Rattle.reply.specs.declared.members.Port.{Port}
-use Rattle.reply.specs.declared.waiting.Standing.{Standing}
+use Rattle.counting.specs.Each.{getD-each}
+use Rattle.reply.specs.Choosing.{FREE, allFree, chooses, claims, grant, granted, holderOf, holders}
 use Rattle.reply.specs.Laws.Choosing.{Chosen, holders-from}
 use Rattle.reply.specs.Laws.Claims.{claim-free, claim-none, claim-own, keeps, keeps-own, left-claim, left-idle, left-lost}
 use Rattle.reply.specs.Laws.Granting.{grant-from, grant-holds, length-grant}
-use Rattle.reply.specs.Laws.Keeping.{all-free}
 use Rattle.reply.specs.Laws.Members.{left-elapsed, left-low, left-ok}
 use Rattle.reply.specs.Members.{failState, hasHoldOff, idleState, isCandidate, isIdle, okState, portAt}
 use Rattle.reply.specs.Telling.{ackOf, turns}
-use Rattle.reply.specs.Waiting.{chosenOf, hasClaim, keptNumbers, keepsNumber, moreKept, mustKeep, noStanding, rounds, someJoin, standing, standingBy, standingsOf, withClaim}
+use Rattle.reply.specs.Theorems.Keeping.{all-free}
+use Rattle.reply.specs.Waiting.{chosenOf, hasClaim, keepsNumber, keptNumbers, moreKept, mustKeep, noStanding, rounds, someJoin, standing, standingBy, standingsOf, withClaim}
+use Rattle.reply.specs.declared.members.Port.{Port}
+use Rattle.reply.specs.declared.waiting.Standing.{Standing}
 
 -- nobody can take its number: it has its claim where it is a candidate, and keeps its number where it has hold-off left
 unfoldable pub aloneLeaves : Port → Standing

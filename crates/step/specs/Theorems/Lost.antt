@@ -1,36 +1,27 @@
 -- Step is lost exactly so, of H4 (request 2026-04) and of VC-12 (request 2026-01), on every record and every frame that is not flagged; and a frame after which the port is in step has the tag that was to come.
 use mathlib.Core.Path.{_≡_, refl, _∙_, sym, ap}
-use mathlib.Core.Logic.{_⊎_, inl, inr, ⊎-elim, _≢_}
+use mathlib.Core.Logic.{inl, inr, ⊎-elim, _≢_, _⊎_}
 use mathlib.Core.Bool.{Bool, true, false, cond, not, _&&_, _||_, true≢false}
 use Prim.Native.Nat.{ℕ, _+_, _*_, _/_, _%_, _≤_}
 use native.Mathlib.Omega.{arith}
 use lib.Dec.{eqb, leb, ltb}
-use borrow.Author.Tests.{eq-eqb, eqb-false, le-leb, le-ltb, leb-true, lt-leb, ne-eqb, not-true, not-false}
+use borrow.Author.Tests.{eq-eqb, eqb-false, le-leb, le-ltb, leb-true, lt-leb, ne-eqb, not-false, not-true}
 use Rattle.ground.specs.Truth.{and-left, and-right, cond-by, eq-or-ne, fails, or-cases, or-left, or-right}
-use Rattle.packet.specs.Clock.{by-kind}
 use Rattle.packet.specs.Counts.{carriesLow, h4Counts, saysStart, startsCount, tagByHigh, tagByLow}
 use Rattle.packet.specs.Kinds.{frames, tagAfter, vc12Kind}
+use Rattle.packet.specs.Laws.Clock.{by-kind}
 use Rattle.packet.specs.Laws.Vc12Clock.{vc12-frames, vc12-next}
 use Rattle.packet.specs.Theorems.Tags.{frames-two}
 use Rattle.rows.specs.declared.group.Group.{Group}
 use Rattle.rows.specs.declared.step.Step.{Step}
 use Rattle.step.specs.Arrival.{countsOn, frameDropped, inStep, joining, keeps, outside, runOf, takenOf}
-use Rattle.step.specs.declared.arrival.Taken.{Taken}
-use Rattle.step.specs.declared.run.Run.{Run}
 use Rattle.step.specs.Laws.Arrival.{stepped, taken-by}
 use Rattle.step.specs.Laws.StartsRun.{alike, fifth-bit, other-bit}
+use Rattle.step.specs.Losing.{FourthBreak, OtherCount, SecondOdd, StartNotDue}
 use Rattle.step.specs.Run.{begunRun, breaksAfter, furtherRun, gainedRun, h4RunOn, inStepAt, loses, noRun, oddAfter, runOn, secondRun, stayedRun}
 use Rattle.step.specs.Starts.{begunPacket, bitsAfter, countAfter, fifthBit, firstOfTwo, goesOn, startsRun}
-
--- 'the fourth frame in a row that breaks the count'
-pub record FourthBreak (run : Run) (h : ℕ) : Type 0 where
-  pub broken : h4Counts (run .next) h ≡ false
-  pub after : 3 ≤ run .breaks
-
--- 'the end of a second packet in a row with right CRC and a differing MFI2'
-pub record SecondOdd (run : Run) (odd : Bool) : Type 0 where
-  pub ends : odd ≡ true
-  pub after : run .odd ≢ 0
+use Rattle.step.specs.declared.arrival.Taken.{Taken}
+use Rattle.step.specs.declared.run.Run.{Run}
 
 -- a run of at most two frames is no step
 pub two-not-in-step : (kind count : ℕ) → count ≤ 2 → inStepAt kind count ≡ true → ⊥
@@ -164,14 +155,6 @@ module _ (kind : ℕ) (run : Run) (odd : Bool) (h : ℕ) (clock : eqb kind vc12K
       (λ (b : SecondOdd run odd). lost-is kind run odd h clock stands ∙ ap not (or-right broken twice (rw (b .ends, ne-eqb (run .odd) 0 (b .after)) refl)))
 
 -- Of VC-12: 'A start said early or left out loses step at that frame', and 'a packet that breaks this loses step at the fifth bit of its count'. What follows is the frame as a first bit, if it is said to be a start, or its packet as the first of a new two.
-
-pub record StartNotDue (run : Run) (h : ℕ) : Type 0 where
-  pub said : saysStart h ≡ not (eqb (run .next % 32) 0)
-
-pub record OtherCount (run : Run) (h : ℕ) : Type 0 where
-  pub said : saysStart h ≡ eqb (run .next % 32) 0
-  pub fifth : run .next % 32 ≡ 4
-  pub other : run .bits % 16 * 2 + h % 2 ≢ run .next % 1024 / 32
 
 module _ (run : Run) (h : ℕ) (stands : inStepAt vc12Kind (run .count) ≡ true) where
   many : 64 ≤ run .count
