@@ -65,13 +65,6 @@ build_link() {
     $archive_compiler -std=c99 $strict -O2 host/link/*.c $(over c_face) -o target/host/link
 }
 
-# build_speak: the session told to a listener.
-build_speak() {
-    mkdir -p target/host
-    # shellcheck disable=SC2046,SC2086
-    $archive_compiler -std=c99 $strict -O2 host/speak/*.c host/fields/*.c $(over c_face c_cards) -o target/host/speak
-}
-
 # build_order: a planner's lines over a card with two circuits.
 build_order() {
     mkdir -p target/host
