@@ -2,11 +2,16 @@
 use mathlib.Core.Path.{_≡_, refl, _∙_}
 use mathlib.Core.Bool.{Bool, true, false, not, _||_}
 use mathlib.Core.List.{List}
-use Prim.Native.Nat.{ℕ}
+use Prim.Native.Nat.{ℕ, _≤_}
+use Rattle.counting.specs.Laws.Numbers.{count-le}
 use Rattle.judge.specs.declared.seen.Seen.{Seen}
 use Rattle.judge.specs.declared.verdict.Tally.{Tally}
+use Rattle.judge.specs.Seen.{numberedSeen, seenAt}
 use Rattle.judge.specs.Tally.{eosAloneBy, exactTo, fixedHeldWith, heldWith, tallyOf}
 use Rattle.judge.specs.Verdict.{DOUBTFUL, HELD, SURE, doubtfulBy, eosAlone, eosWrong, exact, fixedExact, fixedHeld, fixedVerdict, gidDiffers, heldBy, highest, lcasVerdict, missing, repeats}
+
+pub numbered-le : (ports : List Seen) (n : ℕ) (t : Tally) → t ≡ tallyOf ports n → t .numbered ≤ n
+numbered-le ports n t e = rw e (count-le n (λ i. numberedSeen (seenAt ports i)))
 
 held-is : (ports : List Seen) (n : ℕ) → heldWith (tallyOf ports n) (repeats ports n) (eosAloneBy ports n (tallyOf ports n .highest)) ≡ heldBy ports n
 unfolding heldBy gidDiffers eosWrong eosAlone eosAloneBy highest missing

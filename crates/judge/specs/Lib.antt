@@ -1,3 +1,4 @@
+pub mod Full
 pub mod Laws
 pub mod Opened
 pub mod Order

@@ -1,4 +1,5 @@
 // An epoch judged (01, 'Report of an epoch'): held, doubtful or sure, from the packets that rule it; and the order of its payload.
+mod numbers;
 mod order;
 mod seen;
 mod verdict;

@@ -1,11 +1,14 @@
 // Held, doubtful, sure (01, 'Report of an epoch').
+use crate::numbers;
 use crate::seen;
 use crate::seen::Seen;
 use packet::kinds;
 ghost use mathlib.Core.Path.{_≡_};
+ghost use mathlib.Core.Bool.{true};
 ghost use mathlib.Core.List.{[], _∷_};
 ghost use Prim.Native.Nat.{_≤_, _<_};
 ghost use Rattle.ground.specs.Plain.{if_then_else_};
+ghost use Rattle.judge.specs.Full.{Full};
 ghost use Rattle.judge.specs.Seen.{sizeOf};
 ghost use Rattle.judge.specs.Tally.{eosAloneBy, exactTo, fixedHeldWith, heldWith, tallyOf, tallyWith};
 ghost use Rattle.judge.specs.Verdict.{fixedVerdict, judgeOf, lcasVerdict, repeats, takes};
@@ -105,8 +108,7 @@ fn is_taken(ports: [Seen; 64], n: usize, number: u8) -> bool
     found
 }
 
-// 'numbers of active and DNU ports repeat'
-fn has_repeats(ports: [Seen; 64], n: usize) -> bool
+fn has_pairs(ports: [Seen; 64], n: usize) -> bool
     requires { ⌜ n ≤ 64 ⌝ }
     ensures { λ r. ⌜ r ≡ repeats ports n ⌝ }
 {
@@ -118,6 +120,17 @@ fn has_repeats(ports: [Seen; 64], n: usize) -> bool
         i += 1;
     }
     found
+}
+
+// 'numbers of active and DNU ports repeat'
+fn has_repeats(ports: [Seen; 64], n: usize, full: bool) -> bool
+    requires { ⌜ (n ≤ 64) × (full ≡ true → Full ports n) ⌝ }
+    ensures { λ r. ⌜ r ≡ repeats ports n ⌝ }
+{
+    if full {
+        return false;
+    }
+    has_pairs(ports, n)
 }
 
 fn is_eos_alone(ports: [Seen; 64], n: usize, highest: u8) -> bool
@@ -135,8 +148,7 @@ fn is_eos_alone(ports: [Seen; 64], n: usize, highest: u8) -> bool
     all
 }
 
-// Each of the numbers below the limit is taken.
-fn is_exact(ports: [Seen; 64], n: usize, limit: u8) -> bool
+fn are_taken(ports: [Seen; 64], n: usize, limit: u8) -> bool
     requires { ⌜ n ≤ 64 ⌝ }
     ensures { λ r. ⌜ r ≡ exactTo ports n limit ⌝ }
 {
@@ -147,6 +159,17 @@ fn is_exact(ports: [Seen; 64], n: usize, limit: u8) -> bool
         number += 1;
     }
     all
+}
+
+// Each of the numbers below the limit is taken.
+fn is_exact(ports: [Seen; 64], n: usize, limit: u8, full: bool) -> bool
+    requires { ⌜ (n ≤ 64) × (limit ≤ n) × (full ≡ true → Full ports n) ⌝ }
+    ensures { λ r. ⌜ r ≡ exactTo ports n limit ⌝ }
+{
+    if full {
+        return true;
+    }
+    are_taken(ports, n, limit)
 }
 
 fn is_held(tally: Tally, repeated: bool, alone: bool) -> bool
@@ -163,13 +186,14 @@ fn lcas_verdict(ports: [Seen; 64], n: usize) -> u8
     requires { ⌜ n ≤ 64 ⌝ }
     ensures { λ r. ⌜ r ≡ lcasVerdict ports n ⌝ }
 {
+    let full = numbers::is_full(ports, n);
     let tally = tallied(ports, n);
-    let repeated = has_repeats(ports, n);
+    let repeated = has_repeats(ports, n, full);
     let alone = is_eos_alone(ports, n, tally.highest);
     if is_held(tally, repeated, alone) {
         return HELD;
     }
-    let exact = is_exact(ports, n, tally.numbered);
+    let exact = is_exact(ports, n, tally.numbered, full);
     if tally.missing | !exact {
         return DOUBTFUL;
     }
@@ -187,9 +211,10 @@ fn fixed_verdict(ports: [Seen; 64], n: usize) -> u8
     requires { ⌜ n ≤ 64 ⌝ }
     ensures { λ r. ⌜ r ≡ fixedVerdict ports n ⌝ }
 {
+    let full = numbers::is_full(ports, n);
     let tally = tallied(ports, n);
-    let repeated = has_repeats(ports, n);
-    let exact = is_exact(ports, n, n as u8);
+    let repeated = has_repeats(ports, n, full);
+    let exact = is_exact(ports, n, n as u8, full);
     if is_fixed_held(tally, repeated, exact) {
         return HELD;
     }

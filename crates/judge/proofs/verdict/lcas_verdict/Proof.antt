@@ -1,13 +1,16 @@
-use Rattle.judge.proofs.Judging.{by-held, by-doubt, by-rest}
+use Rattle.judge.proofs.Judging.{by-held, by-doubt, by-rest, numbered-le}
 use borrow.Author.Needs.{needs}
 use Rattle.judge.proofs.verdict.lcas_verdict.Statement.{statement}
 use Rattle.judge.proofs.verdict.lcas_verdict.Tie as tie
+
+is-full-requires : tie.Need-is-full-requires
+is-full-requires c κs = search needs
 
 tallied-requires : tie.Need-tallied-requires
 tallied-requires c κs = search needs
 
 has-repeats-requires : tie.Need-has-repeats-requires
-has-repeats-requires c κs = search needs
+has-repeats-requires c κs = (c .before .before .pre, c .before .is-full .ensures)
 
 is-eos-alone-requires : tie.Need-is-eos-alone-requires
 is-eos-alone-requires c κs = search needs
@@ -16,14 +19,17 @@ is-held-requires : tie.Need-is-held-requires
 is-held-requires c κs = search needs
 
 returns : tie.Need-returns
-returns c = by-held (c .before .before .before .before .before .args .ports) (c .before .before .before .before .before .args .n) (c .before .before .before .before .tallied .result) _ _ _ (c .before .before .before .before .tallied .ensures) (c .before .before .before .has-repeats .ensures) (c .before .before .is-eos-alone .ensures) (c .before .is-held .ensures) (c .if1 .taken)
+returns c = by-held (c .before .before .before .before .before .before .args .ports) (c .before .before .before .before .before .before .args .n) (c .before .before .before .before .tallied .result) _ _ _ (c .before .before .before .before .tallied .ensures) (c .before .before .before .has-repeats .ensures) (c .before .before .is-eos-alone .ensures) (c .before .is-held .ensures) (c .if1 .taken)
 
 is-exact-requires : tie.Need-is-exact-requires
-is-exact-requires c κs = search needs
+is-exact-requires c κs =
+    let at-tallied = c .before .before .before .before in
+    let start = at-tallied .before .before in
+    (start .pre, numbered-le (start .args .ports) (start .args .n) (at-tallied .tallied .result) (at-tallied .tallied .ensures), at-tallied .before .is-full .ensures)
 
 returns-2 : tie.Need-returns-2
 returns-2 c =
-    let start = c .before .before .before .before .before .before .before .before in
+    let start = c .before .before .before .before .before .before .before .before .before in
     let tallied = c .before .before .before .before .before .before .before .tallied in
     let has-repeats = c .before .before .before .before .before .before .has-repeats in
     let is-eos-alone = c .before .before .before .before .before .is-eos-alone in
@@ -32,7 +38,7 @@ returns-2 c =
 
 returns-3 : tie.Need-returns-3
 returns-3 c =
-    let start = c .before .before .before .before .before .before .before .before in
+    let start = c .before .before .before .before .before .before .before .before .before in
     let tallied = c .before .before .before .before .before .before .before .tallied in
     let has-repeats = c .before .before .before .before .before .before .has-repeats in
     let is-eos-alone = c .before .before .before .before .before .is-eos-alone in
@@ -43,6 +49,7 @@ pub lcas-verdict-spec : {M : Type 1} → statement M
 lcas-verdict-spec =
     tie.close
     (tie.spec
+    is-full-requires
     tallied-requires
     has-repeats-requires
     is-eos-alone-requires
