@@ -3,6 +3,7 @@ use Prim.Native.Nat.{ℕ}
 use Rattle.phases.specs.Opened.{phasesOpen}
 use Rattle.judge.specs.Opened.{judgeOpen}
 use Rattle.reply.specs.Opened.{replyOpen}
+use Rattle.receiver.specs.Cause.{causeAnswer, causeFit, causeIn, causeOut}
 use Rattle.receiver.specs.Fetch.{dueIn, fetchAnswer, fetchOut, fetchRecord, fetchRows, fits, outIfDue, recordOf, reportIfDue, rowsIfDue}
 use Rattle.receiver.specs.Frame.{frameAnswer, frameRows, frameStore, gatheredBy, marksBy, portRows, refusalBy, settledBy, steadyRows, storeBy, takenRows, takenStore}
 use Rattle.receiver.specs.Lengths.{fetchFits, frameFits, outputFor, rowsFit}
@@ -11,7 +12,7 @@ use Rattle.receiver.specs.Shown.{portIn, portShown, portsAnswer, portsOu
 use Rattle.receiver.specs.Starting.{freshPort, freshPorts, sizedAnswer, sizedFits, sizedRows, startAsAnswer, startAsRows, startFits, startRight, timesWithin}
 
 unfoldable pub receiverOpen : ℕ
-unfolding phasesOpen judgeOpen replyOpen dueIn fetchAnswer fetchOut fetchRecord fetchRows fits outIfDue recordOf reportIfDue rowsIfDue frameAnswer
+unfolding phasesOpen judgeOpen replyOpen causeAnswer causeFit causeIn causeOut dueIn fetchAnswer fetchOut fetchRecord fetchRows fits outIfDue recordOf reportIfDue rowsIfDue frameAnswer
     frameRows frameStore gatheredBy marksBy portRows refusalBy settledBy steadyRows storeBy takenRows takenStore fetchFits frameFits outputFor rowsFit
     frameInto framesInto outputBy outputOf replyPort replyPorts reportBy reportOf reportedOf rulingEpoch seenAll seenOf startsOf statePut statesPut
     statesWorkedOut withState portIn portShown portsAnswer portsOut replyAnswer replyFit replyOf replyOut shownFit freshPort freshPorts sizedAnswer
