@@ -28,6 +28,8 @@ void says_end(struct says *s)
     printf("\t%s", levelspruce_mark_name(a->mark));
     if (a->mark != LEVELSPRUCE_MARK_HELD)
         printf("\t%s\t%lu\t%s", a->first == a->last ? "bytes" : "bytes each", (unsigned long)a->bytes, a->right ? "as sent" : "not as sent");
+    if (a->cause != LEVELSPRUCE_CAUSE_NONE)
+        printf("\tcause\t%s", levelspruce_cause_text(a->cause));
     printf("\n");
     s->alike.some = 0;
 }
@@ -188,10 +190,10 @@ void says_ports(struct says *s, const uint8_t (*ports)[LEVELSPRUCE_PORT_BYTES], 
     s->rs_ack = rs_ack;
 }
 
-void says_report(struct says *s, uint64_t epoch, uint8_t mark, size_t bytes, int right)
+void says_report(struct says *s, uint64_t epoch, uint8_t mark, uint8_t cause, size_t bytes, int right)
 {
     struct alike *a = &s->alike;
-    int goes_on = a->some && !s->each && a->mark == mark && a->bytes == bytes && a->right == right && a->last + 1 == epoch;
+    int goes_on = a->some && !s->each && a->mark == mark && a->cause == cause && a->bytes == bytes && a->right == right && a->last + 1 == epoch;
 
     if (s->quiet)
         return;
@@ -199,6 +201,7 @@ void says_report(struct says *s, uint64_t epoch, uint8_t mark, size_t bytes, int
         says_end(s);
         a->first = epoch;
         a->mark = mark;
+        a->cause = cause;
         a->bytes = bytes;
         a->right = right;
         a->some = 1;

@@ -254,8 +254,14 @@ table =
     }
     ∷ record {
       name = "the record of a report";
-      given = recordOf (record { mark = 3; epoch = 200; x = 2; bytes = 24192 });
+      given = recordOf (record { mark = 3; epoch = 200; x = 2; cause = 0; bytes = 24192 });
       said = 3 ∷ 200 ∷ 2 ∷ 0 ∷ 0 ∷ 0 ∷ 0x5E ∷ 0x80 ∷ [];
+      equal = refl;
+    }
+    ∷ record {
+      name = "the record of a report that is held since numbers repeat";
+      given = recordOf (record { mark = 1; epoch = 200; x = 0; cause = 3; bytes = 0 });
+      said = 1 ∷ 200 ∷ 0 ∷ 3 ∷ 0 ∷ 0 ∷ 0 ∷ 0 ∷ [];
       equal = refl;
     }
     ∷ []

@@ -1,22 +1,18 @@
 -- The way back in one call: what the far end says in the epoch before the oldest one not yet reported, which after a report is the epoch just reported.
 use mathlib.Core.Bool.{Bool, _&&_}
 use mathlib.Core.List.{[], _∷_}
-use Prim.Native.Nat.{ℕ, zero, suc}
+use Prim.Native.Nat.{ℕ}
 use lib.ListN.{length}
 use Rattle.counting.specs.Words.{some}
 use Rattle.ground.specs.Plain.{if_then_else_, _==_}
 use Rattle.ground.specs.Types.{Bytes, Rows}
+pub use Rattle.judge.specs.Lowest.{lowest}
 use Rattle.phases.specs.Sizes.{portsIn}
 use Rattle.receiver.specs.Lengths.{rowsFit}
 use Rattle.receiver.specs.Report.{seenOf}
 use Rattle.receiver.specs.Seen.{carriedAt}
 use Rattle.rows.specs.declared.group.Group.{Group}
 use Rattle.rows.specs.Group.{groupAt}
-
--- the lowest number below n at which the test f holds, if it holds at one
-abbrev pub lowest : (n : ℕ) (f : ℕ → Bool) → ℕ
-lowest zero f = 0
-lowest (suc n) f = if some n f then lowest n f else n
 
 -- the packet that rules port i is whole and good
 abbrev pub goodAt : (g : Group) (s : Rows) (i : ℕ) → Bool
