@@ -213,6 +213,12 @@ const char *levelspruce_word_name(uint32_t word);
 const char *levelspruce_mark_name(uint32_t mark);
 
 /*
+ * What the cause of a report means, in one English line without its end. Any
+ * number has one; of a number that is no cause it says so.
+ */
+const char *levelspruce_cause_text(uint32_t cause);
+
+/*
  * The name of a port's member state: IDLE, FAIL or OK; of any other number,
  * unknown.
  */
@@ -1132,11 +1138,25 @@ uint8_t levelspruce_board_speak_whole(const uint8_t *board, size_t board_length,
 #define LEVELSPRUCE_MARK_SURE 3     /* the client's bytes */
 
 /* The bytes of a report's record. COUNT is the first of four, highest first:
- * how many bytes of the output belong to the report. Byte 3 is 0. */
+ * how many bytes of the output belong to the report. */
 #define LEVELSPRUCE_REPORT_MARK 0
 #define LEVELSPRUCE_REPORT_EPOCH 1
 #define LEVELSPRUCE_REPORT_X 2
+#define LEVELSPRUCE_REPORT_CAUSE 3
 #define LEVELSPRUCE_REPORT_COUNT 4
+
+/* The causes of a mark: which clause decided. Where several hold it is the
+ * first, in this order; of a fixed group UNSEEN comes first, and GID and EOS
+ * are never the cause. A report is held by REFUSED to EOS and doubtful by the
+ * other two; one of a fixed group is held by any. */
+#define LEVELSPRUCE_CAUSE_NONE 0     /* sure, or none is due */
+#define LEVELSPRUCE_CAUSE_REFUSED 1  /* a whole ruling packet was refused */
+#define LEVELSPRUCE_CAUSE_LACKING 2  /* an active port lacks a frame */
+#define LEVELSPRUCE_CAUSE_REPEATED 3 /* active and DNU ports share a number */
+#define LEVELSPRUCE_CAUSE_GID 4      /* GID differs among ports not IDLE */
+#define LEVELSPRUCE_CAUSE_EOS 5      /* EOS is not on the highest active alone */
+#define LEVELSPRUCE_CAUSE_UNSEEN 6   /* a port has no whole ruling packet */
+#define LEVELSPRUCE_CAUSE_NUMBERS 7  /* the numbers are not 0 to n - 1 */
 
 /* Member states of a port, worked out at each report. */
 #define LEVELSPRUCE_PORT_IDLE 0
@@ -1314,11 +1334,12 @@ uint8_t levelspruce_receiver_frame(uint8_t (*state)[LEVELSPRUCE_ROW_BYTES],
  *   NONE       none is due: the other bytes of report are 0, and neither state
  *              nor out changes
  *   HELD       X and the count are 0, and no byte of out changes; the window
- *              moves on, and member states and RS-Ack are worked out
+ *              moves on, and member states and RS-Ack are worked out. The
+ *              cause says why, by the LEVELSPRUCE_CAUSE_ numbers
  *   DOUBTFUL   the first 16 * X * P bytes of out are sixteen group frames of
  *              X * P bytes, of VC-12 the first 32 * X * P are 32 of them, and
- *              the rest of out stays; for the state as HELD
- *   SURE       as DOUBTFUL
+ *              the rest of out stays; for state and cause as HELD
+ *   SURE       as DOUBTFUL, with no cause
  */
 LEVELSPRUCE_MUST_USE
 uint8_t levelspruce_receiver_fetch(uint8_t (*state)[LEVELSPRUCE_ROW_BYTES],

@@ -349,6 +349,8 @@ static void fetch(void)
             first_reported = epoch;
         marks[epoch] = report[LEVELSPRUCE_REPORT_MARK];
         right[epoch] = marks[epoch] == SURE ? x == count && bytes == EPOCH * count * P && are_clients(epoch) : x == 0 && bytes == 0;
+        right[epoch] = right[epoch] && (report[LEVELSPRUCE_REPORT_CAUSE] == LEVELSPRUCE_CAUSE_NONE) == (marks[epoch] == SURE)
+            && report[LEVELSPRUCE_REPORT_CAUSE] != LEVELSPRUCE_CAUSE_GID && report[LEVELSPRUCE_REPORT_CAUSE] != LEVELSPRUCE_CAUSE_EOS;
         reported++;
         silent = silent && (reported % 8 != 1 || replies_nothing());
     }

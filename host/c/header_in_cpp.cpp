@@ -72,6 +72,7 @@ int main()
                                                                             && std::strcmp(version, levelspruce_version()) == 0);
     check("a C++ program gets the texts",
           std::strcmp(levelspruce_answer_text(LEVELSPRUCE_ANSWER_DONE), "done") == 0
+              && std::strcmp(levelspruce_cause_text(LEVELSPRUCE_CAUSE_LACKING), "an active port lacks a frame") == 0
               && std::strcmp(levelspruce_word_name(LEVELSPRUCE_WORD_EOS), "EOS") == 0
               && std::strcmp(levelspruce_mark_name(LEVELSPRUCE_MARK_SURE), "sure") == 0);
     return tally();

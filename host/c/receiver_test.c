@@ -111,7 +111,9 @@ static int started(uint32_t ports, uint32_t payload_bytes, uint32_t window)
     return say(START, ports, payload_bytes, window) == 0;
 }
 
-/* What ports send. */
+/* What ports send. A word that is more by OTHER_GID goes with the other GID. */
+enum { OTHER_GID = 256 };
+
 struct source {
     uint32_t word, number;
 };
@@ -133,7 +135,7 @@ static uint8_t h4_of(uint32_t tag, struct source s)
 {
     uint8_t h4[LEVELSPRUCE_PACKET_BYTES];
 
-    if (levelspruce_packet_write(epoch_of(tag % TAGS), s.word, 1, 255, 0, s.number, 0, h4, sizeof h4) != LEVELSPRUCE_ANSWER_DONE)
+    if (levelspruce_packet_write(epoch_of(tag % TAGS), s.word % OTHER_GID, 1 - s.word / OTHER_GID, 255, 0, s.number, 0, h4, sizeof h4) != LEVELSPRUCE_ANSWER_DONE)
         check("a packet is written", 0);
     return h4[(tag + 8) % EPOCH];
 }
@@ -169,11 +171,12 @@ static int into_step(uint32_t port, uint32_t first)
     return hands(port, first, first + INTO_STEP - 1, 12) && hands(port, first + INTO_STEP - 1, first + INTO_STEP, 0);
 }
 
-/* Fetches; whether the report has this mark and epoch and, if not held, this X and a byte count to go with it. */
+/* Fetches; whether the report has this mark and epoch and, if not held, this X and a byte count to go with it. Held ones are so for a refused packet. */
 static int fetched(int mark, uint32_t epoch, uint32_t x)
 {
     return say(FETCH, 0, 0, 0) == 0 && RECORD[LEVELSPRUCE_REPORT_MARK] == mark && RECORD[LEVELSPRUCE_REPORT_EPOCH] == epoch
-        && RECORD[LEVELSPRUCE_REPORT_X] == x && RECORD[3] == 0 && report_bytes() == EPOCH * x * p;
+        && RECORD[LEVELSPRUCE_REPORT_X] == x && report_bytes() == EPOCH * x * p
+        && RECORD[LEVELSPRUCE_REPORT_CAUSE] == (mark == HELD ? LEVELSPRUCE_CAUSE_REFUSED : LEVELSPRUCE_CAUSE_NONE);
 }
 
 static int none_due(void)
@@ -554,6 +557,29 @@ static void window(void)
     check("an output longer than need be is right", full() && off(FETCH, 0, 0, 0, offsetof(struct given, out), 100) == 0 && RECORD[LEVELSPRUCE_REPORT_MARK] == SURE);
 }
 
+/* Two ports send these from the start on; whether the first report has this mark and cause. */
+static int caused(struct source a, struct source b, int mark, int cause)
+{
+    uint32_t tag;
+    int held = started(2, 2, 64);
+
+    for (tag = 0; tag < 72 && held; tag++)
+        held = hand(0, tag, a, 2) == (tag < 31 ? 12 : 0) && hand(1, tag, b, 2) == (tag < 31 ? 12 : 0);
+    return held && say(FETCH, 0, 0, 0) == 0 && RECORD[LEVELSPRUCE_REPORT_MARK] == mark && RECORD[LEVELSPRUCE_REPORT_EPOCH] == 4
+        && RECORD[LEVELSPRUCE_REPORT_X] == (mark == HELD ? 0 : 2) && RECORD[LEVELSPRUCE_REPORT_CAUSE] == cause;
+}
+
+static void causes(void)
+{
+    const struct source norm = { N, 0 }, last = { E, 1 }, same = { E, 0 }, other = { E + OTHER_GID, 1 }, above = { N, 1 }, gap = { E, 2 };
+
+    check("a sure report has no cause", caused(norm, last, SURE, LEVELSPRUCE_CAUSE_NONE));
+    check("held since numbers repeat, since GID differs, since EOS is below the highest", caused(norm, same, HELD, LEVELSPRUCE_CAUSE_REPEATED)
+          && caused(norm, other, HELD, LEVELSPRUCE_CAUSE_GID) && caused(same, above, HELD, LEVELSPRUCE_CAUSE_EOS));
+    check("of two clauses the first is named", caused(same, same, HELD, LEVELSPRUCE_CAUSE_REPEATED));
+    check("doubtful with a gap in the numbers", caused(norm, gap, DOUBTFUL, LEVELSPRUCE_CAUSE_NUMBERS));
+}
+
 /* Three ports behind delays that differ by W-16. */
 enum { DELAYS = 3, P3 = 5, W3 = 64 };
 /* Frame times to the first report at the latest: the slowest port's delay, 47 frames to its step, the next epoch's start
@@ -601,7 +627,10 @@ static void take_reports(void)
         line.marks[mark & 3]++;
         line.held = mark <= SURE && (line.next == 256 || line.next == epoch) && report_bytes() == EPOCH * x * P3
             && x == (mark == SURE ? 3 : mark == HELD ? 0 : 2) && output_is(epoch, x) && (mark != HELD || untouched(&out))
-            && (line.damaged > 255 || (mark == HELD) == (epoch == (line.damaged + 1) % 256));
+            && (line.damaged > 255 || (mark == HELD) == (epoch == (line.damaged + 1) % 256))
+            && RECORD[LEVELSPRUCE_REPORT_CAUSE] == (mark == SURE ? LEVELSPRUCE_CAUSE_NONE
+                                                    : mark == DOUBTFUL ? LEVELSPRUCE_CAUSE_UNSEEN
+                                                    : line.damaged > 255 ? LEVELSPRUCE_CAUSE_LACKING : LEVELSPRUCE_CAUSE_REFUSED);
         line.next = (epoch + 1) % 256;
     }
 }
@@ -862,6 +891,7 @@ int main(void)
     other_numbers();
     beginning();
     window();
+    causes();
     link_of_three();
     waiting();
     odd_states();

@@ -38,6 +38,24 @@ static int named_so(const char *(*name)(uint32_t), const char *const *names, uin
     return strcmp(name(count), "unknown") == 0;
 }
 
+static void causes(void)
+{
+    static const uint32_t beyond[] = { LEVELSPRUCE_CAUSE_NUMBERS + 1, 255, 256 + LEVELSPRUCE_CAUSE_GID, 0xFFFFFFFFu };
+    uint32_t i;
+    int lines = 1, same = 1;
+
+    for (i = 0; i < 300; i++)
+        lines = lines && is_line(levelspruce_cause_text(i));
+    for (i = 0; i < COUNT(beyond); i++)
+        same = same && strcmp(levelspruce_cause_text(beyond[i]), "no report has this cause") == 0;
+    check("every cause has a text of one line", lines);
+    check("the causes of reports have different texts", all_differ(levelspruce_cause_text, LEVELSPRUCE_CAUSE_NUMBERS + 1)
+                                                            && strcmp(levelspruce_cause_text(LEVELSPRUCE_CAUSE_NONE), "none") == 0
+                                                            && strcmp(levelspruce_cause_text(LEVELSPRUCE_CAUSE_REFUSED), "a ruling packet was refused") == 0
+                                                            && strcmp(levelspruce_cause_text(LEVELSPRUCE_CAUSE_NUMBERS), "the numbers are not 0 to n - 1") == 0);
+    check("a number that is no cause is said to be none", same);
+}
+
 static void names(void)
 {
     static const char *const marks[] = { "none", "held", "doubtful", "sure" };
@@ -78,6 +96,7 @@ int main(void)
     for (i = 0; i < COUNT(words); i++)
         named = named && strcmp(levelspruce_word_name(words[i].word), words[i].name) == 0;
     check("the control words have their names, and all others none", named);
+    causes();
     names();
     return tally();
 }

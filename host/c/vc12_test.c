@@ -707,10 +707,11 @@ static int arrives(uint8_t payload[LAST][EPOCH][PORTS][P], const uint32_t *delay
 
             held = held && next < LAST && report[LEVELSPRUCE_REPORT_EPOCH] == (FIRST + next) % EPOCHS;
             if (is_held)
-                held = held && report[LEVELSPRUCE_REPORT_MARK] == LEVELSPRUCE_MARK_HELD && bytes == 0;
+                held = held && report[LEVELSPRUCE_REPORT_MARK] == LEVELSPRUCE_MARK_HELD && bytes == 0
+                    && report[LEVELSPRUCE_REPORT_CAUSE] == LEVELSPRUCE_CAUSE_REFUSED;
             else
                 held = held && report[LEVELSPRUCE_REPORT_MARK] == LEVELSPRUCE_MARK_SURE && report[LEVELSPRUCE_REPORT_X] == 3
-                    && bytes == EPOCH * MOST && are_clients(next);
+                    && report[LEVELSPRUCE_REPORT_CAUSE] == LEVELSPRUCE_CAUSE_NONE && bytes == EPOCH * MOST && are_clients(next);
             next++;
         }
     }

@@ -37,6 +37,7 @@ struct Both {
 struct Seen {
     calls: u64,
     marks: [u64; 4],
+    causes: [u64; 8],
     begins: u64,
     stops: u64,
     joins: u64,
@@ -99,7 +100,7 @@ type Given = (u8, Vec<u8>, Vec<[u8; 8]>, Vec<u8>, Option<(&'static str, usize)>)
 const SMALL: usize = 1 << 14;
 
 fn record(report: Report) -> Vec<u8> {
-    let mut bytes = vec![report.mark, report.epoch, report.x as u8, 0];
+    let mut bytes = vec![report.mark, report.epoch, report.x as u8, report.cause];
     bytes.extend((report.bytes as u32).to_be_bytes());
     bytes
 }
@@ -247,6 +248,7 @@ impl Both {
         let card_answer = card::receiver_fetch(&mut self.rows[1][..rows], &self.stores[1][..store], &mut b[..out], &mut by_card);
         seen.calls += 1;
         seen.marks[usize::from(report.mark)] += 1;
+        seen.causes[usize::from(report.cause)] += 1;
         let [reference, card] = self.both(random, seen.calls, [answer, card_answer], [by_reference, by_card]);
         seen.turns += u64::from(ack != self.rows[0][0][11]);
         if report != Report::NONE {
@@ -357,7 +359,7 @@ pub fn compare(count: &mut Count, hosts: u64) {
     let events = [seen.begins, seen.stops, seen.joins_later, seen.turns].iter().all(|times| *times > 100) && seen.old_marks > 5;
     let steps = seen.breaks.iter().chain([&seen.odd_packets, &seen.fourth_breaks, &seen.second_odd_packets]).all(|times| *times > 100);
     let waits = [seen.held_off, seen.restoring, seen.fell, seen.restored].iter().all(|times| *times > 20);
-    count.note("all that can happen to a receiver happens there", events && steps && waits && seen.marks.iter().all(|times| *times > 200));
+    count.note("all that can happen to a receiver happens there", events && steps && waits && seen.marks.iter().all(|times| *times > 200) && seen.causes.iter().all(|times| *times > 20));
 
     let mut seen = Seen::default();
     let mut tests = Tests { frames: Test::new("frames on states that no call wrote"), fetches: Test::new("fetches from such states") };
@@ -389,7 +391,7 @@ fn vc12(count: &mut Count, hosts: u64) {
     let events = [seen.begins, seen.stops, seen.joins_later, seen.turns].iter().all(|times| *times > 100) && seen.old_marks > 5;
     let steps = [seen.other_counts, seen.early_starts, seen.left_out_starts].iter().all(|times| *times > 100);
     let waits = [seen.held_off, seen.restoring, seen.fell, seen.restored].iter().all(|times| *times > 20);
-    count.note("all that can happen to a group of VC-12 happens there", events && steps && waits && seen.marks.iter().all(|times| *times > 200));
+    count.note("all that can happen to a group of VC-12 happens there", events && steps && waits && seen.marks.iter().all(|times| *times > 200) && seen.causes.iter().all(|times| *times > 20));
 
     let mut seen = Seen::default();
     let mut tests = Tests { frames: Test::new("frames on states of VC-12 that no call wrote"), fetches: Test::new("fetches from these, of VC-12") };

@@ -210,7 +210,7 @@ static void fetch(struct lent *l, struct program *g)
     struct block state = lend_state(l, g), store = lend(STORE, l->store, about(g, l->store.length));
     struct block out = lend(OUT, nothing, about(g, (size_t)l->ports * epoch_frames(l) * l->payload));
     struct block report = lend(RESULT, nothing, about(g, LEVELSPRUCE_REPORT_BYTES));
-    uint8_t answer, mark;
+    uint8_t answer, mark, cause;
     size_t bytes;
 
     answer = levelspruce_receiver_fetch(rows_of(state), state.length / 16, store.bytes, store.length, out.bytes, out.length, report.bytes, report.length);
@@ -218,7 +218,9 @@ static void fetch(struct lent *l, struct program *g)
         fail("an answer that a fetch does not have");
     mark = answer == 0 ? report.bytes[LEVELSPRUCE_REPORT_MARK] : 0;
     bytes = answer == 0 ? (size_t)report.bytes[4] << 24 | (size_t)report.bytes[5] << 16 | (size_t)report.bytes[6] << 8 | report.bytes[7] : 0;
-    if (mark > LEVELSPRUCE_MARK_SURE || bytes > out.length || (mark < LEVELSPRUCE_MARK_DOUBTFUL && bytes != 0))
+    cause = answer == 0 ? report.bytes[LEVELSPRUCE_REPORT_CAUSE] : 0;
+    if (mark > LEVELSPRUCE_MARK_SURE || bytes > out.length || (mark < LEVELSPRUCE_MARK_DOUBTFUL && bytes != 0) || cause > LEVELSPRUCE_CAUSE_NUMBERS
+        || (cause == LEVELSPRUCE_CAUSE_NONE) != (mark == LEVELSPRUCE_MARK_NONE || mark == LEVELSPRUCE_MARK_SURE))
         fail("a report that cannot be");
     if (l->kind == LEVELSPRUCE_KIND_FIXED && !l->damaged && (mark == LEVELSPRUCE_MARK_DOUBTFUL
         || (mark == LEVELSPRUCE_MARK_SURE && report.bytes[LEVELSPRUCE_REPORT_X] != l->ports)))

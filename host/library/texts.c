@@ -1,4 +1,4 @@
-/* The texts of the library: its version, what an answer means, the names of control words, marks, states and waits. Nothing
+/* The texts of the library: its version, what an answer and a cause mean, the names of control words, marks, states and waits. Nothing
  * else of it is C. */
 #include <levelspruce.h>
 
@@ -44,6 +44,30 @@ const char *levelspruce_answer_text(uint32_t answer)
         return "a slot to be released is not IDLE";
     default:
         return "no call answers this number";
+    }
+}
+
+const char *levelspruce_cause_text(uint32_t cause)
+{
+    switch (cause) {
+    case LEVELSPRUCE_CAUSE_NONE:
+        return "none";
+    case LEVELSPRUCE_CAUSE_REFUSED:
+        return "a ruling packet was refused";
+    case LEVELSPRUCE_CAUSE_LACKING:
+        return "an active port lacks a frame";
+    case LEVELSPRUCE_CAUSE_REPEATED:
+        return "numbers of active and DNU ports repeat";
+    case LEVELSPRUCE_CAUSE_GID:
+        return "GID differs among ports that are not IDLE";
+    case LEVELSPRUCE_CAUSE_EOS:
+        return "EOS is not on the highest active port alone";
+    case LEVELSPRUCE_CAUSE_UNSEEN:
+        return "a port has no whole ruling packet";
+    case LEVELSPRUCE_CAUSE_NUMBERS:
+        return "the numbers are not 0 to n - 1";
+    default:
+        return "no report has this cause";
     }
 }
 

@@ -141,6 +141,7 @@ int receiving_fetch(struct receiving *r, struct report *report)
     report->mark = record[LEVELSPRUCE_REPORT_MARK];
     report->number = record[LEVELSPRUCE_REPORT_EPOCH];
     report->x = record[LEVELSPRUCE_REPORT_X];
+    report->cause = record[LEVELSPRUCE_REPORT_CAUSE];
     report->bytes = (size_t)count[0] << 24 | (size_t)count[1] << 16 | (size_t)count[2] << 8 | count[3];
     return report->mark != LEVELSPRUCE_MARK_NONE;
 }

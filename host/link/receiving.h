@@ -27,7 +27,7 @@ struct receiving {
 };
 
 struct report {
-    uint8_t mark, number, x;
+    uint8_t mark, number, x, cause;
     size_t bytes; /* of out */
 };
 

@@ -28,6 +28,8 @@ void says_end(struct says *s)
     printf("\t%s", levelspruce_mark_name(a->mark));
     if (a->mark != LEVELSPRUCE_MARK_HELD)
         printf("\t%s\t%lu\t%s", a->first == a->last ? "bytes" : "bytes each", (unsigned long)a->bytes, a->right ? "as sent" : "not as sent");
+    if (a->cause != LEVELSPRUCE_CAUSE_NONE)
+        printf("\tcause\t%s", levelspruce_cause_text(a->cause));
     printf("\n");
     s->alike.some = 0;
 }
@@ -113,23 +115,28 @@ void says_wait(struct says *s, const uint8_t *board, const char *closed_by)
     s->wait = board[LEVELSPRUCE_BOARD_WAIT];
 }
 
-/* The slots' changes, as lines. The wait has been told when it opened or closed. */
-static void says_changes(uint8_t *changes)
+/* The slots whose word or number has changed since the board told last, a line each: the lines of levelspruce_board_speak, which are not
+ * asked for here, so that the link needs the calls of one crate alone. The wait has been told when it opened or closed. */
+static void says_changes(const uint8_t *told, const uint8_t *going)
 {
-    static uint8_t text[LEVELSPRUCE_SPEECH_BYTES];
-    size_t written;
+    size_t row;
 
-    changes[LEVELSPRUCE_CHANGES_WAIT] = LEVELSPRUCE_WAIT_SAME;
-    must(levelspruce_board_speak(changes, LEVELSPRUCE_CHANGES_BYTES, text, sizeof text, &written), "the lines of changes");
-    fwrite(text, 1, written, stdout);
+    for (row = LEVELSPRUCE_BOARD_ROWS; row < LEVELSPRUCE_BOARD_BYTES; row += 2)
+        if (memcmp(told + row, going + row, 2) != 0)
+            printf("slot\t%lu\twas\t%s\t%d\tnow\t%s\t%d\n", (unsigned long)(row - LEVELSPRUCE_BOARD_ROWS) / 2, levelspruce_word_name(told[row]),
+                   told[row + 1], levelspruce_word_name(going[row]), going[row + 1]);
 }
 
-void says_start(struct says *s, uint64_t epoch, uint32_t x, size_t bytes, uint8_t *changes)
+void says_start(struct says *s, uint64_t epoch, uint32_t x, size_t bytes, const uint8_t *going)
 {
-    if ((s->x == x && changes[LEVELSPRUCE_CHANGES_COUNT] == 0) || !talks(s))
+    uint8_t told[LEVELSPRUCE_BOARD_BYTES];
+
+    memcpy(told, s->going, sizeof told);
+    memcpy(s->going, going, sizeof s->going);
+    if ((s->x == x && memcmp(told + LEVELSPRUCE_BOARD_ROWS, going + LEVELSPRUCE_BOARD_ROWS, sizeof told - LEVELSPRUCE_BOARD_ROWS) == 0) || !talks(s))
         return;
     printf("start\tepoch\t%" PRIu64 "\tmembers\t%" PRIu32 "\tbytes\t%lu\n", epoch, x, (unsigned long)bytes);
-    says_changes(changes);
+    says_changes(told, going);
     s->x = x;
 }
 
@@ -183,10 +190,10 @@ void says_ports(struct says *s, const uint8_t (*ports)[LEVELSPRUCE_PORT_BYTES], 
     s->rs_ack = rs_ack;
 }
 
-void says_report(struct says *s, uint64_t epoch, uint8_t mark, size_t bytes, int right)
+void says_report(struct says *s, uint64_t epoch, uint8_t mark, uint8_t cause, size_t bytes, int right)
 {
     struct alike *a = &s->alike;
-    int goes_on = a->some && !s->each && a->mark == mark && a->bytes == bytes && a->right == right && a->last + 1 == epoch;
+    int goes_on = a->some && !s->each && a->mark == mark && a->cause == cause && a->bytes == bytes && a->right == right && a->last + 1 == epoch;
 
     if (s->quiet)
         return;
@@ -194,6 +201,7 @@ void says_report(struct says *s, uint64_t epoch, uint8_t mark, size_t bytes, int
         says_end(s);
         a->first = epoch;
         a->mark = mark;
+        a->cause = cause;
         a->bytes = bytes;
         a->right = right;
         a->some = 1;

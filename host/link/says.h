@@ -9,7 +9,7 @@
 /* Reports in a row that say the same. */
 struct alike {
     uint64_t first, last;
-    uint8_t mark;
+    uint8_t mark, cause;
     size_t bytes;
     int right;
     int some; /* whether there is one */
@@ -40,9 +40,9 @@ void says_command(struct says *s, const char *command, uint32_t slot, uint8_t an
  * that. */
 void says_wait(struct says *s, const uint8_t *board, const char *closed_by);
 
-/* An epoch starts at the sender: its members, the bytes it carries, and these changes of the board that goes out, where
+/* An epoch starts at the sender: its members, the bytes it carries, and the changes to this board, which goes out, where
  * something has changed. */
-void says_start(struct says *s, uint64_t epoch, uint32_t x, size_t bytes, uint8_t *changes);
+void says_start(struct says *s, uint64_t epoch, uint32_t x, size_t bytes, const uint8_t *going);
 
 /* What came back from the far end, in the packet of that epoch of its own. */
 void says_told(struct says *s, uint64_t epoch, uint32_t mst, uint32_t rs_ack);
@@ -50,8 +50,8 @@ void says_told(struct says *s, uint64_t epoch, uint32_t mst, uint32_t rs_ack);
 /* What the receiver's ports and its reply have that they had not when this was last called. */
 void says_ports(struct says *s, const uint8_t (*ports)[LEVELSPRUCE_PORT_BYTES], uint8_t rs_ack, uint64_t time);
 
-/* The report of an epoch. Those that say the same stand in one line, which is printed before the next other one. */
-void says_report(struct says *s, uint64_t epoch, uint8_t mark, size_t bytes, int right);
+/* The report of an epoch, and why it is held or doubtful. Those that say the same stand in one line, which is printed before the next other one. */
+void says_report(struct says *s, uint64_t epoch, uint8_t mark, uint8_t cause, size_t bytes, int right);
 
 /* Says the reports that are not said yet. */
 void says_end(struct says *s);

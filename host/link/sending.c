@@ -80,8 +80,8 @@ static void write_packets(struct sending *s)
         must(levelspruce_sender_packet(s->state, sizeof s->state, slot, s->packets[slot], s->choices->frames), "levelspruce_sender_packet");
 }
 
-/* An epoch of a group with LCAS; the changes of the board that goes out with it. */
-static void start_epoch(struct sending *s, uint64_t epoch, struct says *says, uint8_t *changes)
+/* An epoch of a group with LCAS; the board that goes out with it. */
+static void start_epoch(struct sending *s, uint64_t epoch, struct says *says, uint8_t *going)
 {
     const struct choices *c = s->choices;
 
@@ -94,7 +94,7 @@ static void start_epoch(struct sending *s, uint64_t epoch, struct says *says, ui
     must(levelspruce_sender_start_epoch(s->state, sizeof s->state, next_gid(s), 0xFF, 0), "levelspruce_sender_start_epoch");
     write_packets(s);
     must(levelspruce_sender_ranks(s->state, sizeof s->state, s->ranks, sizeof s->ranks), "levelspruce_sender_ranks");
-    must(levelspruce_sender_changes(s->state, sizeof s->state, says->going, sizeof says->going, changes, LEVELSPRUCE_CHANGES_BYTES), "levelspruce_sender_changes");
+    must(levelspruce_sender_board_going(s->state, sizeof s->state, going, LEVELSPRUCE_BOARD_BYTES), "levelspruce_sender_board_going");
 }
 
 /* An epoch of a group without LCAS: every slot carries payload from the first frame on, and its number is its rank. Where the numbers are
@@ -115,17 +115,18 @@ static void start_fixed_epoch(struct sending *s, uint64_t epoch)
 void sending_start_epoch(struct sending *s, uint64_t epoch, const struct client *client, struct says *says)
 {
     struct carried *carried = &s->carried[epoch % CARRIED_MOST];
-    uint8_t changes[LEVELSPRUCE_CHANGES_BYTES] = { 0 }; /* none, where there is no board */
+    uint8_t going[LEVELSPRUCE_BOARD_BYTES];
 
+    memcpy(going, says->going, sizeof going); /* the one told last, where no board goes out */
     if (s->choices->fixed)
         start_fixed_epoch(s, epoch);
     else
-        start_epoch(s, epoch, says, changes);
+        start_epoch(s, epoch, says, going);
     s->frame_bytes = (size_t)s->ranks[LEVELSPRUCE_RANKS_X] * s->choices->payload;
     carried->epoch = epoch;
     carried->from = client->sent;
     carried->bytes = s->choices->frames * s->frame_bytes;
-    says_start(says, epoch, s->ranks[LEVELSPRUCE_RANKS_X], carried->bytes, changes);
+    says_start(says, epoch, s->ranks[LEVELSPRUCE_RANKS_X], carried->bytes, going);
 }
 
 /* Spreads the group frame once for all members. levelspruce_sender_payload gives the same bytes slot by slot, more slowly. */

@@ -404,19 +404,34 @@ fn read(kind: u32, nibbles: &[u8; 16], epoch: u8) -> Option<(u8, u8, u8)> {
     (answer == packet::DONE && mfi2 == epoch).then_some((word, gid, number))
 }
 
+/// The clauses of 01's "Report of an epoch", in its order.
+pub const CAUSE_REFUSED: u8 = 1;
+pub const CAUSE_LACKING: u8 = 2;
+pub const CAUSE_REPEATED: u8 = 3;
+pub const CAUSE_GID: u8 = 4;
+pub const CAUSE_EOS: u8 = 5;
+pub const CAUSE_UNSEEN: u8 = 6;
+pub const CAUSE_NUMBERS: u8 = 7;
+
+/// The first clause that holds, or none.
+fn first_of(clauses: &[(u8, bool)]) -> u8 {
+    clauses.iter().find(|(_, holds)| *holds).map_or(0, |(cause, _)| *cause)
+}
+
 /// What a fetch reports.
 #[derive(Clone, Copy, PartialEq, Eq, Debug)]
 pub struct Report {
     /// None due, held, doubtful or sure.
     pub mark: u8,
     pub epoch: u8,
-    /// The active ports joined, and the bytes written.
+    /// The active ports joined, the clause that decided (0 none), and the bytes written.
     pub x: usize,
+    pub cause: u8,
     pub bytes: usize,
 }
 
 impl Report {
-    pub const NONE: Report = Report { mark: NONE_DUE, epoch: 0, x: 0, bytes: 0 };
+    pub const NONE: Report = Report { mark: NONE_DUE, epoch: 0, x: 0, cause: 0, bytes: 0 };
 }
 
 /// What is shown of a port.
@@ -663,7 +678,7 @@ impl Receiver {
         if !self.gathered.is_set() || !self.is_due() {
             return (0, Report::NONE);
         }
-        let (mark, ranked) = self.judge();
+        let (cause, mark, ranked) = self.judge();
         let x = ranked.len();
         let frames = self.clock().frames;
         for k in 0..frames {
@@ -671,7 +686,7 @@ impl Receiver {
                 output[k * x * self.payload + p] = store[self.place(ranked[p % x], k) + p / x];
             }
         }
-        let report = Report { mark, epoch: self.oldest, x, bytes: frames * x * self.payload };
+        let report = Report { mark, epoch: self.oldest, x, cause, bytes: frames * x * self.payload };
         self.take_packets(store);
         self.work_out_states();
         self.pass();
@@ -685,26 +700,29 @@ impl Receiver {
         whole.map(|i| (i, read(self.kind, &self.ports[i].ruling, ruled_by))).collect()
     }
 
-    /// Held, doubtful or sure, and the ports to join in the order of their ranks (none if held).
-    fn judge(&self) -> (u8, Vec<usize>) {
+    /// Why, held, doubtful or sure, and the ports to join in the order of their ranks (none if held).
+    fn judge(&self) -> (u8, u8, Vec<usize>) {
         if self.kind == KIND_FIXED { self.judge_fixed() } else { self.judge_lcas() }
     }
 
     /// "The ports' numbers must be exactly 0 to X-1 or the epoch is held", and "a set number of ports never changes while running", so
     /// X is all ports. A port whose packet is not there or was refused has no number.
-    fn judge_fixed(&self) -> (u8, Vec<usize>) {
-        let mut numbered: Vec<(u8, usize)> = self.whole().iter().filter_map(|(i, packet)| packet.map(|(_, _, number)| (number, *i))).collect();
+    fn judge_fixed(&self) -> (u8, u8, Vec<usize>) {
+        let whole = self.whole();
+        let mut numbered: Vec<(u8, usize)> = whole.iter().filter_map(|(i, packet)| packet.map(|(_, _, number)| (number, *i))).collect();
         numbered.sort();
         let numbers: Vec<usize> = numbered.iter().map(|(number, _)| usize::from(*number)).collect();
-        let exact = numbers == (0..self.ports.len()).collect::<Vec<usize>>();
-        if exact && self.ports.iter().all(Port::brought) {
-            (SURE, numbered.iter().map(|(_, i)| *i).collect())
-        } else {
-            (HELD, Vec::new())
-        }
+        let cause = first_of(&[
+            (CAUSE_UNSEEN, whole.len() < self.ports.len()),
+            (CAUSE_REFUSED, numbered.len() < whole.len()),
+            (CAUSE_LACKING, numbered.iter().any(|(_, i)| !self.ports[*i].brought())),
+            (CAUSE_REPEATED, numbers.windows(2).any(|pair| pair[0] == pair[1])),
+            (CAUSE_NUMBERS, numbers != (0..self.ports.len()).collect::<Vec<usize>>()),
+        ]);
+        if cause == 0 { (cause, SURE, numbered.iter().map(|(_, i)| *i).collect()) } else { (cause, HELD, Vec::new()) }
     }
 
-    fn judge_lcas(&self) -> (u8, Vec<usize>) {
+    fn judge_lcas(&self) -> (u8, u8, Vec<usize>) {
         let whole = self.whole();
         let some_missing = whole.len() < self.ports.len();
         let some_refused = whole.iter().any(|(_, packet)| packet.is_none());
@@ -726,12 +744,20 @@ impl Receiver {
         let end_right = ends.len() == 1 && ends[0] == active[active.len() - 1].0;
         let end_wrong = !active.is_empty() && !end_right && !(ends.is_empty() && some_missing);
 
-        if some_refused || lacks_frame || repeats || gid_differs || end_wrong {
-            return (HELD, Vec::new());
+        let held = first_of(&[
+            (CAUSE_REFUSED, some_refused),
+            (CAUSE_LACKING, lacks_frame),
+            (CAUSE_REPEATED, repeats),
+            (CAUSE_GID, gid_differs),
+            (CAUSE_EOS, end_wrong),
+        ]);
+        if held > 0 {
+            return (held, HELD, Vec::new());
         }
         let in_order = numbers.iter().enumerate().all(|(i, number)| usize::from(*number) == i);
-        let mark = if some_missing || !in_order { DOUBTFUL } else { SURE };
-        (mark, active.iter().map(|a| a.1).collect())
+        let doubted = first_of(&[(CAUSE_UNSEEN, some_missing), (CAUSE_NUMBERS, !in_order)]);
+        let mark = if doubted > 0 { DOUBTFUL } else { SURE };
+        (doubted, mark, active.iter().map(|a| a.1).collect())
     }
 
     fn work_out_states(&mut self) {

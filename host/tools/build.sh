@@ -12,11 +12,22 @@ is_made() {
 # The library's version, as its header has it.
 version() { sed -n 's/^#define LEVELSPRUCE_VERSION "\(.*\)"$/\1/p' include/levelspruce.h; }
 
-# build_archive: the archive of what is proved and of the texts.
-build_archive() {
+# build_texts: the texts, for programs that are linked with the calls of one crate, and for the archive.
+build_texts() {
+    mkdir -p target/staticlib
     # shellcheck disable=SC2086
-    $archive_compiler -std=c99 $strict -O2 -fPIC -c host/library/texts.c -o target/staticlib/texts.o &&
-        cp "$proved" "$archive.new" && "$archive_ar" rs "$archive.new" target/staticlib/texts.o && mv "$archive.new" "$archive"
+    $archive_compiler -std=c99 $strict -O2 -fPIC -c host/library/texts.c -o "$texts"
+}
+
+# build_archive: the library. Each crate's calls are a member of their own, with what they reach inside it, and show no other names: a
+# program that is linked with the library takes those members that it calls.
+build_archive() {
+    rm -rf "$archive.new" target/staticlib/members && mkdir target/staticlib/members || return
+    for one_face in $faces; do
+        "$archive_ar" x --output target/staticlib/members "$(proved_of "$one_face")" || return
+    done
+    # shellcheck disable=SC2046
+    "$archive_ar" rcs "$archive.new" $(printf 'target/staticlib/members/%s.o ' $faces) "$texts" && mv "$archive.new" "$archive"
 }
 
 # The first two numbers of the version: with another of them calls may have changed.
@@ -38,7 +49,7 @@ build_choices() {
         host/link/random.c -o "target/host/choices.$$" && mv "target/host/choices.$$" target/host/choices
 }
 
-# build_c NAME SOURCE WORD..: a C program over the archive.
+# build_c NAME SOURCE WORD..: a C program over the library.
 build_c() {
     c_name=$1 c_source=$2
     shift 2
@@ -50,36 +61,36 @@ build_c() {
 # build_link: the example link.
 build_link() {
     mkdir -p target/host
-    # shellcheck disable=SC2086
-    $archive_compiler -std=c99 $strict -O2 host/link/*.c "$archive" -o target/host/link
-}
-
-# build_speak: the session told to a listener.
-build_speak() {
-    mkdir -p target/host
-    # shellcheck disable=SC2086
-    $archive_compiler -std=c99 $strict -O2 host/speak/*.c host/fields/*.c "$archive" -o target/host/speak
+    # shellcheck disable=SC2046,SC2086
+    $archive_compiler -std=c99 $strict -O2 host/link/*.c $(over c_face) -o target/host/link
 }
 
 # build_order: a planner's lines over a card with two circuits.
 build_order() {
     mkdir -p target/host
-    # shellcheck disable=SC2086
-    $archive_compiler -std=c99 $strict -O2 host/order/*.c host/fields/*.c "$archive" -o target/host/order
+    # shellcheck disable=SC2046,SC2086
+    $archive_compiler -std=c99 $strict -O2 host/order/*.c host/fields/*.c $(over c_cards) -o target/host/order
+}
+
+# build_plan: which paths to join.
+build_plan() {
+    mkdir -p target/host
+    # shellcheck disable=SC2046,SC2086
+    $archive_compiler -std=c99 $strict -O2 host/plan/*.c $(over c_cards) -o target/host/plan
 }
 
 # build_mend: a torn recording mended.
 build_mend() {
     mkdir -p target/host
-    # shellcheck disable=SC2086
-    $archive_compiler -std=c99 $strict -O2 host/mend/*.c "$archive" -o target/host/mend
+    # shellcheck disable=SC2046,SC2086
+    $archive_compiler -std=c99 $strict -O2 host/mend/*.c $(over c_recordings) -o target/host/mend
 }
 
 # build_desk: a recording of any group replayed, what is alike drawn together.
 build_desk() {
     mkdir -p target/host
-    # shellcheck disable=SC2086
-    $archive_compiler -std=c99 $strict -O2 host/desk/*.c "$archive" -o target/host/desk
+    # shellcheck disable=SC2046,SC2086
+    $archive_compiler -std=c99 $strict -O2 host/desk/*.c $(over c_recordings) -o target/host/desk
 }
 
 # build_own NAME SOURCE COMPILER WORD..: a C or C++ program for this machine's own processor.

@@ -88,7 +88,17 @@ passing() (
     [ "$status" != 0 ] || status=$(cat "$ended")
     exit "$status"
 )
-passed_on() { cat; }
+passed_on() { or_says_so cat; }
+
+# or_says_so WORD..: passes lines on by a command. A full disk is said in words, with status 2; where nobody reads on, which a
+# signal says, no word is needed.
+or_says_so() {
+    "$@" 2>/dev/null
+    passing_on=$?
+    [ "$passing_on" != 0 ] && [ "$passing_on" -lt 128 ] || return "$passing_on"
+    echo 'the output cannot be written' >&2
+    return 2
+}
 
 # replayed FILE WORD..: the same of the replay program, whose recording begins in that file, or on standard input (-). Its
 # refusals are said in words, and where there is one the status is not 0.
@@ -102,7 +112,7 @@ replaying() (
     refused=$(mktemp) || exit 2
     trap 'rm -f "$refused"' EXIT
     trap 'exit 130' INT
-    passed_on() { in_words "$recording" || return 2; }
+    passed_on() { or_says_so in_words "$recording"; }
     passing "$@"
     status=$?
     [ "$status" != 0 ] || [ ! -s "$refused" ] || status=1

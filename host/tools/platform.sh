@@ -5,8 +5,18 @@
 # compiler and run under the toolchain's emulator; programs that are built for the machine itself (Rust, sanitizers,
 # C++) link an object of the same proved module.
 
-proved=target/staticlib/libc_face.a        # what rt writes
-archive=target/staticlib/liblevelspruce.a  # the same with the texts, which are C
+faces='c_face c_cards c_recordings'        # the crates of the C calls; the first has all that a link needs
+archive=target/staticlib/liblevelspruce.a  # the library: all of their calls and the texts, which are C
+texts=target/staticlib/texts.o
+
+# proved_of CRATE: what rt writes of it
+proved_of() { echo "target/staticlib/lib$1.a"; }
+
+# over CRATE..: what a program is linked with that calls these alone
+over() {
+    echo "$texts"
+    for one_face in "$@"; do proved_of "$one_face"; done
+}
 
 # The toolchain's folder. Where rt is not on PATH, it is the one that was there at the last proof.
 kit() {
@@ -28,9 +38,14 @@ aarch64)
     own_library=target/host/liblevelspruce.a
     own_library_possible() { has_python; }
     make_own_library() {
-        mkdir -p target/host && rm -f "$own_library" && python3 host/tools/native-object c_face target/host/c_face.o &&
-            gcc -std=c99 -O2 -fPIC -Iinclude -c host/library/texts.c -o target/host/texts.o &&
-            ar rcs "$own_library" target/host/c_face.o target/host/texts.o
+        mkdir -p target/host && rm -f "$own_library" && gcc -std=c99 -O2 -fPIC -Iinclude -c host/library/texts.c -o target/host/texts.o || return
+        own_objects=target/host/texts.o
+        for one_face in $faces; do
+            python3 host/tools/native-object "$one_face" "target/host/$one_face.o" || return
+            own_objects="$own_objects target/host/$one_face.o"
+        done
+        # shellcheck disable=SC2086
+        ar rcs "$own_library" $own_objects
     }
     # The words with which COMPILER compiles for this very processor. clang 14 believes the processor's name, though a
     # virtual machine may hide its scalable vectors: such code stops at an illegal instruction.

@@ -18,7 +18,6 @@ built_as() { if [ -f "crates/$1/src/main.rt" ]; then echo "target/bin/$1"; else 
 # example_of NAME: what it runs where no file is named
 example_of() {
     case $1 in
-    speak) echo host/speak/story.txt ;;
     plan) echo host/data/plan.txt ;;
     proposal) echo host/data/proposal.txt ;;
     order) echo host/order/order.txt ;;

@@ -28,7 +28,8 @@ alone() {
 kit_id() { command -v rt >/dev/null && echo "$(dirname "$(dirname "$(rt doc)")")/KIT-ID"; }
 
 # levels CRATE: the crates that it depends on, each behind the number of its level. Those of one level need nothing of
-# each other.
+# each other. A crate stands as late as those above it let it: what the last ones need alone is proved beside them, where a
+# processor would have nothing to do.
 levels() {
     awk -v wanted="$1" '
         function level(n, a, k, m, l, highest) {
@@ -40,9 +41,24 @@ levels() {
                     highest = l
             return known[n] = highest + 0
         }
+        function later(n, a, k, m) {
+            m = split(deps[n], a, " ")
+            for (k = 1; k <= m; k++)
+                if (a[k] in deps && (!(a[k] in last) || last[a[k]] >= last[n]))
+                    last[a[k]] = last[n] - 1
+        }
         { sub(/#.*/, "") }
         /:/ { name = rest = $0; sub(/[ \t]*:.*/, "", name); sub(/^[^:]*:/, "", rest); deps[name] = rest }
-        END { level(wanted); for (n in known) if (n != wanted) print known[n], n }' crates.txt | sort -k 1,1n -k 2
+        END {
+            last[wanted] = level(wanted)
+            for (l = last[wanted]; l > 0; l--)
+                for (n in known)
+                    if (known[n] == l)
+                        later(n)
+            for (n in known)
+                if (n != wanted)
+                    print last[n], n
+        }' crates.txt | sort -k 1,1n -k 2
 }
 
 # is_current FILE CRATE: whether it is there and older neither than the crate that it is made of and those below, nor than the

@@ -8,11 +8,11 @@ use borrow.Author.Tests.{eq-eqb, ne-eqb, lt-ltb, ltb-true}
 use lib.Dec.{ltb}
 use lib.ListN.{length, drop, drop-of-length-le}
 use Rattle.ground.specs.Truth.{and-left, and-right, fails}
+use Rattle.packet.specs.Theorems.Sent.{sent-h4, sent-vc12}
 use Rattle.packet.specs.declared.layout.Fields.{Fields}
 use Rattle.packet.specs.declared.reader.Reading.{Reading}
 use Rattle.packet.specs.declared.reader.Reading.the-variants.{Packet}
 use Rattle.packet.specs.Laws.Bounds.{sent-bounds}
-use Rattle.packet.specs.Laws.Sent.{sent-h4, sent-vc12}
 use Rattle.packet.specs.Laws.Writing.{unfit-answer, unfit-bytes}
 use Rattle.packet.specs.Reading.{readAnswer, readingNumber}
 use Rattle.packet.specs.Sent.{sentAnswer, sentBytes, sentFits}

@@ -1,14 +1,5 @@
 pub mod Answers
-pub mod LengthsTold
-pub mod Ordering
-pub mod Parts
 pub mod Pieces
-pub mod Planning
-pub mod Replaying
 pub mod SenderCalls
 pub mod Showing
-pub mod Telling
-pub mod Tells
-pub mod TwoGroups
-pub mod WholeBoards
 pub mod Wholes

@@ -9,7 +9,7 @@ use lib.Dec.{eqb, ltb}
 use lib.ListN.{length}
 use borrow.Author.Tests.{eq-eqb, ne-eqb, ltb-true, not-false}
 use Rattle.ground.specs.Truth.{and-left, and-right, le-or-lt}
-use Rattle.packet.specs.Clock.{by}
+use Rattle.packet.specs.Laws.Clock.{by}
 use Rattle.packet.specs.Laws.Known as Known
 use Rattle.packet.specs.Kinds as K
 use Rattle.packet.specs.Kinds.{epochs, knownKind}

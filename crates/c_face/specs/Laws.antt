@@ -1,2 +1,2 @@
 -- Laws on the definitions, for the proofs above them.
-pub mod Slots
+pub mod Sharing

@@ -8,10 +8,10 @@ ghost use lib.ListN.{length};
 ghost use Rattle.c_face.specs.Boards.{boardBytes, boardBytesC, boardBytesOf, outgoingBytesC, ranksBytes, ranksBytesC, ranksBytesOf, shownAnswerC};
 
 // A board.
-pub(crate) const BOARD_BYTES: usize = 130;
+pub const BOARD_BYTES: usize = 130;
 
 // The ranks of an epoch.
-pub(crate) const RANKS_BYTES: usize = 68;
+pub const RANKS_BYTES: usize = 68;
 
 // A count above 64 stands only in a state that does not come from a start: nobody is to read past the board by it.
 pub(crate) fn put_board(board: Board, out: &mut [u8])

@@ -13,7 +13,7 @@ ghost use Rattle.ground.specs.Drawn.{fillAt};
 ghost use Rattle.c_face.specs.Keeping.{boardIn, bytesOf, codeOf, fieldBytes, rowByte, rowIn, rowsByte, rowsIn, senderOf, slotByte, slotIn, slotsByte, slotsIn, stateBytes, stateOf, tableIn};
 
 // A sender's state.
-pub(crate) const SENDER_BYTES: usize = 397;
+pub const SENDER_BYTES: usize = 397;
 
 fn state_of(code: u8) -> State
     ensures { λ r. ⌜ r ≡ stateOf code ⌝ }

@@ -1,15 +1,9 @@
-// The C face: every entry point that the card's C host calls. include/levelspruce.h is its header.
-mod boards;
-mod cards;
-mod changes;
-mod commands;
-mod going;
-mod keeping;
-mod mends;
+// The C face of a link: packets, payload, the sender and the receiver, as the card's C host calls them. c_cards and c_recordings have the other calls.
+// include/levelspruce.h is the header of all.
+pub mod boards;
+pub mod keeping;
 mod packets;
 mod payloads;
-mod plans;
 mod receivers;
-mod replays;
-mod runs;
-mod senders;
+pub mod senders;
+pub mod sharing;

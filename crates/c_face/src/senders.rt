@@ -20,7 +20,7 @@ pub(crate) fn is_outside(count: u32) -> bool
     (count == 0) | (64 < count)
 }
 
-pub(crate) fn are_bytes(a: u32, b: u32, c: u32) -> bool
+pub fn are_bytes(a: u32, b: u32, c: u32) -> bool
     ensures { λ r. ⌜ r ≡ areBytes a b c ⌝ }
 {
     (a < 256) & (b < 256) & (c < 256)
@@ -38,7 +38,7 @@ fn is_sent(kind: u32) -> bool
     known & !(named == kinds::FIXED)
 }
 
-pub(crate) fn is_no_start(kind: u32, count: u32) -> bool
+pub fn is_no_start(kind: u32, count: u32) -> bool
     ensures { λ r. ⌜ r ≡ noStart kind count ⌝ }
 {
     let out = is_outside(count);
@@ -46,7 +46,7 @@ pub(crate) fn is_no_start(kind: u32, count: u32) -> bool
     out | !sent
 }
 
-pub(crate) fn is_epoch(kind: u8, epoch: u32) -> bool
+pub fn is_epoch(kind: u8, epoch: u32) -> bool
     ensures { λ r. ⌜ r ≡ isEpoch kind epoch ⌝ }
 {
     let tags = kinds::tag_count(kind);

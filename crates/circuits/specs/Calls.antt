@@ -11,9 +11,9 @@ pub data Call : Type 0 where
   Release : ℕ → Call
   AddSlot : ℕ → Call
   RemoveSlot : ℕ → Call
-  Report : ℕ → ℕ → ℕ → Call
+  Report : (epoch mst ack : ℕ) → Call
   Lapse : Call
-  StartEpoch : ℕ → ℕ → ℕ → Call
+  StartEpoch : (gid mst ack : ℕ) → Call
 
 abbrev pub outcomeOf : (c : Card) (group : ℕ) (call : Call) → CardOutcome
 outcomeOf c g (Claim i) = claimOf c g i

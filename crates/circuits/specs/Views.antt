@@ -1,11 +1,14 @@
 -- What one group sees of the card, and its calls with what each gives back: 'For any calls, what one group is answered and what its board shows depend on its own calls and on which slots the other holds, and on nothing else.' (02, 2026-06)
+use mathlib.Core.Path.{_≡_}
 use mathlib.Core.Bool.{Bool, false}
 use mathlib.Core.List.{List, [], _∷_}
 use Prim.Native.Nat.{ℕ, _-_}
 use lib.ListN.{length}
 use Rattle.ground.specs.Plain.{if_then_else_, _==_}
 use Rattle.ground.specs.Table.{tabulate}
+use Rattle.ground.specs.Types.{Bytes}
 use Rattle.sender.specs.declared.epochs.Sender.{Sender}
+use Rattle.circuits.specs.Commands.{startOf}
 use Rattle.circuits.specs.declared.answers.Answer.{Answer}
 use Rattle.circuits.specs.declared.card.BoardOutcome.{BoardOutcome}
 use Rattle.circuits.specs.declared.card.Card.{Card}
@@ -27,8 +30,8 @@ viewOf g c = record { sender = senderOf c g; owned = tabulate 64 (λ i. owns c g
 -- every call: one that changes the card, or one that reads
 pub data Asked : Type 0 where
   Do : Call → Asked
-  Packet : ℕ → List ℕ → Asked
-  Payload : ℕ → ℕ → List ℕ → List ℕ → Asked
+  Packet : (slot : ℕ) (h4 : Bytes) → Asked
+  Payload : (slot P : ℕ) (frame member : Bytes) → Asked
   Board : Asked
   Outgoing : Asked
   Ranks : Asked
@@ -37,7 +40,7 @@ pub data Asked : Type 0 where
 -- all that it gives back
 pub data Reply : Type 0 where
   Answered : Answer → Reply
-  Wrote : Answer → List ℕ → Reply
+  Wrote : Answer → Bytes → Reply
   Showed : BoardOutcome → Reply
   Ranked : RanksOutcome → Reply
   Owns : OwnedOutcome → Reply
@@ -99,3 +102,12 @@ abbrev pub bitsOf : (group : ℕ) (c : Card) (ms : List Made) → List Bool
 bitsOf g c [] = []
 bitsOf g c (m ∷ ms) =
     let rest = bitsOf g (cardAfter c (m .group) (m .asked)) ms in if m .group == g then bitOf c g (m .asked) ∷ rest else rest
+
+-- the card after any calls from a start
+abbrev pub cardFrom : (kind count e₀ e₁ : ℕ) (ms : List Made) → Card
+cardFrom kind count e₀ e₁ ms = run (startOf kind count e₀ e₁ .card) ms
+
+-- two lists of calls on two cards give a group the same: all that it is given back, answers, boards now and going, ranks, packets and payload bytes, and the view left
+pub record Same (g : ℕ) (c d : Card) (ms ns : List Made) : Type 0 where
+  pub replies : repliesTo g c ms ≡ repliesTo g d ns
+  pub view : viewOf g (run c ms) ≡ viewOf g (run d ns)

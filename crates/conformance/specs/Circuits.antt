@@ -3,7 +3,7 @@ use mathlib.Core.Path.{refl}
 use mathlib.Core.List.{List, [], _∷_, _++_}
 use Prim.Native.Nat.{ℕ}
 use lib.ListN.{getD, replicate, take}
-use Rattle.c_face.specs.Cards.{putOwn}
+use Rattle.c_cards.specs.Cards.{putOwn}
 use Rattle.circuits.specs.Calls.Call.{AddSlot, Claim, Lapse, Release, RemoveSlot, Report}
 use Rattle.circuits.specs.Readings.{ownedShown}
 use Rattle.circuits.specs.Shown.{after, board, by, told}

@@ -41,7 +41,7 @@ use lib.ListN.{length, take}
 use borrow.Author.Tests.{le-leb, le-ltb, lt-leb, lt-ltb, ne-eqb}
 use Rattle.ground.specs.Plain.{if_then_else_, _<?_}
 use Rattle.bytes.specs.Bytes.{indexOf}
-use Rattle.c_face.specs.Orders.{commandAnswerOn, commandStateOn, kindAnswerOn, kindStateOn}
+use Rattle.c_cards.specs.Orders.{commandAnswerOn, commandStateOn, kindAnswerOn, kindStateOn}
 use Rattle.circuits.specs.Answers.{answerNumber}
 use Rattle.circuits.specs.Calls.Call.{AddSlot, Claim}
 use Rattle.circuits.specs.Commands.{startOf as cardStart}

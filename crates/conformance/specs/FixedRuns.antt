@@ -43,7 +43,7 @@ table =
     ∷ record {
       name = "72 frames with LCAS to a fixed group: held, and nothing of them is read";
       given = read (fedWith packetWith 0 72 0 (openedAs 2));
-      said = 1 ∷ 4 ∷ 0 ∷ 0 ∷ 0 ∷ 0 ∷ 0 ∷ 0 ∷ 0 ∷ 255 ∷ 1 ∷ 1 ∷ 1 ∷ 0 ∷ 255 ∷ 0 ∷ 0 ∷ 0 ∷ [];
+      said = 1 ∷ 4 ∷ 0 ∷ 1 ∷ 0 ∷ 0 ∷ 0 ∷ 0 ∷ 0 ∷ 255 ∷ 1 ∷ 1 ∷ 1 ∷ 0 ∷ 255 ∷ 0 ∷ 0 ∷ 0 ∷ [];
       equal = refl;
     }
     ∷ record {

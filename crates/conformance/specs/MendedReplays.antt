@@ -6,9 +6,8 @@ use mathlib.Core.List.{List, [], _∷_, _++_}
 use mathlib.Core.Logic.{_⊎_, inl, inr}
 use Prim.Native.Nat.{ℕ, zero, suc}
 use native.Mathlib.Omega.{arith}
-use lib.Dec.{leb}
 use lib.ListN.{length, take}
-use Rattle.ground.specs.Plain.{if_then_else_}
+use Rattle.ground.specs.Plain.{if_then_else_, _≤?_}
 use Rattle.mending.specs.Laws.Lines.{Frames, fits-followed, followedLeft, frames-out}
 use Rattle.mending.specs.Laws.Opened.{mended-lines, mendedRest, countedIn, portsIn, sizeIn}
 use Rattle.mending.specs.Laws.Texts.{bytes-with, bytesOf}
@@ -16,13 +15,12 @@ use Rattle.mending.specs.Lines.{Line, recordOf}
 use Rattle.mending.specs.Mending.{Opened, fitting, mendedOf}
 use Rattle.phases.specs.Sizes.{startSized}
 use Rattle.receiver.specs.Starting.{timesWithin}
+use Rattle.recording.specs.Record.{isFrame, lineRecord}
 use Rattle.recording.specs.declared.pairs.Settings.{Settings as GroupSettings}
 use Rattle.recording.specs.declared.record.Record.{Record}
 use Rattle.recording.specs.declared.record.Record.the-variants.{Frame, Malformed, Long, Unfinished, End}
-use Rattle.recording.specs.Laws.Here.{isFrame}
 use Rattle.recording.specs.Opening.{Opening, lineOpening}
 use Rattle.recording.specs.Opening.{Opening as O}
-use Rattle.recording.specs.Record.{lineRecord}
 use Rattle.replaying.specs.declared.replay.Phase.{Phase}
 use Rattle.replaying.specs.declared.replay.Phase.the-variants.{Settings, Reading, Fetching, Skipping, Ended}
 use Rattle.replaying.specs.Replay.{beginning}
@@ -31,10 +29,10 @@ use Rattle.replaying.specs.Turn.{answeredTurn, isDue, openWithTurn, startable, 
 use Rattle.text.specs.Text.{linesOf}
 
 -- the answers agree: a replay starts where mending answers 0 and the store that is lent is large enough
-pub startable-is : (s : GroupSettings) (store : ℕ) → startable s store ≡ (fitting s && leb (storeIn s) store)
+pub startable-is : (s : GroupSettings) (store : ℕ) → startable s store ≡ (fitting s && storeIn s ≤? store)
 unfolding startable fitting timesFit
 startable-is s store =
-    ap (λ (b : Bool). b && leb (storeIn s) store)
+    ap (λ (b : Bool). b && storeIn s ≤? store)
     (sym (and-assoc (startSized (s .kind) (s .ports) (s .size) (s .window)) (timesWithin (take (s .ports) (s .«hold_off»))) (timesWithin (take (s .ports) (s .restore)))))
 
 abbrev canRead : Opening → Bool

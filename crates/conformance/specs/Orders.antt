@@ -2,7 +2,7 @@
 use mathlib.Core.Path.{_≡_, refl}
 use mathlib.Core.List.{List, [], _∷_, _++_}
 use Prim.Native.Nat.{ℕ}
-use Rattle.c_face.specs.Orders.{kindOf}
+use Rattle.c_cards.specs.Orders.{kindOf}
 use Rattle.circuits.specs.declared.card.Card.{Card}
 use Rattle.circuits.specs.Calls.Call.{AddSlot, Claim}
 use Rattle.circuits.specs.Shown.{after, board, by}

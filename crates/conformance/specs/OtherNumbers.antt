@@ -71,7 +71,7 @@ ruled =
     record {
       name = "the epoch that such a packet rules is held, and it is told no later";
       given = reported (second 72) ++ told (fetched (second 72));
-      said = 1 ∷ 5 ∷ 0 ∷ 0 ∷ 0 ∷ 0 ∷ 0 ∷ 0 ∷ 0 ∷ 255 ∷ 1 ∷ 1 ∷ 1 ∷ 0 ∷ 5 ∷ 0 ∷ 255 ∷ 0 ∷ [];
+      said = 1 ∷ 5 ∷ 0 ∷ 1 ∷ 0 ∷ 0 ∷ 0 ∷ 0 ∷ 0 ∷ 255 ∷ 1 ∷ 1 ∷ 1 ∷ 0 ∷ 5 ∷ 0 ∷ 255 ∷ 0 ∷ [];
       equal = refl;
     }
     ∷ []

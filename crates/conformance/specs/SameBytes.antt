@@ -12,22 +12,22 @@ use Rattle.c_face.specs.Theorems.CratesOwn.{packet-own, payload-own}
 use Rattle.c_face.specs.Theorems.Runs.{fits, meant, runC, runs-own, runs-sized}
 use Rattle.ground.specs.Plain.{if_then_else_, _<?_}
 use Rattle.ground.specs.Truth.{and-true}
-use Rattle.link.specs.History.{Allowed, Handed, History, packetSent, payloadSent, senderAt}
+use Rattle.link.specs.History.{Allowed, Handed, History, callsTo, packetSent, payloadSent, senderAt}
+use Rattle.link.specs.Proofs.Histories.Senders.{sender-in, sender-run, size-at}
 use Rattle.link.specs.Sending.{Client, epochAt}
 use Rattle.link.specs.Proofs.Histories.Packets.{packet-any}
 use Rattle.link.specs.Proofs.Histories.Ruling.{x-le}
-use Rattle.link.specs.Proofs.Histories.Senders.{callsTo, sender-in, sender-run, size-at}
 use Rattle.packet.specs.Kinds.{frames, payloadRight}
 use Rattle.payload.specs.Laws.Fits.{Sizes, spread-one-done}
 use Rattle.payload.specs.Order.{memberFrame}
 use Rattle.payload.specs.Spreading.{spreadOne}
+use Rattle.sender.specs.Epochs.{SenderCall, beginOf, onTable, packetBytes, payloadBytes, rankIn, senderRun, xOf}
+use Rattle.sender.specs.Theorems.Epochs.{fixed}
 use Rattle.sender.specs.declared.epochs.Sender.{Sender}
 use Rattle.sender.specs.Calls.{Call}
-use Rattle.sender.specs.Epochs.{SenderCall, beginOf, packetBytes, payloadBytes, rankIn, senderRun, xOf}
 use Rattle.sender.specs.Epochs.SenderCall.{OnTable, StartEpoch}
 use Rattle.sender.specs.Laws.Runs.{sender-append}
 use Rattle.sender.specs.Table.{sizeOf}
-use Rattle.sender.specs.Theorems.Epochs.{fixed, onTable}
 
 -- calls on the table that a C host can make: each number of a report is a byte
 abbrev pub Bytes : List Call → Type 0

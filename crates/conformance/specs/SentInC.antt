@@ -14,26 +14,26 @@ use Rattle.c_face.specs.Senders.{areBytes, isEpoch, isState, outside, packetAns
 use Rattle.c_face.specs.Theorems.CratesOwn.{packet-own}
 use Rattle.c_face.specs.Theorems.Runs.{fits, meant, runC, runs-own, runs-sized}
 use Rattle.ground.specs.Truth.{and-left, and-right, le-or-lt, neither}
+use Rattle.packet.specs.AsSent.{Sent}
 use Rattle.packet.specs.Counts.{counts}
+use Rattle.packet.specs.Kinds.{epochOf, epochs, frames, placeOf, tagOf}
+use Rattle.packet.specs.Theorems.Sent.{sent-as}
 use Rattle.packet.specs.declared.reader.Reading.the-variants.{Packet}
-use Rattle.packet.specs.Kinds.{epochOf, epochs, frames, placeOf}
-use Rattle.packet.specs.Laws.Sent.{Sent, sent-as}
 use Rattle.packet.specs.Ruling.{readRow}
 use Rattle.packet.specs.Sent.{sentAnswer, sentBytes, sentFits}
 use Rattle.packet.specs.Symbols.{packetRow}
-use Rattle.packet.specs.Theorems.Tags.{tagOf}
 use Rattle.packet.specs.declared.writer.Writing.the-variants as W
 use Rattle.sender.specs.Commands.{freshOf, startOf}
+use Rattle.sender.specs.Epochs.{SenderCall, beginOf, freshSender, packetAnswer, packetBytes, packetFields, senderAfter, senderOutcomeOf, senderRun, startEpochOf, startedSender}
+use Rattle.sender.specs.SenderRuns.{AllGiven}
+use Rattle.sender.specs.Theorems.Packets.{packet-done, written-done}
 use Rattle.sender.specs.declared.epochs.Sender.{Sender}
 use Rattle.sender.specs.declared.epochs.SenderOutcome.{SenderOutcome}
-use Rattle.sender.specs.Epochs.{SenderCall, beginOf, freshSender, packetAnswer, packetBytes, packetFields, senderOutcomeOf, senderRun, startEpochOf, startedSender}
 use Rattle.sender.specs.Epochs.SenderCall.{OnTable, StartEpoch}
 use Rattle.sender.specs.declared.table.Answer.the-variants.{Done, Field}
 use Rattle.sender.specs.Laws.Kept.{group-call, start-kind}
 use Rattle.sender.specs.Laws.Sizes.{size-large, size-small}
 use Rattle.sender.specs.Table.{answerNumber, sizeOf}
-use Rattle.sender.specs.Theorems.Epochs.{senderAfter}
-use Rattle.sender.specs.Theorems.Packets.{AllGiven, packet-done, written-done}
 
 pub record WrittenC (kind : ℕ) (state : List ℕ) (slot : ℕ) (bytes : List ℕ) : Type 0 where
   pub answer : packetAnswerC state slot bytes ≡ 0

@@ -12,6 +12,7 @@ use Rattle.rows.specs.Step.{stepAt}
 use Rattle.sender.specs.Board.{boardOf}
 use Rattle.sender.specs.Calls.{Call}
 use Rattle.sender.specs.Calls.Call.{AddSlot, Lapse, RemoveSlot, Report}
+use Rattle.sender.specs.Epochs.{beginOf, onTable, packetBytes, payloadBytes, ranksOf, senderRun, xOf}
 use Rattle.sender.specs.Shown.{after, shown}
 use Rattle.step.specs.Arrival.{stepTo}
 use Rattle.c_face.specs.Boards.{boardBytesOf, ranksBytesOf}
@@ -24,9 +25,7 @@ use Rattle.reply.specs.declared.members.Port.{Port}
 use Rattle.reply.specs.Waiting.{noStanding, standing, standingsOf}
 use Rattle.reply.specs.Telling.{mstOf}
 use Rattle.sender.specs.declared.epochs.Sender.{Sender}
-use Rattle.sender.specs.Epochs.{beginOf, packetBytes, payloadBytes, ranksOf, senderRun, xOf}
 use Rattle.sender.specs.Epochs.SenderCall.{StartEpoch}
-use Rattle.sender.specs.Theorems.Epochs.{onTable}
 use Rattle.conformance.specs.Hosts.{Host, begun, fed, flagged, opened}
 use Rattle.conformance.specs.Waits.{seenPort}
 use Rattle.conformance.specs.Rows.{Row, Equal, equal-rows}
@@ -255,8 +254,14 @@ table =
     }
     ∷ record {
       name = "the record of a report";
-      given = recordOf (record { mark = 3; epoch = 200; x = 2; bytes = 24192 });
+      given = recordOf (record { mark = 3; epoch = 200; x = 2; cause = 0; bytes = 24192 });
       said = 3 ∷ 200 ∷ 2 ∷ 0 ∷ 0 ∷ 0 ∷ 0x5E ∷ 0x80 ∷ [];
+      equal = refl;
+    }
+    ∷ record {
+      name = "the record of a report that is held since numbers repeat";
+      given = recordOf (record { mark = 1; epoch = 200; x = 0; cause = 3; bytes = 0 });
+      said = 1 ∷ 200 ∷ 0 ∷ 3 ∷ 0 ∷ 0 ∷ 0 ∷ 0 ∷ [];
       equal = refl;
     }
     ∷ []

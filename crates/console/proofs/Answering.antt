@@ -12,16 +12,19 @@ use Rattle.sender.specs.declared.board.Board.{Board}
 use Rattle.sender.specs.declared.table.Table.{Table}
 use Rattle.sender.specs.Board.{boardOf}
 use Rattle.sender.specs.Laws.Sizes.{size-le}
+use Rattle.console.specs.declared.gathering.Gathered.{Gathered}
 use Rattle.console.specs.declared.kept.Kept.{Kept}
 use Rattle.console.specs.declared.line.Line.{Line}
 use Rattle.console.specs.declared.replies.Reply.{Reply}
 use Rattle.console.specs.declared.session.Fed.{Fed}
 use Rattle.console.specs.declared.session.Session.{Session}
+use Rattle.console.specs.Gathering.{gatheredOf}
 use Rattle.console.specs.Kept.{keepAll, lineIn, nothingKept}
 use Rattle.console.specs.Line.{lineOf}
 use Rattle.console.specs.Output.{ROOM, answerText, boardText}
 use Rattle.console.specs.Replies.{isBoard, outputOf, replyOf}
 use Rattle.console.specs.Session.{fedSession, fedText, feedBytes, feedOf, finishBytes, finishOf, lastSession, lastText, over, refused, saidTo, tableAfter, usedOf}
+use Rattle.console.specs.Shown.{shownBytes, shownLength}
 use Rattle.text.specs.Output.{Put}
 use Rattle.text.specs.Text.{LINE-END}
 use Rattle.console.proofs.Lengths.{answer-le, board-le}
@@ -48,6 +51,19 @@ module _ (t : Table) (l : Line) (out new : List ℕ) (next : ℕ) (b : Bool) (ro
   unfolding outputOf
   output-answer h n f p = let k = answer-le n in rw (← e, h, ← f) (put-over p (omega arith))
 
+module _ (t : Table) (out : List ℕ) where
+  pub shown-short : length out < ROOM → (0 ≡ shownLength t out) × (out ≡ shownBytes t out)
+  unfolding shownLength shownBytes
+  shown-short h = rw (lt-ltb (length out) ROOM h) (refl, refl)
+
+  pub shown-board : ROOM ≤ length out → (new : List ℕ) (next : ℕ) (d : Board) → d ≡ boardOf t → Put (boardText d) 0 out next new
+      → (next ≡ shownLength t out) × (new ≡ shownBytes t out)
+  unfolding shownLength shownBytes
+  shown-board room new next d f p =
+      let c : d .count ≤ 64 = rw f (board-count t) in
+      let k = board-le d c in
+      rw (le-ltb (length out) ROOM room, ← f) (put-over p (omega arith))
+
 pub answered : (t : Table) (k : Kept) (l : Line) (r : Reply) (out new : List ℕ) (next : ℕ) → l ≡ lineOf (lineIn k) → r ≡ replyOf t l
     → (next ≡ length (outputOf t l)) × (new ≡ over (outputOf t l) out)
     → (r .table ≡ tableAfter t (lineIn k)) × (next ≡ length (saidTo t (lineIn k))) × (new ≡ over (saidTo t (lineIn k)) out)
@@ -59,6 +75,15 @@ unfolding slice
 end-is input end e =
     let z : 0 + indexOf LINE-END input ≡ indexOf LINE-END input = omega arith in
     rw (take-length, z) at e
+
+module _ (before : Kept) (input : List ℕ) (end : ℕ) (e : end ≡ indexOf LINE-END input) (k : Kept) (f : k ≡ keepAll before (take end input)) where
+  pub gathered-line : end < length input → _≡_ {A = Gathered} (record { kept = k; used = end + 1; ended = true }) (gatheredOf before input)
+  unfolding gatheredOf usedOf
+  gathered-line b = rw (← e, lt-ltb end (length input) b, ← f)
+
+  pub gathered-open : length input ≤ end → _≡_ {A = Gathered} (record { kept = k; used = end; ended = false }) (gatheredOf before input)
+  unfolding gatheredOf usedOf
+  gathered-open b = rw (← e, le-ltb end (length input) b, ← f)
 
 module _ (s : Session) (input out : List ℕ) where
   pub feed-short : length out < ROOM → (refused s ≡ feedOf s input out) × (out ≡ feedBytes s input out)

@@ -1,3 +1,4 @@
+pub mod Gathering
 pub mod Kept
 pub mod Laws
 pub mod Line
@@ -6,6 +7,7 @@ pub mod Output
 pub mod Replies
 pub mod Runs
 pub mod Session
+pub mod Shown
 pub mod Theorems
 pub mod Told
 mod Wrong

@@ -9,7 +9,7 @@ pub struct Kept {
     pub count: usize,
 }
 
-pub(crate) fn nothing() -> Kept
+pub fn nothing() -> Kept
     ensures { λ r. ⌜ r ≡ nothingKept ⌝ }
 {
     Kept {

@@ -49,7 +49,7 @@ pub fn reply_to(table: Table, line: Line) -> Reply
     }
 }
 
-pub(crate) fn is_board(line: Line) -> bool
+pub fn is_board(line: Line) -> bool
     ensures { λ r. ⌜ r ≡ isBoard line ⌝ }
 {
     match line {

@@ -65,7 +65,7 @@ fn put_output(table: Table, line: Line, number: u8, out: &mut [u8]) -> usize
     output::put_answer(number, out)
 }
 
-fn line_in(kept: Kept) -> Line
+pub fn line_in(kept: Kept) -> Line
     ensures { λ r. ⌜ r ≡ lineOf (lineIn kept) ⌝ }
 {
     let bytes = kept.bytes;

@@ -11,13 +11,13 @@ use Rattle.rows.specs.Group.{groupAt}
 
 -- a frame of a port with its flag, its H4 and its payload; a fetch with an output and a record. Any numbers and any lengths
 pub data ReceiverCall : Type 0 where
-  Frame : ℕ → Bool → ℕ → List ℕ → ReceiverCall
-  Fetch : List ℕ → List ℕ → ReceiverCall
+  Frame : (port : ℕ) (failed : Bool) (h4 : ℕ) (payload : Bytes) → ReceiverCall
+  Fetch : (out report : Bytes) → ReceiverCall
 
 -- what is lent with every call
 pub record Receiver : Type 0 where
-  pub rows : List (List ℕ)
-  pub store : List ℕ
+  pub rows : Rows
+  pub store : Bytes
 
 abbrev pub receiverAfter : Receiver → ReceiverCall → Receiver
 receiverAfter x (Frame port failed h payload) =

@@ -4,17 +4,18 @@ use mathlib.Core.Logic.{_⊎_}
 use mathlib.Core.Bool.{Bool, true, false}
 use mathlib.Core.List.{List, [], _∷_}
 use Prim.Native.Nat.{ℕ, _+_, _*_, _/_, _≤_, _<_, _%_}
+use Rattle.ground.specs.Types.{Bytes, Rows}
 use Rattle.invariant.specs.Kept.Port.{offset}
 use Rattle.packet.specs.Kinds.{frames, tags, firstTag}
 use Rattle.receiver.specs.Frame.{frameAnswer}
 use Rattle.rows.specs.declared.group.Group.{Group}
 use Rattle.rows.specs.declared.step.Step.{Step}
 use Rattle.step.specs.Arrival.{flagOf}
+use Rattle.store.specs.Frames.{Stands}
 use Rattle.store.specs.Marks.{markIn}
 use lib.ListN.{getD, length}
 use Rattle.rows.specs.Group.{groupAt}
 use Rattle.rows.specs.Port.{portAt}
-use Rattle.store.specs.Laws.Stands.{Stands}
 use Rattle.invariant.specs.Calls.{Fetch, Frame, Receiver, ReceiverCall, receiverAfter}
 
 -- of the epoch that a joined port is in the midst of: from its first frame, or the epoch joined at, up to the tag to come
@@ -25,7 +26,7 @@ pub record Part (g : Group) (s : Step) (d : ℕ) : Type 0 where
   pub upto : d < offset g s
 
 -- the frame that lies d after the window's first
-pub record Claims (g : Group) (s : Step) (marks : List ℕ) (d : ℕ) : Type 0 where
+pub record Claims (g : Group) (s : Step) (marks : Bytes) (d : ℕ) : Type 0 where
   pub begun : flagOf (g .begun) ≡ true
   pub has : (markIn marks (d / frames (g .kind)) ≡ true) ⊎ Part g s d
 
@@ -34,14 +35,14 @@ unfoldable pub tagIn : Group → ℕ → ℕ
 tagIn g d = (firstTag (g .kind) (g .oldest) + d) % tags (g .kind)
 
 -- port i claims a frame with this tag, and there stand this payload and this H4
-pub record Claimed (s : List (List ℕ)) (store : List ℕ) (i tag : ℕ) (payload : List ℕ) (h : ℕ) : Type 0 where
+pub record Claimed (s : Rows) (store : Bytes) (i tag : ℕ) (payload : Bytes) (h : ℕ) : Type 0 where
   pub at : ℕ
   pub claims : Claims (groupAt s) (portAt s i .step) (portAt s i .marks) at
   pub tag-is : tag ≡ tagIn (groupAt s) at
   pub stands : Stands (groupAt s) i at payload h store
 
 -- it is the frame just handed: answered 0, with the tag to come, which it has by the receiver's own count whatever it carries
-pub record Handed (s : List (List ℕ)) (i : ℕ) (failed : Bool) (h : ℕ) (payload store : List ℕ) (j tag : ℕ) (bytes : List ℕ) (h4 : ℕ) : Type 0 where
+pub record Handed (s : Rows) (i : ℕ) (failed : Bool) (h : ℕ) (payload store : Bytes) (j tag : ℕ) (bytes : Bytes) (h4 : ℕ) : Type 0 where
   pub port : j ≡ i
   pub unflagged : failed ≡ false
   pub answer : frameAnswer s i failed h (length payload) (length store) ≡ 0
@@ -49,7 +50,7 @@ pub record Handed (s : List (List ℕ)) (i : ℕ) (failed : Bool) (h : ℕ) (pay
   pub h4-is : h4 ≡ h
   pub bytes-are : (k : ℕ) → k < groupAt s .payload → getD bytes k 0 ≡ getD payload k 0
 
-module _ (tag : ℕ) (bytes : List ℕ) (h4 : ℕ) where
+module _ (tag : ℕ) (bytes : Bytes) (h4 : ℕ) where
   -- a call handed it
   abbrev pub HandedBy : (x : Receiver) (call : ReceiverCall) (port : ℕ) → Type 0
   HandedBy x (Frame i failed h payload) j = Handed (x .rows) i failed h payload (x .store) j tag bytes h4

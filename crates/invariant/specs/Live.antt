@@ -5,6 +5,7 @@ use mathlib.Core.List.{List, [], _∷_}
 use Prim.Native.Nat.{ℕ, _-_, _≤_, _<_}
 use lib.ListN.{getD, length}
 use Rattle.ground.specs.Plain.{if_then_else_, _==_}
+use Rattle.ground.specs.Types.{Bytes}
 use Rattle.packet.specs.Kinds.{frames, placeOf, startsEpoch, tagBack}
 use Rattle.packet.specs.Symbols.{rowFrom, symbolAt, symbolOf, withSymbol}
 use Rattle.receiver.specs.Frame.{frameAnswer}
@@ -18,12 +19,12 @@ isHeard answer = not (answer == 1) && not (answer == 9) && not (answer == 11)
 
 -- The H4 bytes of all frames of port j that were frames to its step record, the latest first: after one call more, and after some calls.
 
-abbrev pub heardWith : (port : ℕ) (x : Receiver) (call : ReceiverCall) (heard : List ℕ) → List ℕ
+abbrev pub heardWith : (port : ℕ) (x : Receiver) (call : ReceiverCall) (heard : Bytes) → Bytes
 heardWith j x (Frame i failed h payload) heard =
     if i == j && isHeard (frameAnswer (x .rows) i failed h (length payload) (length (x .store))) then h ∷ heard else heard
 heardWith j x (Fetch out report) heard = heard
 
-abbrev pub heardOf : (port : ℕ) (x : Receiver) (calls : List ReceiverCall) (heard : List ℕ) → List ℕ
+abbrev pub heardOf : (port : ℕ) (x : Receiver) (calls : List ReceiverCall) (heard : Bytes) → Bytes
 heardOf j x [] heard = heard
 heardOf j x (c ∷ calls) heard = heardOf j (receiverAfter x c) calls (heardWith j x c heard)
 
@@ -38,7 +39,7 @@ abbrev pub packetHeard : ℕ → List ℕ → List ℕ
 packetHeard kind heard = rowFrom kind (λ k. getD heard (frames kind - 1 - k) 0)
 
 -- What holds of a port's packet being gathered, of the frames that the port has heard.
-pub record Live (kind : ℕ) (p : Port) (heard : List ℕ) : Type 0 where
+pub record Live (kind : ℕ) (p : Port) (heard : Bytes) : Type 0 where
   pub row : LiveRow kind (p .step .count) (p .step .next) (p .gathering) heard
   -- in step, after the last frame of an epoch
   pub came : inStepAt kind (p .step .count) ≡ true → startsEpoch kind (p .step .next) ≡ true → p .gathering ≡ packetHeard kind heard

@@ -26,10 +26,9 @@ use Rattle.reply.specs.declared.members.Port.{Port as ReplyPort}
 use Rattle.reply.specs.Telling.{ackOf}
 use Rattle.rows.specs.Group.{groupAt}
 use Rattle.packet.specs.Kinds.{epochAfter, fixedKind, frames}
-use Rattle.store.specs.Frames.{placeIn, storedAt}
-use Rattle.store.specs.Laws.Stands.{Stands}
 use Rattle.judge.specs.Verdict.{HELD}
 use Rattle.receiver.specs.declared.report.Report.{Report}
+use Rattle.store.specs.Frames.{Stands, placeIn, storedAt}
 use Rattle.invariant.specs.Calls.{Fetch, Frame, Receiver, ReceiverCall, portAfter, receiverAfter}
 use Rattle.invariant.specs.Claims.{tagIn}
 
@@ -38,7 +37,7 @@ abbrev pub ruledBy : Group → Port → Ruling
 ruledBy g p = ownRuling (g .kind) (rulingEpoch g) (p .ruling)
 
 -- two states in which the same packets rule
-pub record SameRule (n : ℕ) (s t : List (List ℕ)) : Type 0 where
+pub record SameRule (n : ℕ) (s t : Rows) : Type 0 where
   pub whole : (i : ℕ) → i < n → portAt s i .step .whole ≡ portAt t i .step .whole
   pub ruling : (i : ℕ) → i < n → portAt s i .ruling ≡ portAt t i .ruling
 
@@ -56,12 +55,12 @@ pub record Gathers (g h : Group) : Type 0 where
   pub passed : h ≡ passedGroup g
 
 -- A fetch that gives a report.
-pub record Given (s : List (List ℕ)) (store out report : List ℕ) : Type 0 where
+pub record Given (s : Rows) (store out report : Bytes) : Type 0 where
   pub fitting : fits s store out report ≡ true
   pub due : dueIn (groupAt s) (portsIn (groupAt s)) s ≡ true
 
 -- The output after a sure report of a fixed group (request 2026-12), X being the number of ports: the group frames of an epoch one after the other, of X x P bytes each, in the order of the numbers, and the rest of it as it was.
-pub record ByNumber (s : List (List ℕ)) (store out after : List ℕ) : Type 0 where
+pub record ByNumber (s : Rows) (store out after : Bytes) : Type 0 where
   -- the port whose ruling packet carries each number
   pub port : ℕ → ℕ
   pub below : (q : ℕ) → q < portsIn (groupAt s) → port q < portsIn (groupAt s)
@@ -77,11 +76,11 @@ abbrev pub passedRows : Rows → Bytes → Rows
 passedRows s store = passedOf (groupAt s) store (portsIn (groupAt s)) s
 
 -- the ports that the report sees
-abbrev pub reportPorts : List (List ℕ) → List ℕ → List ReplyPort
+abbrev pub reportPorts : Rows → Bytes → List ReplyPort
 reportPorts s store = replyPorts (groupAt (passedRows s store)) (passedRows s store) (portsIn (groupAt s))
 
 -- one of them, by its own records as the epoch has passed: the word and number of its last good packet, those of the report before, what that one left of it, its times, and whether it is readable
-abbrev pub portSeen : List (List ℕ) → ℕ → ReplyPort
+abbrev pub portSeen : Rows → ℕ → ReplyPort
 portSeen p i =
     let m = memberAt p i in
     record {
@@ -139,7 +138,7 @@ Others i (Frame j failed h payload ∷ calls) = (j ≢ i) × Others i calls
 Others i (Fetch out report ∷ calls) = Others i calls
 
 -- a frame that is answered 0 and stored
-pub record Stored (y : Receiver) (i : ℕ) (failed : Bool) (h : ℕ) (payload : List ℕ) : Type 0 where
+pub record Stored (y : Receiver) (i : ℕ) (failed : Bool) (h : ℕ) (payload : Bytes) : Type 0 where
   pub answer : frameAnswer (y .rows) i failed h (length payload) (length (y .store)) ≡ 0
   pub at : ℕ
   pub inside : at < groupAt (y .rows) .window
@@ -151,7 +150,7 @@ abbrev pub ackIn : Rows → ℕ
 ackIn s = groupAt s .«rs_ack»
 
 -- a whole ruling packet that was refused with 5, 6 or 7
-pub record Refused (s : List (List ℕ)) (i : ℕ) : Type 0 where
+pub record Refused (s : Rows) (i : ℕ) : Type 0 where
   pub port : i < portsIn (groupAt s)
   pub whole : flagOf (portAt s i .step .whole) ≡ true
   pub refused : ruledBy (groupAt s) (portAt s i) .good ≡ false

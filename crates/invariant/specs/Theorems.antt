@@ -8,6 +8,7 @@ use lib.ListN.{getD, length}
 use Rattle.ground.specs.Drawn.{fillAt}
 use Rattle.ground.specs.Plain.{_==_}
 use Rattle.ground.specs.Table.{tabulate}
+use Rattle.judge.specs.Cause.{causeOf, markOf}
 use Rattle.judge.specs.Laws.Numbers.{numberAt}
 use Rattle.judge.specs.Order.{activeIn, orderOf, portOf}
 use Rattle.judge.specs.Theorems.Fixed.{Standing}
@@ -20,7 +21,8 @@ use Rattle.phases.specs.Beginning.{begins, foremost}
 use Rattle.phases.specs.Settling.{settledOf}
 use Rattle.phases.specs.Sizes.{knownKind, portsIn}
 use Rattle.receiver.specs.Anew.{anewAnswer, anewRows}
-use Rattle.receiver.specs.Fetch.{dueIn, fetchOut, fetchRows, fits, reportIfDue}
+use Rattle.receiver.specs.Cause.{causeOut}
+use Rattle.receiver.specs.Fetch.{dueIn, fetchOut, fetchRecord, fetchRows, fits, reportIfDue}
 use Rattle.receiver.specs.Frame.{frameAnswer, frameRows, settledBy, takenIn}
 use Rattle.receiver.specs.Behind.{behindIn}
 use Rattle.receiver.specs.Heard.{heardOf as saidOf, silence}
@@ -50,8 +52,8 @@ use Rattle.store.specs.Marks.{firstMark}
 use Rattle.invariant.specs.Calls.{Receiver, ReceiverCall, portAfter, receiverAfter, receiverRun, startedWith}
 use Rattle.invariant.specs.Claims.{Claimed, HandedBy, HandedLast, tagIn}
 use Rattle.invariant.specs.Kept.Group.{Kept}
+use Rattle.invariant.specs.Proofs.Kept.Calls as EachCall
 use Rattle.invariant.specs.Words.{Unflagged}
-use Rattle.step.specs.Theorems.Heard.{InStepExactly}
 use Rattle.invariant.specs.Heard.{Fourth, Recorded, Second}
 use Rattle.invariant.specs.Live.{Live, heardOf, isHeard}
 use Rattle.invariant.specs.Proofs.Calls as Calls
@@ -66,6 +68,7 @@ use Rattle.invariant.specs.Proofs.Read.Heard as Back
 use Rattle.invariant.specs.Proofs.Read.Sizes as Settings
 use Rattle.invariant.specs.Proofs.Reports.Ack as Ack
 use Rattle.invariant.specs.Proofs.Reports.Bytes as Bytes
+use Rattle.invariant.specs.Proofs.Reports.Cause as Cause
 use Rattle.invariant.specs.Proofs.Reports.Fixed as Fixed
 use Rattle.invariant.specs.Proofs.Reports.HandedAgain as Again
 use Rattle.invariant.specs.Proofs.Reports.Held as Held
@@ -81,6 +84,7 @@ use Rattle.invariant.specs.Reports.{ByNumber, Given, HeldReport, Others,
 use Rattle.invariant.specs.Ruled.{OneEpoch}
 use Rattle.step.specs.OwnCount.{withoutMfi2}
 use Rattle.step.specs.Run.{inStepAt}
+use Rattle.step.specs.Words.{InStepExactly}
 use Rattle.invariant.specs.Times.{SameShown, outcomesOf, standingIn, standingsAfter}
 use Rattle.invariant.specs.Waits.{Claimant, InARow, Unclaimed, Zeros, sawOf}
 
@@ -89,6 +93,13 @@ use Rattle.invariant.specs.Waits.{Claimant, InARow, Unclaimed, Zeros, sa
 pub kept : (kind count P W : ℕ) (hold restore : List ℕ) (rows : List (List ℕ)) (store : List ℕ) → startAsAnswer kind count P W (length store) hold restore (length rows) ≡ 0 → (calls : List ReceiverCall)
     → Kept (receiverRun (startedWith kind count P W hold restore rows store) calls .rows)
 kept = Calls.kept
+
+-- one call keeps it, whatever store is lent with it
+pub frame-kept : (s : List (List ℕ)) → Kept s → (i : ℕ) (failed : Bool) (h : ℕ) (payload store : List ℕ) → Kept (frameRows s i failed h payload store)
+frame-kept = EachCall.frame-kept
+
+pub fetch-kept : (s : List (List ℕ)) → Kept s → (store out report : List ℕ) → Kept (fetchRows s store out report)
+fetch-kept = EachCall.fetch-kept
 
 -- R-7: after a frame, stopping, beginning and gathering may be tested always or only where takenOf says so
 pub settles-always : (s : List (List ℕ)) → Kept s → (i : ℕ) (failed : Bool) (h : ℕ) → i < groupAt s .count → (store : List ℕ)
@@ -186,6 +197,28 @@ held-report s i o = Held.held-report s i o
 
 pub held-out : (s : List (List ℕ)) (i : ℕ) → Refused s i → (store out report : List ℕ) → fetchOut s store out report ≡ out
 held-out s i o = Held.held-out s i o
+
+-- The cause of a report, byte 3 of its record: by the packets of the ports that the report saw, the first clause in 01's order that holds; and the mark is what that cause makes of it. With none due it is 0.
+
+pub report-cause : (s : List (List ℕ)) (store out report : List ℕ) → Given s store out report
+    → getD (fetchRecord s store out report) 3 0 ≡ causeOf (groupAt s .kind) (seenAll (groupAt s) s (portsIn (groupAt s))) (portsIn (groupAt s))
+report-cause = Cause.report-cause
+
+pub mark-cause : (s : List (List ℕ)) (store out report : List ℕ) → Given s store out report
+    → getD (fetchRecord s store out report) 0 0 ≡ markOf (groupAt s .kind) (getD (fetchRecord s store out report) 3 0)
+mark-cause = Cause.mark-cause
+
+pub none-cause : (s : List (List ℕ)) (store out report : List ℕ) → fits s store out report ≡ true → dueIn (groupAt s) (portsIn (groupAt s)) s ≡ false
+    → getD (fetchRecord s store out report) 3 0 ≡ 0
+none-cause = Cause.none-cause
+
+-- after any calls the cause is read before the report is fetched: what is read then is what the next fetch says
+pub cause-read : (kind count P W : ℕ) (hold restore : List ℕ) (rows : List (List ℕ)) (store : List ℕ) → startAsAnswer kind count P W (length store) hold restore (length rows) ≡ 0
+    → (calls : List ReceiverCall) (out report lent : List ℕ) → length lent ≡ 2
+    → (let x = receiverRun (startedWith kind count P W hold restore rows store) calls in
+    Given (x .rows) (x .store) out report → getD (causeOut (x .rows) lent) 0 0 ≡ getD (fetchRecord (x .rows) (x .store) out report) 3 0)
+cause-read kind count P W hold restore rows store e calls out report lent l o =
+    Cause.cause-read (receiverRun (startedWith kind count P W hold restore rows store) calls .rows) (receiverRun (startedWith kind count P W hold restore rows store) calls .store) out report o lent l
 
 -- Reports come in order, with no gap, from the first one after a beginning until receiving stops.
 

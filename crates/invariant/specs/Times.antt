@@ -21,9 +21,9 @@ use Rattle.invariant.specs.Reports.{reportPorts}
 -- what a call answers and leaves in all that is lent with it but the rows; a frame is lent no output and no record
 pub record Outcome : Type 0 where
   pub answer : ℕ
-  pub store : List ℕ
-  pub out : List ℕ
-  pub report : List ℕ
+  pub store : Bytes
+  pub out : Bytes
+  pub report : Bytes
 
 abbrev pub outcomeOf : Receiver → ReceiverCall → Outcome
 outcomeOf x (Frame port failed h payload) =
@@ -48,9 +48,9 @@ outcomesOf x (c ∷ calls) = outcomeOf x c ∷ outcomesOf (receiverAfter x c) ca
 
 -- What can be read out beside them is the same, with any output lent: RS-Ack, which is the reply's second byte, in every epoch; and what is shown of
 -- the ports, but for the state, its number and what waits, bytes 0, 1 and 7.
-pub record SameShown (s t : List (List ℕ)) : Type 0 where
+pub record SameShown (s t : Rows) : Type 0 where
   pub reply-answer : (long : ℕ) → replyAnswer s long ≡ replyAnswer t long
-  pub ack : (epoch : ℕ) (out : List ℕ) → getD (replyOut s epoch out) 1 0 ≡ getD (replyOut t epoch out) 1 0
+  pub ack : (epoch : ℕ) (out : Bytes) → getD (replyOut s epoch out) 1 0 ≡ getD (replyOut t epoch out) 1 0
   pub ports-answer : (long : ℕ) → portsAnswer s long ≡ portsAnswer t long
   pub ports : (out : List (List ℕ)) (i byte : ℕ) → byte ≢ 0 → byte ≢ 1 → byte ≢ 7 → getD (getD (portsOut s out) i []) byte 0 ≡ getD (getD (portsOut t out) i []) byte 0
 

@@ -5,9 +5,9 @@ use mathlib.Core.List.{List, [], _∷_}
 use Prim.Native.Nat.{ℕ, zero, suc}
 use lib.ListN.{getD}
 use Rattle.ground.specs.Plain.{if_then_else_}
+use Rattle.reply.specs.Reports.{Claim}
 use Rattle.reply.specs.declared.members.Port.{Port}
 use Rattle.reply.specs.Members.{isIdle, portAt}
-use Rattle.reply.specs.Theorems.Waiting.{Claim}
 use Rattle.invariant.specs.Calls.{Fetch, Frame, Receiver, ReceiverCall, receiverAfter}
 use Rattle.invariant.specs.Reports.{gives, reportPorts}
 

@@ -9,10 +9,11 @@ use Rattle.ground.specs.Table.{tabulate, tabulate-ext}
 use Rattle.judge.specs.declared.order.Order.{Order}
 use Rattle.judge.specs.declared.seen.Seen.{Seen}
 use Rattle.judge.specs.declared.verdict.Tally.{Tally}
+use Rattle.judge.specs.Cause.{causeOf, fixedCause, lcasCause}
 use Rattle.judge.specs.Order.{activeIn, hasRank, orderOf, portOf, rankOf}
 use Rattle.judge.specs.Seen.{activeSeen, numberedSeen, seenAt}
 use Rattle.judge.specs.Tally.{exactTo, tallyOf}
-use Rattle.judge.specs.Verdict.{doubtfulBy, eosAlone, eosWrong, exact, fixedExact, fixedHeld, fixedVerdict, gidDiffers, heldBy, highest, judgeOf, lcasVerdict, missing, repeats, takes}
+use Rattle.judge.specs.Verdict.{eosAlone, eosWrong, exact, fixedExact, gidDiffers, highest, missing, repeats, takes}
 
 no-other : (b : Bool) → false ≡ (b && false)
 no-other true = refl
@@ -37,9 +38,9 @@ unfolding exactTo
 fixed-exact-alone p zero e = e
 
 -- nothing but the first port is asked for
-pub judge-first : (kind : ℕ) (ports : List Seen) → judgeOf kind (seenAt ports 0 ∷ []) 1 ≡ judgeOf kind ports 1
-unfolding judgeOf fixedVerdict fixedHeld fixedExact lcasVerdict heldBy doubtfulBy repeats gidDiffers eosWrong eosAlone highest missing exact takes
-judge-first kind ports = refl
+pub cause-first : (kind : ℕ) (ports : List Seen) → causeOf kind (seenAt ports 0 ∷ []) 1 ≡ causeOf kind ports 1
+unfolding causeOf fixedCause fixedExact lcasCause repeats gidDiffers eosWrong eosAlone highest missing exact takes
+cause-first kind ports = refl
 
 pub order-first : (ports : List Seen) → orderOf (seenAt ports 0 ∷ []) 1 ≡ orderOf ports 1
 unfolding orderOf portOf rankOf activeIn

@@ -1,54 +1,64 @@
--- The verdict by what the code has found.
-use mathlib.Core.Path.{_≡_, refl, _∙_}
-use mathlib.Core.Bool.{Bool, true, false, not, _||_}
+-- The cause by what the code has found.
+use mathlib.Core.Path.{_≡_, refl, sym, _∙_}
+use mathlib.Core.Bool.{Bool, true, false, cond, not, _&&_}
 use mathlib.Core.List.{List}
-use Prim.Native.Nat.{ℕ}
+use Prim.Native.Nat.{ℕ, _≤_, _<_}
+use lib.Dec.{ltb}
+use borrow.Author.Tests.{le-ltb, lt-ltb}
+use Rattle.counting.specs.Laws.Numbers.{count-le}
 use Rattle.judge.specs.declared.seen.Seen.{Seen}
 use Rattle.judge.specs.declared.verdict.Tally.{Tally}
-use Rattle.judge.specs.Tally.{eosAloneBy, exactTo, fixedHeldWith, heldWith, tallyOf}
-use Rattle.judge.specs.Verdict.{DOUBTFUL, HELD, SURE, doubtfulBy, eosAlone, eosWrong, exact, fixedExact, fixedHeld, fixedVerdict, gidDiffers, heldBy, highest, lcasVerdict, missing, repeats}
+use Rattle.judge.specs.Cause.{fixedCause, lcasCause}
+use Rattle.judge.specs.Seen.{numberedSeen, seenAt}
+use Rattle.judge.specs.Tally.{doubtCause, eosAloneBy, exactTo, fixedCauseWith, heldCause, tallyOf}
+use Rattle.judge.specs.Verdict.{eosAlone, eosWrong, exact, fixedExact, gidDiffers, highest, missing, repeats}
 
-held-is : (ports : List Seen) (n : ℕ) → heldWith (tallyOf ports n) (repeats ports n) (eosAloneBy ports n (tallyOf ports n .highest)) ≡ heldBy ports n
-unfolding heldBy gidDiffers eosWrong eosAlone eosAloneBy highest missing
-held-is ports n = refl
+pub numbered-le : (ports : List Seen) (n : ℕ) (t : Tally) → t ≡ tallyOf ports n → t .numbered ≤ n
+numbered-le ports n t e = rw e (count-le n (λ i. numberedSeen (seenAt ports i)))
 
-doubtful-is : (ports : List Seen) (n : ℕ) → (tallyOf ports n .missing || not (exactTo ports n (tallyOf ports n .numbered))) ≡ doubtfulBy ports n
-unfolding doubtfulBy missing exact exactTo
-doubtful-is ports n = refl
+-- five clauses, and what is behind them
+chain : (a b c d e : Bool) (x : ℕ)
+    → cond a 1 (cond b 2 (cond c 3 (cond d 4 (cond e 5 x)))) ≡ cond (ltb 0 (cond a 1 (cond b 2 (cond c 3 (cond d 4 (cond e 5 0)))))) (cond a 1 (cond b 2 (cond c 3 (cond d 4 (cond e 5 0))))) x
+chain true b c d e x = refl
+chain false true c d e x = refl
+chain false false true d e x = refl
+chain false false false true e x = refl
+chain false false false false true x = refl
+chain false false false false false x = refl
 
-module _ (ports : List Seen) (n : ℕ) (t : Tally) (repeated alone held : Bool) (tallied : t ≡ tallyOf ports n)
-    (repeating : repeated ≡ repeats ports n) (standing : alone ≡ eosAloneBy ports n (t .highest)) (holding : held ≡ heldWith t repeated alone) where
-  held-by : held ≡ heldBy ports n
-  held-by = holding ∙ rw (standing, repeating, tallied) (held-is ports n)
+turned : (b : Bool) → _≡_ {A = ℕ} (cond b 0 7) (cond (not b) 7 0)
+turned true = refl
+turned false = refl
 
-  pub by-held : held ≡ true → HELD ≡ lcasVerdict ports n
-  unfolding lcasVerdict
-  by-held e = rw (← held-by, e)
+abbrev heldIn : List Seen → ℕ → ℕ
+heldIn ports n = heldCause (tallyOf ports n) (repeats ports n) (eosAloneBy ports n (tallyOf ports n .highest))
 
-  doubtful-by : (whole : Bool) → whole ≡ exactTo ports n (t .numbered) → (t .missing || not whole) ≡ doubtfulBy ports n
-  doubtful-by whole e = rw (e, tallied) (doubtful-is ports n)
+abbrev doubtIn : List Seen → ℕ → ℕ
+doubtIn ports n = doubtCause (tallyOf ports n .missing) (exactTo ports n (tallyOf ports n .numbered))
 
-  pub by-doubt : (whole : Bool) → whole ≡ exactTo ports n (t .numbered) → held ≡ false → (t .missing || not whole) ≡ true → DOUBTFUL ≡ lcasVerdict ports n
-  unfolding lcasVerdict
-  by-doubt whole e h d = rw (← held-by, h, ← doubtful-by whole e, d)
+cause-is : (ports : List Seen) (n : ℕ) → cond (ltb 0 (heldIn ports n)) (heldIn ports n) (doubtIn ports n) ≡ lcasCause ports n
+unfolding lcasCause gidDiffers eosWrong eosAlone eosAloneBy highest missing exact exactTo
+cause-is ports n =
+    rw (turned (exact ports n))
+    (sym (chain (tallyOf ports n .refused) (tallyOf ports n .lacking) (repeats ports n) (gidDiffers ports n) (eosWrong ports n)
+    (cond (missing ports n) 6 (cond (not (exact ports n)) 7 0))))
 
-  pub by-rest : (whole : Bool) → whole ≡ exactTo ports n (t .numbered) → held ≡ false → (t .missing || not whole) ≡ false → SURE ≡ lcasVerdict ports n
-  unfolding lcasVerdict
-  by-rest whole e h d = rw (← held-by, h, ← doubtful-by whole e, d)
+module _ (ports : List Seen) (n : ℕ) (t : Tally) (repeated alone : Bool) (held : ℕ) (tallied : t ≡ tallyOf ports n)
+    (repeating : repeated ≡ repeats ports n) (standing : alone ≡ eosAloneBy ports n (t .highest)) (holding : held ≡ heldCause t repeated alone) where
+  held-by : held ≡ heldIn ports n
+  held-by = holding ∙ rw (standing, repeating, tallied)
 
-fixed-held-is : (ports : List Seen) (n : ℕ) → fixedHeldWith (tallyOf ports n) (repeats ports n) (exactTo ports n n) ≡ fixedHeld ports n
-unfolding fixedHeld fixedExact exactTo missing
-fixed-held-is ports n = refl
+  pub by-held : 0 < held → held ≡ lcasCause ports n
+  by-held h = rw (← held-by, lt-ltb 0 held h) at (cause-is ports n)
 
-module _ (ports : List Seen) (n : ℕ) (t : Tally) (repeated exact held : Bool) (tallied : t ≡ tallyOf ports n) (repeating : repeated ≡ repeats ports n) (whole : exact ≡ exactTo ports n n)
-    (holding : held ≡ fixedHeldWith t repeated exact) where
-  fixed-held-by : held ≡ fixedHeld ports n
-  fixed-held-by = holding ∙ rw (whole, repeating, tallied) (fixed-held-is ports n)
+  pub by-doubt : (whole : Bool) (cause : ℕ) → whole ≡ exactTo ports n (t .numbered) → held ≤ 0 → cause ≡ doubtCause (t .missing) whole → cause ≡ lcasCause ports n
+  by-doubt whole cause e h d = d ∙ rw (e, tallied) (rw (← held-by, le-ltb 0 held h) at (cause-is ports n))
 
-  pub fixed-by-held : held ≡ true → HELD ≡ fixedVerdict ports n
-  unfolding fixedVerdict
-  fixed-by-held e = rw (← fixed-held-by, e)
+fixed-is : (ports : List Seen) (n : ℕ) → fixedCauseWith (tallyOf ports n) (repeats ports n) (exactTo ports n n) ≡ fixedCause ports n
+unfolding fixedCause fixedExact exactTo missing
+fixed-is ports n = rw (turned (fixedExact ports n))
 
-  pub fixed-by-rest : held ≡ false → SURE ≡ fixedVerdict ports n
-  unfolding fixedVerdict
-  fixed-by-rest e = rw (← fixed-held-by, e)
+module _ (ports : List Seen) (n : ℕ) (t : Tally) (repeated exact : Bool) (cause : ℕ) (tallied : t ≡ tallyOf ports n) (repeating : repeated ≡ repeats ports n) (whole : exact ≡ exactTo ports n n)
+    (holding : cause ≡ fixedCauseWith t repeated exact) where
+  pub by-fixed : cause ≡ fixedCause ports n
+  by-fixed = holding ∙ rw (whole, repeating, tallied) (fixed-is ports n)

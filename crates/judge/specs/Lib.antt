@@ -1,4 +1,7 @@
+pub mod Cause
+pub mod Full
 pub mod Laws
+pub mod Lowest
 pub mod Opened
 pub mod Order
 pub mod Seen

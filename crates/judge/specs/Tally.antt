@@ -44,14 +44,26 @@ eosAloneBy ports n top = every n (λ i. Bool·beq (eosSeen (seenAt ports i)) (ac
 unfoldable pub exactTo : (ports : List Seen) (count limit : ℕ) → Bool
 exactTo ports n limit = every limit (λ q. takes ports n q)
 
-abbrev pub heldWith : (t : Tally) (repeated alone : Bool) → Bool
-heldWith t repeated alone =
-    t .refused
-    || t .lacking
-    || repeated
-    || (t .zero && t .other)
-    || (t .active && not alone && not (not (t .eos) && t .missing))
+-- the first clause that holds the epoch, 0 where none does
+abbrev pub heldCause : (t : Tally) (repeated alone : Bool) → ℕ
+heldCause t repeated alone =
+    if t .refused then 1
+    else if t .lacking then 2
+    else if repeated then 3
+    else if t .zero && t .other then 4
+    else if t .active && not alone && not (not (t .eos) && t .missing) then 5
+    else 0
+
+-- the first that leaves it doubtful
+abbrev pub doubtCause : (unseen exact : Bool) → ℕ
+doubtCause unseen exact = if unseen then 6 else if exact then 0 else 7
 
 -- of a fixed group
-abbrev pub fixedHeldWith : (t : Tally) (repeated exact : Bool) → Bool
-fixedHeldWith t repeated exact = t .missing || t .refused || t .lacking || repeated || not exact
+abbrev pub fixedCauseWith : (t : Tally) (repeated exact : Bool) → ℕ
+fixedCauseWith t repeated exact =
+    if t .missing then 6
+    else if t .refused then 1
+    else if t .lacking then 2
+    else if repeated then 3
+    else if exact then 0
+    else 7

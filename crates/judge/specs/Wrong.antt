@@ -9,9 +9,11 @@ use Rattle.ground.specs.Table.{tabulate}
 use Rattle.packet.specs.Kinds.{fixedKind}
 use Rattle.packet.specs.Words.{DNU, EOS, FIXED, NORM}
 use Rattle.judge.specs.declared.seen.Seen.{Seen}
+use Rattle.judge.specs.Cause.{applies, blamedOf, causeOf, markOf}
+use Rattle.judge.specs.Lowest.{lowest}
 use Rattle.judge.specs.Order.{activeIn, portOf}
-use Rattle.judge.specs.Seen.{activeSeen, lackingSeen, refusedSeen, seenAt}
-use Rattle.judge.specs.Verdict.{DOUBTFUL, HELD, SURE, eosWrong, fixedExact, fixedHeld, judgeOf, missing, repeats}
+use Rattle.judge.specs.Seen.{activeSeen, lackingSeen, numberedSeen, refusedSeen, seenAt}
+use Rattle.judge.specs.Verdict.{DOUBTFUL, HELD, SURE, eosWrong, exact, fixedExact, fixedHeld, gidDiffers, highest, judgeOf, missing, repeats, takes}
 use Rattle.judge.specs.Opened.{judgeOpen}
 
 abbrev sent : ℕ → ℕ → Seen
@@ -65,3 +67,39 @@ doubt-breaks = (refl, refl, refl, refl)
 kind-breaks : judgeOf 0 three 3 ≡ HELD
 unfolding judgeOpen
 kind-breaks = refl
+
+-- The cause.
+
+-- That of the last clause that holds: with the frames of port 0 gone, and its number at port 1 too, somebody would look for numbers that are not there, and
+-- the mark by that cause would give out bytes.
+wrong-cause : List Seen → ℕ → ℕ
+wrong-cause ports n = if not (exact ports n) then 7 else if missing ports n then 6 else if eosWrong ports n then 5 else if gidDiffers ports n then 4 else if repeats ports n then 3 else causeOf 0 ports n
+
+abbrev gone : List Seen
+gone = record { whole = true; good = true; word = NORM; number = 0; gid = 0; here = false } ∷ sent EOS 0 ∷ []
+
+cause-breaks : (wrong-cause gone 2 ≡ 7) × (causeOf 0 gone 2 ≡ 2) × (markOf 0 7 ≡ DOUBTFUL) × (judgeOf 0 gone 2 ≡ HELD) × (blamedOf 0 gone 2 ≡ 0)
+unfolding judgeOpen wrong-cause
+cause-breaks = (refl, refl, refl, refl, refl)
+
+-- A fixed group's by 01's order: a refused packet named, where a port has none at all.
+abbrev unread : List Seen
+unread = record { whole = true; good = false; word = 0; number = 0; gid = 0; here = true } ∷ unseen ∷ []
+
+order-breaks : (causeOf 0 unread 2 ≡ 1) × (causeOf fixedKind unread 2 ≡ 6) × (blamedOf 0 unread 2 ≡ 0) × (blamedOf fixedKind unread 2 ≡ 1)
+unfolding judgeOpen
+order-breaks = (refl, refl, refl, refl)
+
+-- The port: the first of the two with a number, and not the one that has it once more; or the last one to which the clause applies.
+wrong-first : List Seen → ℕ → ℕ
+wrong-first ports n = lowest n (λ i. numberedSeen (seenAt ports i) && takes ports n (seenAt ports i .number))
+
+wrong-last : List Seen → ℕ → ℕ
+wrong-last ports n = the n (applies ports (highest ports n) (causeOf 0 ports n))
+
+abbrev thrice : List Seen
+thrice = sent NORM 0 ∷ sent NORM 1 ∷ sent EOS 2 ∷ sent NORM 1 ∷ sent NORM 1 ∷ []
+
+blame-breaks : (causeOf 0 thrice 5 ≡ 3) × (wrong-first thrice 5 ≡ 0) × (wrong-last thrice 5 ≡ 4) × (blamedOf 0 thrice 5 ≡ 3)
+unfolding judgeOpen wrong-first wrong-last
+blame-breaks = (refl, refl, refl, refl)

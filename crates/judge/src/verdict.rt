@@ -1,14 +1,18 @@
-// Held, doubtful, sure (01, 'Report of an epoch').
+// Held, doubtful, sure, and why (01, 'Report of an epoch').
+use crate::numbers;
 use crate::seen;
 use crate::seen::Seen;
 use packet::kinds;
 ghost use mathlib.Core.Path.{_≡_};
+ghost use mathlib.Core.Bool.{true};
 ghost use mathlib.Core.List.{[], _∷_};
 ghost use Prim.Native.Nat.{_≤_, _<_};
 ghost use Rattle.ground.specs.Plain.{if_then_else_};
+ghost use Rattle.judge.specs.Full.{Full};
+ghost use Rattle.judge.specs.Cause.{causeOf, fixedCause, lcasCause, markOf};
 ghost use Rattle.judge.specs.Seen.{sizeOf};
-ghost use Rattle.judge.specs.Tally.{eosAloneBy, exactTo, fixedHeldWith, heldWith, tallyOf, tallyWith};
-ghost use Rattle.judge.specs.Verdict.{fixedVerdict, judgeOf, lcasVerdict, repeats, takes};
+ghost use Rattle.judge.specs.Tally.{doubtCause, eosAloneBy, exactTo, fixedCauseWith, heldCause, tallyOf, tallyWith};
+ghost use Rattle.judge.specs.Verdict.{highest, repeats, takes};
 
 // The marks of a report. 0 says that none is due.
 pub const HELD: u8 = 1;
@@ -16,6 +20,23 @@ pub const HELD: u8 = 1;
 pub const DOUBTFUL: u8 = 2;
 
 pub const SURE: u8 = 3;
+
+// The causes of a mark, the clauses in 01's order. 0 says that none decided.
+pub(crate) const NONE: u8 = 0;
+
+pub(crate) const REFUSED: u8 = 1;
+
+pub(crate) const LACKING: u8 = 2;
+
+pub(crate) const REPEATED: u8 = 3;
+
+pub(crate) const GID: u8 = 4;
+
+pub(crate) const EOS: u8 = 5;
+
+pub(crate) const UNSEEN: u8 = 6;
+
+pub(crate) const NUMBERS: u8 = 7;
 
 // What one walk over the ports finds.
 struct Tally {
@@ -90,8 +111,17 @@ fn tallied(ports: [Seen; 64], n: usize) -> Tally
     sum
 }
 
+// The highest number of an active port.
+pub(crate) fn highest_of(ports: [Seen; 64], n: usize) -> u8
+    requires { ⌜ n ≤ 64 ⌝ }
+    ensures { λ r. ⌜ r ≡ highest ports n ⌝ }
+{
+    let tally = tallied(ports, n);
+    tally.highest
+}
+
 // One of the first n active and DNU ports has the number.
-fn is_taken(ports: [Seen; 64], n: usize, number: u8) -> bool
+pub(crate) fn is_taken(ports: [Seen; 64], n: usize, number: u8) -> bool
     requires { ⌜ n ≤ 64 ⌝ }
     ensures { λ r. ⌜ r ≡ takes ports n number ⌝ }
 {
@@ -105,8 +135,7 @@ fn is_taken(ports: [Seen; 64], n: usize, number: u8) -> bool
     found
 }
 
-// 'numbers of active and DNU ports repeat'
-fn has_repeats(ports: [Seen; 64], n: usize) -> bool
+fn has_pairs(ports: [Seen; 64], n: usize) -> bool
     requires { ⌜ n ≤ 64 ⌝ }
     ensures { λ r. ⌜ r ≡ repeats ports n ⌝ }
 {
@@ -118,6 +147,17 @@ fn has_repeats(ports: [Seen; 64], n: usize) -> bool
         i += 1;
     }
     found
+}
+
+// 'numbers of active and DNU ports repeat'
+fn has_repeats(ports: [Seen; 64], n: usize, full: bool) -> bool
+    requires { ⌜ (n ≤ 64) × (full ≡ true → Full ports n) ⌝ }
+    ensures { λ r. ⌜ r ≡ repeats ports n ⌝ }
+{
+    if full {
+        return false;
+    }
+    has_pairs(ports, n)
 }
 
 fn is_eos_alone(ports: [Seen; 64], n: usize, highest: u8) -> bool
@@ -135,8 +175,7 @@ fn is_eos_alone(ports: [Seen; 64], n: usize, highest: u8) -> bool
     all
 }
 
-// Each of the numbers below the limit is taken.
-fn is_exact(ports: [Seen; 64], n: usize, limit: u8) -> bool
+fn are_taken(ports: [Seen; 64], n: usize, limit: u8) -> bool
     requires { ⌜ n ≤ 64 ⌝ }
     ensures { λ r. ⌜ r ≡ exactTo ports n limit ⌝ }
 {
@@ -149,51 +188,74 @@ fn is_exact(ports: [Seen; 64], n: usize, limit: u8) -> bool
     all
 }
 
-fn is_held(tally: Tally, repeated: bool, alone: bool) -> bool
-    ensures { λ r. ⌜ r ≡ heldWith tally repeated alone ⌝ }
+// Each of the numbers below the limit is taken.
+fn is_exact(ports: [Seen; 64], n: usize, limit: u8, full: bool) -> bool
+    requires { ⌜ (n ≤ 64) × (limit ≤ n) × (full ≡ true → Full ports n) ⌝ }
+    ensures { λ r. ⌜ r ≡ exactTo ports n limit ⌝ }
 {
-    tally.refused
-        | tally.lacking
-        | repeated
-        | (tally.zero & tally.other)
-        | (tally.active & !alone & !(!tally.eos & tally.missing))
+    if full {
+        return true;
+    }
+    are_taken(ports, n, limit)
 }
 
-fn lcas_verdict(ports: [Seen; 64], n: usize) -> u8
+fn held_cause(tally: Tally, repeated: bool, alone: bool) -> u8
+    ensures { λ r. ⌜ r ≡ heldCause tally repeated alone ⌝ }
+{
+    let eos = choose(
+        tally.active & !alone & !(!tally.eos & tally.missing),
+        EOS,
+        NONE,
+    );
+    let gid = choose(tally.zero & tally.other, GID, eos);
+    let numbers = choose(repeated, REPEATED, gid);
+    let frames = choose(tally.lacking, LACKING, numbers);
+    choose(tally.refused, REFUSED, frames)
+}
+
+fn doubt_cause(unseen: bool, exact: bool) -> u8
+    ensures { λ r. ⌜ r ≡ doubtCause unseen exact ⌝ }
+{
+    let numbers = choose(exact, NONE, NUMBERS);
+    choose(unseen, UNSEEN, numbers)
+}
+
+fn lcas_cause(ports: [Seen; 64], n: usize) -> u8
     requires { ⌜ n ≤ 64 ⌝ }
-    ensures { λ r. ⌜ r ≡ lcasVerdict ports n ⌝ }
+    ensures { λ r. ⌜ r ≡ lcasCause ports n ⌝ }
 {
+    let full = numbers::is_full(ports, n);
     let tally = tallied(ports, n);
-    let repeated = has_repeats(ports, n);
+    let repeated = has_repeats(ports, n, full);
     let alone = is_eos_alone(ports, n, tally.highest);
-    if is_held(tally, repeated, alone) {
-        return HELD;
+    let held = held_cause(tally, repeated, alone);
+    if NONE < held {
+        return held;
     }
-    let exact = is_exact(ports, n, tally.numbered);
-    if tally.missing | !exact {
-        return DOUBTFUL;
-    }
-    SURE
+    let exact = is_exact(ports, n, tally.numbered, full);
+    doubt_cause(tally.missing, exact)
 }
 
-fn is_fixed_held(tally: Tally, repeated: bool, exact: bool) -> bool
-    ensures { λ r. ⌜ r ≡ fixedHeldWith tally repeated exact ⌝ }
+fn fixed_cause_with(tally: Tally, repeated: bool, exact: bool) -> u8
+    ensures { λ r. ⌜ r ≡ fixedCauseWith tally repeated exact ⌝ }
 {
-    tally.missing | tally.refused | tally.lacking | repeated | !exact
+    let numbers = choose(exact, NONE, NUMBERS);
+    let twice = choose(repeated, REPEATED, numbers);
+    let frames = choose(tally.lacking, LACKING, twice);
+    let packets = choose(tally.refused, REFUSED, frames);
+    choose(tally.missing, UNSEEN, packets)
 }
 
 // A fixed group (request 2026-12). X is the number of its ports, so no report of it is doubtful.
-fn fixed_verdict(ports: [Seen; 64], n: usize) -> u8
+fn fixed_cause(ports: [Seen; 64], n: usize) -> u8
     requires { ⌜ n ≤ 64 ⌝ }
-    ensures { λ r. ⌜ r ≡ fixedVerdict ports n ⌝ }
+    ensures { λ r. ⌜ r ≡ fixedCause ports n ⌝ }
 {
+    let full = numbers::is_full(ports, n);
     let tally = tallied(ports, n);
-    let repeated = has_repeats(ports, n);
-    let exact = is_exact(ports, n, n as u8);
-    if is_fixed_held(tally, repeated, exact) {
-        return HELD;
-    }
-    SURE
+    let repeated = has_repeats(ports, n, full);
+    let exact = is_exact(ports, n, n as u8, full);
+    fixed_cause_with(tally, repeated, exact)
 }
 
 // A port alone is judged by itself: no table of 64 is handed on.
@@ -218,33 +280,28 @@ fn has_zero(port: Seen) -> bool
 }
 
 fn lcas_alone(port: Seen) -> u8
-    ensures { λ r. ⌜ r ≡ lcasVerdict (port ∷ []) 1 ⌝ }
+    ensures { λ r. ⌜ r ≡ lcasCause (port ∷ []) 1 ⌝ }
 {
     let tally = tallied_alone(port);
     let alone = is_eos_last(port, tally.highest);
-    if is_held(tally, false, alone) {
-        return HELD;
+    let held = held_cause(tally, false, alone);
+    if NONE < held {
+        return held;
     }
     let zero = has_zero(port);
-    if tally.missing | !((tally.numbered == 0) | zero) {
-        return DOUBTFUL;
-    }
-    SURE
+    doubt_cause(tally.missing, (tally.numbered == 0) | zero)
 }
 
 fn fixed_alone(port: Seen) -> u8
-    ensures { λ r. ⌜ r ≡ fixedVerdict (port ∷ []) 1 ⌝ }
+    ensures { λ r. ⌜ r ≡ fixedCause (port ∷ []) 1 ⌝ }
 {
     let tally = tallied_alone(port);
     let zero = has_zero(port);
-    if is_fixed_held(tally, false, zero) {
-        return HELD;
-    }
-    SURE
+    fixed_cause_with(tally, false, zero)
 }
 
-fn judge_alone(kind: u8, port: Seen) -> u8
-    ensures { λ r. ⌜ r ≡ judgeOf kind (port ∷ []) 1 ⌝ }
+fn cause_alone(kind: u8, port: Seen) -> u8
+    ensures { λ r. ⌜ r ≡ causeOf kind (port ∷ []) 1 ⌝ }
 {
     if kind == kinds::FIXED {
         return fixed_alone(port);
@@ -252,16 +309,29 @@ fn judge_alone(kind: u8, port: Seen) -> u8
     lcas_alone(port)
 }
 
-pub fn judge(kind: u8, ports: [Seen; 64], count: u8) -> u8
-    ensures { λ r. ⌜ r ≡ judgeOf kind ports (sizeOf count) ⌝ }
+// Why the epoch is held or doubtful; the mark follows from it.
+pub fn cause(kind: u8, ports: [Seen; 64], count: u8) -> u8
+    ensures { λ r. ⌜ r ≡ causeOf kind ports (sizeOf count) ⌝ }
 {
     if count == 1 {
         let port = ports[0];
-        return judge_alone(kind, port);
+        return cause_alone(kind, port);
     }
     let n = seen::size_of(count);
     if kind == kinds::FIXED {
-        return fixed_verdict(ports, n);
+        return fixed_cause(ports, n);
     }
-    lcas_verdict(ports, n)
+    lcas_cause(ports, n)
+}
+
+pub fn mark(kind: u8, cause: u8) -> u8
+    ensures { λ r. ⌜ r ≡ markOf kind cause ⌝ }
+{
+    if cause == NONE {
+        return SURE;
+    }
+    if (kind == kinds::FIXED) | (cause < UNSEEN) {
+        return HELD;
+    }
+    DOUBTFUL
 }

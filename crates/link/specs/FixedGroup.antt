@@ -21,7 +21,7 @@ pub record FixedGroup : Type 0 where
   pub x : ℕ
   pub first : ℕ
   pub number : ℕ → ℕ
-  pub unread : ℕ → ℕ → ℕ → ℕ
+  pub unread : (i slot place : ℕ) → ℕ
 
 -- in any order, 'together 0 to X-1'
 pub record Numbered (f : FixedGroup) : Type 0 where

@@ -1,7 +1,7 @@
 -- Our sender's side of demand 3: 'any client bytes and any history of members our sender allows from one start', and what each slot then sends.
 use mathlib.Core.Path.{_≡_}
 use mathlib.Core.Bool.{Bool, true, false, not}
-use mathlib.Core.List.{List}
+use mathlib.Core.List.{List, [], _∷_, _++_}
 use Prim.Native.Nat.{ℕ, zero, suc, _*_, _≤_, _<_}
 use lib.ListN.{length, replicate}
 use Rattle.ground.specs.Plain.{if_then_else_, _==_}
@@ -9,12 +9,11 @@ use Rattle.ground.specs.Types.{Bytes}
 use Rattle.packet.specs.Changes.{mostChanges}
 use Rattle.packet.specs.declared.layout.Fields.{Fields}
 use Rattle.packet.specs.Kinds.{epochs, fixedKind, frames, payloadRight}
+use Rattle.sender.specs.Epochs.{SenderCall, beginOf, onTable, packetBytes, packetFields, payloadBytes, rankIn, senderOutcomeOf, senderRun, xOf}
 use Rattle.sender.specs.declared.epochs.Sender.{Sender}
 use Rattle.sender.specs.Calls.{Call}
-use Rattle.sender.specs.Epochs.{beginOf, packetBytes, packetFields, payloadBytes, rankIn, senderOutcomeOf, senderRun, xOf}
 use Rattle.sender.specs.Epochs.SenderCall.{StartEpoch}
 use Rattle.sender.specs.Ranks.{noRank}
-use Rattle.sender.specs.Theorems.Epochs.{onTable}
 use Rattle.link.specs.Sending.{Client, Sending, epochAt}
 
 -- One start, the number of its first epoch, and for each epoch the commands and reports that come before its start, and the GID, MST and RS-Ack lent to it.
@@ -95,3 +94,11 @@ sendingOf h P client unranked =
       payload = λ x slot. if hasRank h x slot then payloadSent h P client x slot else unranked x slot;
       changes = mostChanges (h .kind);
     }
+
+-- the calls before an epoch and its start, and all calls up to that
+abbrev pub callsBefore : History → ℕ → List SenderCall
+callsBefore h i = onTable (h .before i) ++ (StartEpoch (h .gid i) (h .mst i) (h .ack i) ∷ [])
+
+abbrev pub callsTo : History → ℕ → List SenderCall
+callsTo h zero = callsBefore h zero
+callsTo h (suc i) = callsTo h i ++ callsBefore h (suc i)

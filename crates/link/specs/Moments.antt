@@ -5,7 +5,7 @@ use mathlib.Core.List.{List, [], _∷_, _++_}
 use Prim.Native.Nat.{ℕ, zero, suc, _+_, _-_, _*_, _≤_, _<_}
 use lib.ListN.{length}
 use Rattle.ground.specs.Plain.{if_then_else_, _<?_, _≤?_}
-use Rattle.step.specs.Laws.Run.{startFrom}
+use Rattle.step.specs.SentRuns.{startFrom}
 use Rattle.link.specs.Road.{L, Road, times}
 use Rattle.link.specs.Running.{Moment, hasBegun, through, turns}
 

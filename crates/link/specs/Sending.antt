@@ -14,8 +14,8 @@ use Rattle.packet.specs.Kinds.{epochs, firstTag, frames}
 use Rattle.packet.specs.Symbols.{packetRow}
 use Rattle.packet.specs.Words.{IDLE}
 use Rattle.payload.specs.Order.{memberFrame}
-use Rattle.step.specs.Laws.Sent.{SentWith}
 use Rattle.step.specs.OwnCount.{oddPacket, ownRuling}
+use Rattle.step.specs.Sent.{SentWith}
 
 pub record Sending : Type 0 where
   -- the kind of its packets, how many slots there are, and the number of the first epoch

@@ -7,11 +7,12 @@ use Prim.Native.Nat.{ℕ, suc, _-_}
 use lib.ListN.{getD, length}
 use Rattle.ground.specs.Finite.{sameBytes}
 use Rattle.ground.specs.Plain.{if_then_else_, _==_}
+use Rattle.ground.specs.Types.{Bytes}
 use Rattle.mending.specs.Lines.{Line, digitPlace, recordOf}
 use Rattle.mending.specs.Mending.{noteText}
+use Rattle.recording.specs.Record.{isFrame}
 use Rattle.recording.specs.declared.record.Record.{Record}
 use Rattle.recording.specs.declared.record.Record.the-variants.{Frame, Malformed, Long, Unfinished, End}
-use Rattle.recording.specs.Laws.Here.{isFrame}
 use Rattle.text.specs.Ascii.{ascii}
 
 -- whether a record is a port's
@@ -37,11 +38,11 @@ module _ (size : ℕ) where
   AllAlike (l ∷ ls) (m ∷ ms) = Alike l m × AllAlike ls ms
 
   -- H4 as it stands in a line
-  abbrev pub h4In : Line → List ℕ
+  abbrev pub h4In : Line → Bytes
   h4In l = getD (l .bytes) (digitPlace size l - 1) 0 ∷ getD (l .bytes) (digitPlace size l) 0 ∷ []
 
   -- a note exactly if the line is another one now, with the old text and the new
-  abbrev pub alteredNote : (n : ℕ) (torn mended : Line) → List ℕ
+  abbrev pub alteredNote : (n : ℕ) (torn mended : Line) → Bytes
   alteredNote n l m = if sameBytes (l .bytes) (m .bytes) then [] else noteText n (ascii "H4") (h4In l) (h4In m)
 
 module _ (ports size : ℕ) where
@@ -51,7 +52,7 @@ module _ (ports size : ℕ) where
   wellFormed (l ∷ ls) = if isFrame (recordOf ports size l) then l ∷ wellFormed ls else wellFormed ls
 
   -- the notes of lines numbered from n, by the lines alone, torn and mended: a malformed line has been dropped
-  abbrev pub notesBeside : (n : ℕ) (torn mended : List Line) → List ℕ
+  abbrev pub notesBeside : (n : ℕ) (torn mended : List Line) → Bytes
   notesBeside n [] ms = []
   notesBeside n (l ∷ ls) [] = if isFrame (recordOf ports size l) then [] else noteText n (ascii "line") (l .bytes) [] ++ notesBeside (suc n) ls []
   notesBeside n (l ∷ ls) (m ∷ ms) =

@@ -4,12 +4,12 @@ use mathlib.Core.Bool.{Bool, true, false}
 use mathlib.Core.List.{List, [], _∷_, _++_}
 use Prim.Native.Nat.{ℕ}
 use lib.ListN.{length, replicate}
+use Rattle.recording.specs.Record.{isFrame}
 use Rattle.mending.specs.Follow.{beginning, following}
 use Rattle.mending.specs.Following.{followed}
 use Rattle.mending.specs.Lines.{recordOf}
 use Rattle.mending.specs.Mending.{mendAnswer, mendedOf, notesOf, readAnswer}
 use Rattle.mending.specs.Undone.{toldAgain}
-use Rattle.recording.specs.Laws.Here.{isFrame}
 use Rattle.text.specs.Ascii.{ascii}
 use Rattle.mending.specs.Opened.{mendingOpen}
 

@@ -4,6 +4,7 @@ use mathlib.Core.List.{List, [], _∷_, _++_}
 use Prim.Native.Nat.{ℕ, suc, _+_, _-_, _%_}
 use lib.ListN.{drop, getD, length, set, take}
 use Rattle.ground.specs.Plain.{if_then_else_, _==_, _<?_}
+use Rattle.ground.specs.Types.{Bytes}
 use Rattle.mending.specs.Following.{followedIf}
 use Rattle.recording.specs.declared.record.Record.{Record}
 use Rattle.recording.specs.declared.record.Record.the-variants.{Frame, Malformed, Long, Unfinished, End}
@@ -12,20 +13,20 @@ use Rattle.text.specs.Text.{linesOf}
 
 -- a line and its end, which the last one may lack
 pub record Line : Type 0 where
-  pub bytes : List ℕ
-  pub end : List ℕ
+  pub bytes : Bytes
+  pub end : Bytes
 
-abbrev pub linesIn : List (List ℕ) → List ℕ → List Line
+abbrev pub linesIn : List (List ℕ) → Bytes → List Line
 linesIn [] text = []
 linesIn (l ∷ ls) text = record { bytes = l; end = take 1 (drop (length l) text) } ∷ linesIn ls (drop (suc (length l)) text)
 
-unfoldable pub linesWith : List ℕ → List Line
+unfoldable pub linesWith : Bytes → List Line
 linesWith text = linesIn (linesOf text) text
 
-abbrev pub lineText : Line → List ℕ
+abbrev pub lineText : Line → Bytes
 lineText l = l .bytes ++ l .end
 
-abbrev pub textOf : List Line → List ℕ
+abbrev pub textOf : List Line → Bytes
 textOf [] = []
 textOf (l ∷ ls) = lineText l ++ textOf ls
 

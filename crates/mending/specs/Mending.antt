@@ -38,44 +38,44 @@ unfoldable pub readAnswer : Bytes → ℕ
 readAnswer text = answerBy (openingOf (linesWith text))
 
 -- a note: 'line number, field, old and new text'
-abbrev pub noteText : (n : ℕ) (field old new : List ℕ) → List ℕ
+abbrev pub noteText : (n : ℕ) (field old new : Bytes) → Bytes
 noteText n field old new = ended (numberText n) TAB ++ ended field TAB ++ ended old TAB ++ ended new LINE-END
 
 module _ (size : ℕ) where
   -- H4 with another second digit
-  abbrev pub h4With : Line → ℕ → List ℕ
+  abbrev pub h4With : Line → ℕ → Bytes
   h4With l digit = getD (l .bytes) (digitPlace size l - 1) 0 ∷ digit ∷ []
 
   -- 'For each line it dropped or altered'
-  abbrev pub noteBy : (n : ℕ) (l : Line) (fate : Fate) → List ℕ
+  abbrev pub noteBy : (n : ℕ) (l : Line) (fate : Fate) → Bytes
   noteBy n l F.Kept = []
   noteBy n l (F.Restored old new) = noteText n (ascii "H4") (h4With l old) (h4With l new)
   noteBy n l F.Dropped = noteText n (ascii "line") (l .bytes) []
 
   -- of lines numbered from n
-  abbrev pub notesFrom : ℕ → List Judged → List ℕ
+  abbrev pub notesFrom : ℕ → List Judged → Bytes
   notesFrom n [] = []
   notesFrom n (j ∷ js) = noteBy n (j .line) (j .fate) ++ notesFrom (suc n) js
 
 -- the lines behind the first, by its settings
-abbrev pub mendedBy : Opening → List Line → List ℕ
+abbrev pub mendedBy : Opening → List Line → Bytes
 mendedBy (O.Settings s next) ls = textOf (mendedLines (s .size) (judged (hasCount (s .kind)) (s .ports) (s .size) ls))
 mendedBy O.Malformed ls = []
 mendedBy O.Unfinished ls = []
 mendedBy O.End ls = []
 
-abbrev pub notesBy : Opening → List Line → List ℕ
+abbrev pub notesBy : Opening → List Line → Bytes
 notesBy (O.Settings s next) ls = notesFrom (s .size) 2 (judged (hasCount (s .kind)) (s .ports) (s .size) ls)
 notesBy O.Malformed ls = []
 notesBy O.Unfinished ls = []
 notesBy O.End ls = []
 
 -- the first line stays as it is, and has the number 1
-abbrev pub mendedIn : List Line → List ℕ
+abbrev pub mendedIn : List Line → Bytes
 mendedIn [] = []
 mendedIn (first ∷ ls) = lineText first ++ mendedBy (lineOpening 0 (first .bytes)) ls
 
-abbrev pub notesIn : List Line → List ℕ
+abbrev pub notesIn : List Line → Bytes
 notesIn [] = []
 notesIn (first ∷ ls) = notesBy (lineOpening 0 (first .bytes)) ls
 
@@ -93,7 +93,7 @@ mendAnswer text mended notes =
     else readAnswer text
 
 -- a recording that is answered 0: its first line, the settings in it, and the other lines
-pub record Opened (t : List ℕ) : Type 0 where
+pub record Opened (t : Bytes) : Type 0 where
   pub first : Line
   pub rest : List Line
   pub settings : Settings

@@ -1,5 +1,4 @@
 -- The lengths that are told before a recording is mended (2026-11).
-use mathlib.Core.List.{List}
 use Prim.Native.Nat.{ℕ}
 use lib.ListN.{length}
 use Rattle.ground.specs.Plain.{if_then_else_, _==_, _≤?_}
@@ -16,7 +15,7 @@ abbrev pub told : ℕ → ℕ
 told n = if n ≤? LARGEST then n else LARGEST
 
 -- 13 and 4 come with no lengths
-unfoldable pub lengthsOf : List ℕ → Lengths
+unfoldable pub lengthsOf : Bytes → Lengths
 lengthsOf text =
     if readAnswer text == 0
     then (record { mended = length (mendedOf text); notes = told (length (notesOf text)); answer = 0 })

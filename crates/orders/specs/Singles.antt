@@ -1,17 +1,18 @@
 -- The commands of an order as single calls of the card, and what one group has of an order: what the theorems speak of.
+use mathlib.Core.Path.{_≡_}
 use mathlib.Core.List.{List, [], _∷_}
 use Prim.Native.Nat.{ℕ}
 use lib.ListN.{getD, length, take}
 use Rattle.ground.specs.Plain.{if_then_else_, _==_}
 use Rattle.ground.specs.Table.{tabulate}
+use Rattle.circuits.specs.Views.{Made, run, viewOf}
 use Rattle.circuits.specs.declared.card.Card.{Card}
 use Rattle.circuits.specs.Answers.{answerNumber}
 use Rattle.circuits.specs.Calls.{outcomeOf}
-use Rattle.circuits.specs.Views.{Made, run}
 use Rattle.circuits.specs.Views.Asked.{Do}
+use Rattle.orders.specs.Orders.{callBy, ordersOf}
 use Rattle.orders.specs.declared.commands.Command.{Command}
 use Rattle.orders.specs.declared.commands.Kind.the-variants.{Add}
-use Rattle.orders.specs.Orders.{callBy}
 
 -- the call that its caller would make alone
 abbrev pub singleOf : Command → Made
@@ -42,3 +43,8 @@ abbrev pub answersTo : (group : ℕ) (cs : List Command) (ns : List ℕ) → Lis
 answersTo g [] ns = []
 answersTo g (c ∷ cs) [] = []
 answersTo g (c ∷ cs) (n ∷ ns) = if c .group == g then n ∷ answersTo g cs ns else answersTo g cs ns
+
+-- two orders on two cards give a group the same: the answers to its commands, and the view left
+pub record Same (g : ℕ) (card other : Card) (cs ds : List Command) : Type 0 where
+  pub answers : answersTo g cs (ordersOf card cs .numbers) ≡ answersTo g ds (ordersOf other ds .numbers)
+  pub view : viewOf g (ordersOf card cs .state) ≡ viewOf g (ordersOf other ds .state)

@@ -3,7 +3,7 @@ use mathlib.Core.Bool.{Bool, _&&_, not, _||_}
 use Prim.Native.Nat.{ℕ, _+_, _-_, _*_, _/_, _%_, _^_}
 use Rattle.ground.specs.Plain.{if_then_else_, _==_, _<?_}
 use Rattle.ground.specs.Types.{Tag}
-use Rattle.packet.specs.Kinds.{vc12Kind}
+use Rattle.packet.specs.Kinds.{tagOf, vc12Kind}
 
 -- H4: the first frame of a multiframe, MFI1 is 0
 unfoldable pub startsCount : ℕ → ℕ → Bool
@@ -44,3 +44,7 @@ vc12Counts t h =
 
 unfoldable pub counts : (kind : ℕ) (tag : Tag) (h4 : ℕ) → Bool
 counts kind t h = if kind == vc12Kind then vc12Counts t h else h4Counts t h
+
+-- what the first frame of a run tells of the tag to come
+unfoldable pub toldFirst : ℕ → ℕ → ℕ
+toldFirst kind x = tagOf kind x / 256 * 256 + 1

@@ -41,6 +41,10 @@ tagAfter kind t = (t + 1) % tags kind
 unfoldable pub tagBefore : ℕ → Tag → Tag
 tagBefore kind t = (t + (tags kind - 1)) % tags kind
 
+-- the tag of the x-th frame after one with tag 0
+abbrev pub tagOf : ℕ → ℕ → Tag
+tagOf kind x = x % tags kind
+
 -- by the tag to come, the tag of the frame that came so many before the latest
 abbrev pub tagBack : (kind next distance : ℕ) → ℕ
 tagBack kind next zero = tagBefore kind next

@@ -3,6 +3,7 @@ pub mod Back
 pub mod Bounds
 pub mod Bytes
 pub mod Changes
+pub mod Clock
 pub mod Counting
 pub mod Distances
 pub mod Epochs
@@ -11,8 +12,6 @@ pub mod Mst
 pub mod Nibbles
 pub mod OwnBits
 pub mod Reading
-pub mod Sent
-pub mod Symbols
 pub mod Vc12
 pub mod Vc12Clock
 pub mod Writing

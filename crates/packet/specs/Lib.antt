@@ -1,6 +1,8 @@
+pub mod Again
+pub mod AsSent
+pub mod Bounds
 pub mod ByTable
 pub mod Changes
-pub mod Clock
 pub mod Counts
 pub mod Crc
 pub mod Fixed
@@ -10,6 +12,7 @@ pub mod Layout
 pub mod Mst
 pub mod Opened
 pub mod Reading
+pub mod Reserved
 pub mod Ruling
 mod Samples
 pub mod Sent

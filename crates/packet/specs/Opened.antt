@@ -2,7 +2,7 @@
 use Prim.Native.Nat.{ℕ}
 use Rattle.ground.specs.Opened.{groundOpen}
 use Rattle.packet.specs.Changes.{bringsMfi2, changed, keptPart, mostChanges}
-use Rattle.packet.specs.Counts.{carriesLow, counts, h4Counts, saysStart, startsCount, tagByHigh, tagByLow, toldBits, vc12Counts}
+use Rattle.packet.specs.Counts.{carriesLow, counts, h4Counts, saysStart, startsCount, tagByHigh, tagByLow, toldBits, toldFirst, vc12Counts}
 use Rattle.packet.specs.Crc.{crcOf, divisor, nibbleBits}
 use Rattle.packet.specs.Fixed.{fixedNibbles, fixedNibblesWith, fixedRulingOf, readFixedAnswer, readFixedNibbles, writeFixedAnswer, writeFixedBytes}
 use Rattle.packet.specs.Kinds.{distanceOf, endsEpoch, epochAfter, epochOf, epochs, epochsIn, firstTag, frames, idleNumber, knownKind, lead, mstEpochs, mstFails, mstFirst, mstNumbers, payloadRight, placeOf, startsEpoch, tagAfter, tagBefore, tags}
@@ -24,5 +24,5 @@ unfolding groundOpen bringsMfi2 changed keptPart mostChanges carriesLow counts h
     startsEpoch tagAfter tagBefore tags carriedIn dataOf fieldsOf h4Of highsOf nibblesOf sealedOf readAnswer readNibbles fieldsIn readRow rulingOf
     sentAnswer sentBytes sentFits joinedTo shareOf entryAt entryFrom entryWith rowFrom symbolAt symbolIn symbolOf withSymbol lowestOf readVc12Answer
     readVc12Bits readVc12Row rowBits vc12Bits vc12Bytes vc12Data vc12Divisor vc12Fields vc12Fits writeVc12Answer writeVc12Bytes assigned fitting
-    writeAnswer writeBytes crcWith readNibblesWith readRowWith rulingWith sharesOf
+    writeAnswer writeBytes crcWith readNibblesWith readRowWith rulingWith sharesOf toldFirst
 packetOpen = 0

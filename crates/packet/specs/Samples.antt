@@ -7,6 +7,7 @@ use lib.ListN.{getD, replicate}
 use Rattle.ground.specs.Plain.{_==_}
 use Rattle.ground.specs.Polynomial.{plus}
 use Rattle.ground.specs.Table.{tabulate}
+use Rattle.packet.specs.Fixed.{writeFixedBytes}
 use Rattle.packet.specs.declared.layout.Fields.{Fields}
 use Rattle.packet.specs.declared.reader.Reading.the-variants.{Packet}
 use Rattle.packet.specs.Reading.{readingNumber}
@@ -76,9 +77,16 @@ unfolding packetOpen answer some
 limits = (refl, refl, refl, refl, refl, refl, refl)
 
 -- NORM 9 of count 7 with MST 00, its bits 15 and 22, counted from 1, changed: EOS 9 with MST 80
-nine : ℕ → ℕ → Fields
+abbrev pub nine : ℕ → ℕ → Fields
 nine word mst = record { epoch = 7; word = record { 0 = word }; gid = 0; mst = mst; «rs_ack» = 0; sq = 9; reserved = 0 }
 
 changed : readVc12Bits (tabulate 32 (λ k. plus (k == 14 || k == 21) (getD (vc12Bits (nine NORM 0)) k false))) ≡ Packet (nine EOS 0x80)
-unfolding packetOpen nine
+unfolding packetOpen
 changed = refl
+
+abbrev pub sentOf : Fields → List ℕ
+sentOf f = writeVc12Bytes f (replicate 32 0)
+
+-- two good packets one bit apart
+abbrev pub fixedSent : ℕ → List ℕ
+fixedSent sq = writeFixedBytes 58 sq (replicate 16 0)

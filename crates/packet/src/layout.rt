@@ -3,7 +3,7 @@ use crate::crc::crc;
 use crate::words::Word;
 ghost use mathlib.Core.Path.{_≡_};
 ghost use mathlib.Core.List.{[], _∷_, _++_};
-ghost use Rattle.packet.specs.Laws.Bounds.{Bounds};
+ghost use Rattle.packet.specs.Bounds.{Bounds};
 ghost use Rattle.packet.specs.Layout.{byteOf, dataOf, fieldsOf, h4Of, nibblesOf, reservedOf};
 ghost use Rattle.packet.specs.Shares.{halvesOf, sharesOf};
 

@@ -9,7 +9,7 @@ ghost use Prim.Native.Nat.{_<_};
 ghost use lib.ListN.{length};
 ghost use Rattle.ground.specs.Bits.{bits, number, odd};
 ghost use Rattle.ground.specs.Polynomial.{bring};
-ghost use Rattle.packet.specs.Laws.Bounds.{Vc12Bounds};
+ghost use Rattle.packet.specs.Bounds.{Vc12Bounds};
 ghost use Rattle.packet.specs.Laws.Vc12.{leftOf};
 ghost use Rattle.packet.specs.Vc12.{frameByte, lowestOf, readVc12Answer, readVc12Bits, readVc12Row, rowBits, vc12Bits, vc12Bytes, vc12Data, vc12Divisor, vc12Fields, vc12Fits, writeVc12Answer, writeVc12Bytes};
 

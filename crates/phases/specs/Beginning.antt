@@ -1,6 +1,7 @@
 -- When receiving begins (01, 'Beginning'). That this is 01's sentence is proved in Theorems/Arc.
-use mathlib.Core.Bool.{Bool, not, _&&_, _||_}
-use Prim.Native.Nat.{ℕ, zero, suc, _+_, _/_}
+use mathlib.Core.Path.{_≡_}
+use mathlib.Core.Bool.{Bool, true, not, _&&_, _||_}
+use Prim.Native.Nat.{ℕ, zero, suc, _+_, _/_, _≤_, _<_}
 use Rattle.ground.specs.Plain.{if_then_else_, _==_, _<?_, _≤?_}
 use Rattle.ground.specs.Types.{Rows, Tag}
 use Rattle.counting.specs.Words.{every}
@@ -40,3 +41,12 @@ begins g s n =
     every n (λ i. ready g (stepAt s i))
     && not (foremost g s n == noTag g)
     && every n (λ i. within g (foremost g s n) (stepAt s i))
+
+-- some port in step has the tag `fore`, and none in step lies more than W - 16 tags behind it
+pub record Arc (g : Group) (s : Rows) (n fore : ℕ) : Type 0 where
+  pub all-ready : (i : ℕ) → i < n → ready g (stepAt s i) ≡ true
+  pub port : ℕ
+  pub below : port < n
+  pub stepped : inStep g (stepAt s port) ≡ true
+  pub fore-is : latest g (stepAt s port) ≡ fore
+  pub behind : (j : ℕ) → j < n → inStep g (stepAt s j) ≡ true → distanceOf (g .kind) fore (latest g (stepAt s j)) + frames (g .kind) ≤ g .window

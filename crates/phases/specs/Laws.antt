@@ -1,5 +1,4 @@
 -- Laws on what concerns all ports, for the proofs above them.
-pub mod ByTable
 pub mod Lengths
 pub mod Ports
 pub mod Passed

@@ -1,4 +1,5 @@
 -- What follows from a frame for all ports (01, 'Beginning'): stopping comes first, then the beginning, then gathering.
+use mathlib.Core.Path.{_≡_}
 use mathlib.Core.Bool.{Bool, true, false, not, _&&_}
 use Prim.Native.Nat.{ℕ, zero, suc}
 use lib.ListN.{replicate}
@@ -65,3 +66,18 @@ settledOf n store s =
     let a = stopBy (groupAt s) n s in
     let b = beginBy (groupAt a) n a in
     gatherBy (groupAt b) store n b
+
+abbrev pub begunAt : Rows → Bool
+begunAt s = flagOf (groupAt s .begun)
+
+abbrev pub gatheredAt : Rows → Bool
+gatheredAt s = flagOf (groupAt s .gathered)
+
+-- what holds of rows that are settled
+pub record Settled (n : ℕ) (s : Rows) : Type 0 where
+  -- 'When no port is readable any more, receiving stops'
+  pub heard : begunAt s ≡ true → silent (groupAt s) s n ≡ false
+  -- 'gathered, in the call that makes it due'
+  pub gathers : begunAt s ≡ true → gatheredAt s ≡ false → brought (groupAt s) s n ≡ false
+  -- when receiving begins
+  pub waits : begunAt s ≡ false → begins (groupAt s) s n ≡ false

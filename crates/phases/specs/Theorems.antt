@@ -1,3 +1,4 @@
 -- What follows from the definitions for all ports.
 pub mod Arc
 pub mod Settled
+pub mod ByTable

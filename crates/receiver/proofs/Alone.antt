@@ -15,9 +15,9 @@ use Rattle.payload.specs.Joining.{joinedFrom}
 use Rattle.payload.specs.Laws.Shifts.{storeFrom}
 use Rattle.payload.specs.Laying.{laid}
 use Rattle.phases.specs.Passing.{groupTo}
+use Rattle.reply.specs.Theorems.Alone.{ack-first, leaves-first}
 use Rattle.reply.specs.declared.members.Port.{Port}
 use Rattle.reply.specs.declared.waiting.Standing.{Standing}
-use Rattle.reply.specs.Laws.Alone.{ack-first, leaves-first}
 use Rattle.reply.specs.Members.{portAt}
 use Rattle.reply.specs.Telling.{ackOf}
 use Rattle.reply.specs.Waiting.{noStanding, standingsOf}

@@ -10,8 +10,8 @@ use lib.Seq.{set-getD}
 use borrow.Author.Tests.{eq-eqb, ltb-true, ne-eqb}
 use Rattle.packet.specs.Kinds.{endsEpoch, epochsIn, placeOf, tagAfter, vc12Kind}
 use Rattle.packet.specs.Laws.Distances.{place-back}
-use Rattle.packet.specs.Laws.Symbols.{with-parts}
 use Rattle.packet.specs.Symbols.{entryAt, entryWith}
+use Rattle.packet.specs.Theorems.Symbols.{with-parts}
 use Rattle.phases.specs.Sizes.{portsIn}
 use Rattle.receiver.specs.Frame.{decidedAnswer, decidedRows, decidedStore, frameAnswer, frameRefusal, frameRows, frameStore, gatheredBy, marksBy, ownTag, portRows, refusalBy, settledBy, steadyRows, storeBy, takenIn, takenRows, takenStore}
 use Rattle.receiver.specs.Lengths.{frameFits}
@@ -24,9 +24,9 @@ use Rattle.rows.specs.Part.{ThePackets, TheStep}
 use Rattle.rows.specs.Port.{Port, portAt}
 use Rattle.rows.specs.Rows.{putRow, rowIn}
 use Rattle.rows.specs.Step.{putStep, stepAt, withNext}
+use Rattle.step.specs.Theorems.Steady.{mid-epoch-goes-on, mid-even, steady-taken}
 use Rattle.step.specs.declared.arrival.Taken.{Taken}
 use Rattle.step.specs.Arrival.{distanceIn, takenOf}
-use Rattle.step.specs.Laws.Steady.{mid-epoch-goes-on, mid-even, steady-taken}
 use Rattle.step.specs.OwnCount.{endsOdd}
 use Rattle.step.specs.Steady.{midEpoch, steady, steadyTaken}
 use Rattle.store.specs.Frames.{placeIn, storedAt}

@@ -1,13 +1,15 @@
 -- What a fetch leaves, by what the parts of the code leave.
-use mathlib.Core.Path.{_≡_, refl, _∙_}
+use mathlib.Core.Path.{_≡_, refl, sym, _∙_}
 use mathlib.Core.Bool.{Bool, true, false}
 use mathlib.Core.List.{List}
 use Prim.Native.Nat.{ℕ}
 use lib.ListN.{length}
 use Rattle.judge.specs.declared.order.Order.{Order}
 use Rattle.judge.specs.declared.seen.Seen.{Seen}
+use Rattle.judge.specs.Cause.{causeOf, markOf}
 use Rattle.judge.specs.Order.{orderOf}
 use Rattle.judge.specs.Seen.{sizeOf}
+use Rattle.judge.specs.Theorems.Cause.{mark-by-cause}
 use Rattle.judge.specs.Verdict.{judgeOf}
 use Rattle.phases.specs.Sizes.{portsIn}
 use Rattle.receiver.specs.declared.report.Report.{Report}
@@ -18,12 +20,14 @@ use Rattle.rows.specs.declared.group.Group.{Group}
 use Rattle.rows.specs.Group.{groupAt}
 
 module _ (g : Group) (n : ℕ) (s : List (List ℕ)) (store out : List ℕ) where
-  pub given-is : (seen : List Seen) (mark : ℕ) (order : Order) (left : List ℕ) (rows : List (List ℕ)) (report : Report)
-      → seen ≡ seenAll g s n → mark ≡ judgeOf (g .kind) seen (sizeOf n) → order ≡ orderOf seen (sizeOf n) → left ≡ outputBy g mark order store out
-      → rows ≡ reportedOf g store n s → report ≡ reportBy g mark order
+  pub given-is : (seen : List Seen) (cause mark : ℕ) (order : Order) (left : List ℕ) (rows : List (List ℕ)) (report : Report)
+      → seen ≡ seenAll g s n → cause ≡ causeOf (g .kind) seen (sizeOf n) → mark ≡ markOf (g .kind) cause → order ≡ orderOf seen (sizeOf n) → left ≡ outputBy g mark order store out
+      → rows ≡ reportedOf g store n s → report ≡ reportBy g mark cause order
       → (report ≡ reportOf g (seenAll g s n) n) × (rows ≡ reportedOf g store n s) × (left ≡ outputOf g (seenAll g s n) n store out)
   unfolding reportOf outputOf
-  given-is seen mark order left rows report es em eo el er ep = rw (← es, ← em, ← eo) (ep, er, el)
+  given-is seen cause mark order left rows report es ec em eo el er ep =
+      let e : mark ≡ judgeOf (g .kind) seen (sizeOf n) = em ∙ rw ec (sym (mark-by-cause (g .kind) seen (sizeOf n))) in
+      rw (← es, ← e, ← ec, ← eo) (ep, er, el)
 
   module _ (due : Bool) (ed : due ≡ dueIn g n s) where
     pub given-due : (report : Report) (rows : List (List ℕ)) (left : List ℕ) → due ≡ true

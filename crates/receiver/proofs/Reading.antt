@@ -17,6 +17,7 @@ use Rattle.judge.specs.declared.seen.Seen.{Seen}
 use Rattle.receiver.specs.Anew.{anewAnswer, anewFits, anewRows}
 use Rattle.receiver.specs.Behind.{behindAnswer, behindBy, behindIn, behindOut}
 use Rattle.receiver.specs.Frame.{portRows, settledBy}
+use Rattle.receiver.specs.Cause.{causeAnswer, causeFit, causeIn, causeOut}
 use Rattle.receiver.specs.Heard.{goodAt, heardAnswer, heardFit, heardOf, heardOut}
 use Rattle.receiver.specs.Laws.Anew.{anew-fits, flagged-rows, flaggedPort, flaggedPorts}
 use Rattle.receiver.specs.Lengths.{rowsFit}
@@ -34,6 +35,10 @@ use Rattle.step.specs.Arrival.{takenOf}
 pub heard-length : (n rows out : ℕ) → heardFit n rows out ≡ true → out ≡ 4
 unfolding heardFit
 heard-length n rows out t = eqb-true out 4 (and-right (rowsFit n rows) (eqb out 4) t)
+
+pub cause-length : (n rows out : ℕ) → causeFit n rows out ≡ true → out ≡ 2
+unfolding causeFit
+cause-length n rows out t = eqb-true out 2 (and-right (rowsFit n rows) (eqb out 2) t)
 
 pub settings-length : (n rows out : ℕ) → settingsFit n rows out ≡ true → out ≡ 4
 unfolding settingsFit
@@ -74,6 +79,18 @@ module _ (s : List (List ℕ)) (g : Group) (n : ℕ) (fit : Bool) (eg : g ≡ gr
     pub seen-shown : (left : List (List ℕ)) → fit ≡ true → left ≡ each n (seenIn g s) out → (0 ≡ seenAnswer s (length out)) × (left ≡ seenOut s out)
     unfolding seenAnswer seenOut
     seen-shown left e el = rw (← same-seen, e, ← eg, ← en) (refl, el)
+
+  module _ (out : List ℕ) (ef : fit ≡ causeFit n (length s) (length out)) where
+    same-cause : fit ≡ causeFit (portsIn (groupAt s)) (length s) (length out)
+    same-cause = ef ∙ rw (en, eg) refl
+
+    pub cause-unfit : fit ≡ false → (9 ≡ causeAnswer s (length out)) × (out ≡ causeOut s out)
+    unfolding causeAnswer causeOut
+    cause-unfit e = rw (← same-cause, e) (refl, refl)
+
+    pub cause-put : (left : List ℕ) → fit ≡ true → left ≡ causeIn g s n → (0 ≡ causeAnswer s (length out)) × (left ≡ causeOut s out)
+    unfolding causeAnswer causeOut
+    cause-put left e el = rw (← same-cause, e, ← eg, ← en) (refl, el)
 
   module _ (out : List ℕ) (ef : fit ≡ heardFit n (length s) (length out)) where
     same-heard : fit ≡ heardFit (portsIn (groupAt s)) (length s) (length out)

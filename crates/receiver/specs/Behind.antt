@@ -4,6 +4,7 @@ use Prim.Native.Nat.{ℕ}
 use lib.ListN.{length}
 use Rattle.counting.specs.Each.{each}
 use Rattle.ground.specs.Plain.{if_then_else_}
+use Rattle.ground.specs.Types.{Rows}
 use Rattle.packet.specs.Kinds.{distanceOf}
 use Rattle.phases.specs.Beginning.{foremost, latest}
 use Rattle.phases.specs.Sizes.{portsIn}
@@ -22,13 +23,13 @@ unfoldable pub behindBy : (g : Group) (fore : ℕ) (step : Step) → ℕ
 behindBy g fore step = if inStep g step then distanceOf (g .kind) fore (latest g step) else noStep
 
 -- of port i among n
-unfoldable pub behindIn : (g : Group) (s : List (List ℕ)) (n : ℕ) (i : ℕ) → ℕ
+unfoldable pub behindIn : (g : Group) (s : Rows) (n : ℕ) (i : ℕ) → ℕ
 behindIn g s n i = behindBy g (foremost g s n) (stepAt s i)
 
-unfoldable pub behindAnswer : (s : List (List ℕ)) (out : ℕ) → ℕ
+unfoldable pub behindAnswer : (s : Rows) (out : ℕ) → ℕ
 behindAnswer s out = if shownFit (portsIn (groupAt s)) (length s) out then 0 else 9
 
-unfoldable pub behindOut : (s : List (List ℕ)) (out : List ℕ) → List ℕ
+unfoldable pub behindOut : (s : Rows) (out : List ℕ) → List ℕ
 behindOut s out =
     if shownFit (portsIn (groupAt s)) (length s) (length out)
     then each (portsIn (groupAt s)) (behindIn (groupAt s) s (portsIn (groupAt s))) out

@@ -19,15 +19,15 @@ unfoldable pub dueIn : (g : Group) (ports : ℕ) (s : Rows) → Bool
 dueIn g n s = 0 <? n && flagOf (g .begun) && flagOf (g .gathered) && brought g s n
 
 abbrev pub noneDue : Report
-noneDue = record { mark = 0; epoch = 0; x = 0; bytes = 0 }
+noneDue = record { mark = 0; epoch = 0; x = 0; cause = 0; bytes = 0 }
 
--- the record's eight bytes: mark, epoch, X, a zero, and the byte count, highest byte first
+-- the record's eight bytes: mark, epoch, X, the cause of the mark, and the byte count, highest byte first
 unfoldable pub recordOf : Report → Bytes
 recordOf r =
     (r .mark)
     ∷ (r .epoch)
     ∷ (r .x)
-    ∷ 0
+    ∷ (r .cause)
     ∷ (r .bytes / 16777216 % 256)
     ∷ (r .bytes / 65536 % 256)
     ∷ (r .bytes / 256 % 256)

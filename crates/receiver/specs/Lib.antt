@@ -5,6 +5,7 @@ pub mod Starting
 pub mod Frame
 pub mod Report
 pub mod Fetch
+pub mod Cause
 pub mod Shown
 pub mod Seen
 pub mod Heard

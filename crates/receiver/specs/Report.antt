@@ -8,6 +8,7 @@ use Rattle.ground.specs.Types.{Bytes, Epoch, Rows}
 use Rattle.counting.specs.Each.{each}
 use Rattle.judge.specs.declared.order.Order.{Order}
 use Rattle.judge.specs.declared.seen.Seen.{Seen}
+use Rattle.judge.specs.Cause.{causeOf}
 use Rattle.judge.specs.Order.{orderOf}
 use Rattle.judge.specs.Seen.{sizeOf}
 use Rattle.judge.specs.Verdict.{HELD, judgeOf}
@@ -67,13 +68,13 @@ framesInto g o store zero out = out
 framesInto g o store (suc k) out = frameInto g o store k (framesInto g o store k out)
 
 -- what the fetched report says
-unfoldable pub reportBy : (g : Group) (mark : ℕ) (o : Order) → Report
-reportBy g mark o =
+unfoldable pub reportBy : (g : Group) (mark cause : ℕ) (o : Order) → Report
+reportBy g mark cause o =
     let x = if mark == HELD then 0 else o .x in
-    record { mark = mark; epoch = g .oldest; x = x; bytes = x * frames (g .kind) * g .payload }
+    record { mark = mark; epoch = g .oldest; x = x; cause = cause; bytes = x * frames (g .kind) * g .payload }
 
 unfoldable pub reportOf : (g : Group) (seen : List Seen) (ports : ℕ) → Report
-reportOf g seen n = reportBy g (judgeOf (g .kind) seen (sizeOf n)) (orderOf seen (sizeOf n))
+reportOf g seen n = reportBy g (judgeOf (g .kind) seen (sizeOf n)) (causeOf (g .kind) seen (sizeOf n)) (orderOf seen (sizeOf n))
 
 -- held: 'No bytes.' Otherwise 'Sixteen group frames from the active ports seen.' 'Output beyond those bytes stays.'
 unfoldable pub outputBy : (g : Group) (mark : ℕ) (o : Order) (store out : Bytes) → Bytes

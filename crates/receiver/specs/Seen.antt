@@ -6,6 +6,7 @@ use lib.ListN.{getD, length}
 use Rattle.counting.specs.Each.{each}
 use Rattle.ground.specs.Flags.{oneIf}
 use Rattle.ground.specs.Plain.{if_then_else_}
+use Rattle.ground.specs.Types.{Bytes, Rows}
 use Rattle.packet.specs.declared.reader.Reading.{Reading}
 use Rattle.packet.specs.declared.reader.Reading.the-variants.{Packet, Length, Crc, Fixed, Unassigned}
 use Rattle.phases.specs.Sizes.{portsIn}
@@ -33,25 +34,25 @@ carriedBy Fixed = nothingCarried 7
 carriedBy Unassigned = nothingCarried 6
 
 -- what the packet that rules port i carries, whole or not
-unfoldable pub carriedAt : (g : Group) (s : List (List ℕ)) (i : ℕ) → Carried
+unfoldable pub carriedAt : (g : Group) (s : Rows) (i : ℕ) → Carried
 carriedAt g s i = carriedBy (readingIn (g .kind) (getD (packetsAt s i) 1 []))
 
 -- ten bytes: whole, the answer, whether it carries another number than the own count, epoch, word, number, GID, MST, RS-Ack; and last whether the port's frames of the oldest epoch are all here. Of a packet that is not whole nothing is said.
-unfoldable pub seenRow : (whole : Bool) (other : Bool) (c : Carried) (here : Bool) → List ℕ
+unfoldable pub seenRow : (whole : Bool) (other : Bool) (c : Carried) (here : Bool) → Bytes
 seenRow whole other c here =
     if whole
     then 1 ∷ (c .answer) ∷ oneIf other ∷ (c .epoch) ∷ (c .word) ∷ (c .number) ∷ (c .gid) ∷ (c .mst) ∷ (c .«rs_ack») ∷ oneIf here ∷ []
     else 0 ∷ 0 ∷ 0 ∷ 0 ∷ 0 ∷ 0 ∷ 0 ∷ 0 ∷ 0 ∷ oneIf here ∷ []
 
 -- of port i
-unfoldable pub seenIn : (g : Group) (s : List (List ℕ)) (i : ℕ) → List ℕ
+unfoldable pub seenIn : (g : Group) (s : Rows) (i : ℕ) → Bytes
 seenIn g s i =
     seenRow (flagOf (stepAt s i .whole)) (otherNumber (g .kind) (rulingEpoch g) (getD (packetsAt s i) 1 [])) (carriedAt g s i) (firstMark (marksAt s i))
 
-unfoldable pub seenAnswer : (s : List (List ℕ)) (out : ℕ) → ℕ
+unfoldable pub seenAnswer : (s : Rows) (out : ℕ) → ℕ
 seenAnswer s out = if shownFit (portsIn (groupAt s)) (length s) out then 0 else 9
 
-unfoldable pub seenOut : (s : List (List ℕ)) (out : List (List ℕ)) → List (List ℕ)
+unfoldable pub seenOut : (s : Rows) (out : List (List ℕ)) → List (List ℕ)
 seenOut s out =
     if shownFit (portsIn (groupAt s)) (length s) (length out)
     then each (portsIn (groupAt s)) (seenIn (groupAt s) s) out

@@ -4,6 +4,7 @@ use mathlib.Core.List.{List, [], _∷_}
 use Prim.Native.Nat.{ℕ}
 use lib.ListN.{length}
 use Rattle.ground.specs.Plain.{if_then_else_, _==_}
+use Rattle.ground.specs.Types.{Rows}
 use Rattle.phases.specs.Sizes.{portsIn}
 use Rattle.receiver.specs.Lengths.{rowsFit}
 use Rattle.rows.specs.declared.group.Group.{Group}
@@ -16,10 +17,10 @@ settingsOf g n = if n == 0 then 0 ∷ 0 ∷ 0 ∷ 0 ∷ [] else (g .kind) ∷ n 
 unfoldable pub settingsFit : (n : ℕ) (rows : ℕ) (out : ℕ) → Bool
 settingsFit n rows out = rowsFit n rows && out == 4
 
-unfoldable pub settingsAnswer : (s : List (List ℕ)) (out : ℕ) → ℕ
+unfoldable pub settingsAnswer : (s : Rows) (out : ℕ) → ℕ
 settingsAnswer s out = if settingsFit (portsIn (groupAt s)) (length s) out then 0 else 9
 
-unfoldable pub settingsOut : (s : List (List ℕ)) (out : List ℕ) → List ℕ
+unfoldable pub settingsOut : (s : Rows) (out : List ℕ) → List ℕ
 settingsOut s out =
     if settingsFit (portsIn (groupAt s)) (length s) (length out)
     then settingsOf (groupAt s) (portsIn (groupAt s))

@@ -30,6 +30,7 @@ fn none_due() -> Report
         mark: 0,
         epoch: 0,
         x: 0,
+        cause: 0,
         bytes: 0,
     }
 }
@@ -58,10 +59,11 @@ fn report_oldest(
         × (now (out .exit) ≡ outputOf group (seenAll group (now (state .entry)) ports) ports (now (store .entry)) (now (out .entry))) ⌝ }
 {
     let seen = see_and_pass(group, ports, state, store);
-    let mark = judge::judge(group.kind, seen, ports);
+    let cause = judge::cause(group.kind, seen, ports);
+    let mark = judge::mark(group.kind, cause);
     let order = judge::ordered(seen, ports);
     joining::output_by(group, mark, order, store, out);
-    joining::report_by(group, mark, order)
+    joining::report_by(group, mark, cause, order)
 }
 
 fn report_if_due(
@@ -88,7 +90,7 @@ fn record_of(r: Report) -> [u8; 8]
         r.mark,
         r.epoch,
         r.x,
-        0,
+        r.cause,
         (r.bytes / 16777216 % 256) as u8,
         (r.bytes / 65536 % 256) as u8,
         (r.bytes / 256 % 256) as u8,

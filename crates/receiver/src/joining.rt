@@ -121,8 +121,8 @@ fn byte_count(x: u8, frames: u8, payload: u16) -> u32
     x as u32 * frames as u32 * payload as u32
 }
 
-pub(crate) fn report_by(group: Group, mark: u8, order: Order) -> Report
-    ensures { λ r. ⌜ r ≡ reportBy group mark order ⌝ }
+pub(crate) fn report_by(group: Group, mark: u8, cause: u8, order: Order) -> Report
+    ensures { λ r. ⌜ r ≡ reportBy group mark cause order ⌝ }
 {
     let x = joined_members(mark, order.x);
     let count = kinds::epoch_frames(group.kind);
@@ -131,6 +131,7 @@ pub(crate) fn report_by(group: Group, mark: u8, order: Order) -> Report
         mark,
         epoch: group.oldest,
         x,
+        cause,
         bytes,
     }
 }

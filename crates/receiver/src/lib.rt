@@ -1,6 +1,7 @@
 // The receiver (01, 'The receiver'): its start, the arrival of a frame, the fetching of a report, and what the host reads out.
 // Its state is lent rows of sixteen bytes, its frames stand in a lent store.
 mod arrival;
+mod blaming;
 mod fetching;
 mod flagging;
 mod flags;
@@ -16,6 +17,7 @@ mod starting;
 mod states;
 
 pub use arrival::frame;
+pub use blaming::cause;
 pub use fetching::fetch;
 pub use flagging::anew;
 pub use hearing::heard;

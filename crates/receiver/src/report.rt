@@ -16,6 +16,8 @@ pub struct Report {
     pub epoch: u8,
     // how many members are joined
     pub x: u8,
+    // the clause that decided (01, 'Report of an epoch'), 0 none
+    pub cause: u8,
     // how many bytes of the output
     pub bytes: u32,
 }

@@ -1,3 +1,4 @@
+pub mod Theorems
 pub mod Laws
 pub mod Line
 pub mod Opened

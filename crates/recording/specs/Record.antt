@@ -1,7 +1,8 @@
 -- A frame's line (2026-05): 'port, H4 in two hex digits, fail flag, payload in hex'.
-use mathlib.Core.Bool.{Bool, _&&_}
+use mathlib.Core.Path.{_≡_}
 use mathlib.Core.List.{List, [], _∷_}
-use Prim.Native.Nat.{ℕ, _+_, _-_}
+use mathlib.Core.Bool.{Bool, true, false, _&&_}
+use Prim.Native.Nat.{ℕ, _+_, _-_, _≤_}
 use lib.ListN.{length}
 use Rattle.ground.specs.Plain.{if_then_else_, _==_, _<?_, _≤?_}
 use Rattle.ground.specs.Types.{Bytes}
@@ -54,3 +55,15 @@ recordIn ports size at rest = recordFound ports size at rest (foundOf at rest)
 -- a last line that lacks its end
 unfoldable pub lastRecord : (ports size at : ℕ) (rest : Bytes) → Record
 lastRecord ports size at rest = if length rest == 0 then End else lineRecord ports size at (at + length rest) rest
+
+-- a frame's line
+abbrev pub isFrame : Record → Bool
+isFrame (Frame port h4 flag place next) = true
+isFrame (Malformed next) = false
+isFrame Long = false
+isFrame Unfinished = false
+isFrame End = false
+
+-- the payload of a frame lies in its line
+pub record Lies (size end : ℕ) (r : Record) : Type 0 where
+  pub within : (port h4 flag place next : ℕ) → r ≡ Frame port h4 flag place next → place + size + size ≤ end

@@ -8,8 +8,8 @@ ghost use mathlib.Core.List.{_∷_};
 ghost use Prim.Native.Nat.{_+_, _≤_, _<_};
 ghost use lib.ListN.{drop, length};
 ghost use lib.Seq.{slice};
-ghost use Rattle.recording.specs.Laws.Here.{frameBehind, isFrame, partedAt};
-ghost use Rattle.recording.specs.Record.{flagIn, frameBy, lastRecord, lineRecord, recordBy, recordIn};
+ghost use Rattle.recording.specs.Laws.Here.{frameBehind, partedAt};
+ghost use Rattle.recording.specs.Record.{flagIn, frameBy, isFrame, lastRecord, lineRecord, recordBy, recordIn};
 ghost use Rattle.text.specs.Text.{fieldsOf};
 
 // What stands at a place of a recording.

@@ -7,10 +7,10 @@ use native.Mathlib.Nat.{not-suc-le-zero, le-of-suc-le-suc}
 use lib.Dec.{eqb}
 use lib.ListN.{length, getD}
 use Rattle.ground.specs.Truth.{and-left}
+use Rattle.reply.specs.Theorems.Keeping.{rounds-more, rounds-still}
 use Rattle.reply.specs.declared.members.Port.{Port}
 use Rattle.reply.specs.Choosing.{FREE, chooses, holderOf, holders, allFree}
 use Rattle.reply.specs.Laws.Choosing.{chooses-lt}
-use Rattle.reply.specs.Laws.Keeping.{rounds-more, rounds-still}
 use Rattle.reply.specs.Laws.Members.{left-low}
 use Rattle.reply.specs.Members.{hasHoldOff}
 use Rattle.reply.specs.Waiting.{chosenOf, hasClaim, keptNumbers, joinsKept, moreKept, mustKeep, rounds, someJoin}

@@ -1,4 +1,6 @@
 pub mod Choosing
+pub mod Reports
+pub mod Lists
 pub mod Laws
 pub mod Members
 pub mod Opened

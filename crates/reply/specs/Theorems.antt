@@ -6,3 +6,5 @@ pub mod States
 pub mod Undisputed
 pub mod Waiting
 pub mod Zero
+pub mod Alone
+pub mod Keeping

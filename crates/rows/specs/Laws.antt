@@ -2,5 +2,4 @@
 pub mod Rows
 pub mod Records
 pub mod Port
-pub mod EqualRows
 pub mod Bytes

@@ -1,3 +1,4 @@
+pub mod Theorems
 pub mod Opened
 pub mod Rows
 pub mod Group

@@ -9,7 +9,7 @@ use Rattle.sender.specs.Reports.{reportOf}
 pub data Call : Type 0 where
   AddSlot : ℕ → Call
   RemoveSlot : ℕ → Call
-  Report : ℕ → ℕ → ℕ → Call
+  Report : (epoch mst ack : ℕ) → Call
   Lapse : Call
 
 abbrev pub outcomeOf : Table → Call → Outcome

@@ -54,7 +54,7 @@ startEpochOf s gid mst ack =
 
 pub data SenderCall : Type 0 where
   OnTable : Call → SenderCall
-  StartEpoch : ℕ → ℕ → ℕ → SenderCall
+  StartEpoch : (gid mst ack : ℕ) → SenderCall
 
 abbrev pub senderOutcomeOf : Sender → SenderCall → SenderOutcome
 senderOutcomeOf s (OnTable c) = withOutcome s (outcomeOf (s .table) c)
@@ -63,6 +63,15 @@ senderOutcomeOf s (StartEpoch gid mst ack) = startEpochOf s gid mst ack
 abbrev pub senderRun : Sender → List SenderCall → Sender
 senderRun s [] = s
 senderRun s (c ∷ cs) = senderRun (senderOutcomeOf s c .sender) cs
+
+-- a sender made by calls from a start
+abbrev pub senderAfter : (kind count : ℕ) (epoch : Epoch) (cs : List SenderCall) → Sender
+senderAfter kind count e cs = senderRun (beginOf kind count e .sender) cs
+
+-- calls on the table alone
+abbrev pub onTable : List Call → List SenderCall
+onTable [] = []
+onTable (c ∷ cs) = OnTable c ∷ onTable cs
 
 -- 'GID is lent by the caller and is equal in all packets of an epoch.' 'Our sender still writes zeros' for reserved bits (request 2026-08).
 unfoldable pub packetFields : Sender → ℕ → Fields

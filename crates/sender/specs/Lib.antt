@@ -2,6 +2,7 @@ pub mod Board
 pub mod Calls
 pub mod Commands
 pub mod Epochs
+pub mod SenderRuns
 pub mod Laws
 pub mod Numbering
 pub mod Opened

@@ -3,11 +3,9 @@ use mathlib.Core.Path.{_≡_}
 use mathlib.Core.Bool.{Bool, true, false, _&&_}
 use Prim.Native.Nat.{ℕ, _≤_, _<_}
 use Rattle.ground.specs.Plain.{_==_}
-use Rattle.counting.specs.Laws.Ranks.{Apart}
-use Rattle.counting.specs.Laws.Tests.{One}
-use Rattle.counting.specs.Words.{count, some}
 use Rattle.packet.specs.Kinds.{idleNumber}
 use Rattle.packet.specs.Words.{EOS}
+use Rattle.counting.specs.Words.{Apart, One, count, some}
 use Rattle.sender.specs.declared.table.State.{State}
 use Rattle.sender.specs.declared.table.State.the-variants.{Idle, Add, Active, Dnu}
 use Rattle.sender.specs.declared.table.Table.{Table}

@@ -10,18 +10,17 @@ use Rattle.packet.specs.declared.layout.Fields.{Fields}
 use Rattle.packet.specs.Kinds.{mstFails, mstFirst, mstNumbers}
 use Rattle.packet.specs.Layout.{h4Of, nibblesOf}
 use Rattle.packet.specs.Words.{ADD, EOS, NORM}
+use Rattle.sender.specs.Epochs.{beginOf, onTable, packetBytes, packetFields, rankIn, senderRun, startEpochOf, xOf}
 use Rattle.sender.specs.declared.epochs.Sender.{Sender}
 use Rattle.sender.specs.declared.table.Slot.{Slot}
 use Rattle.sender.specs.declared.table.Table.{Table}
 use Rattle.sender.specs.Calls.{Call}
 use Rattle.sender.specs.Calls.Call.{AddSlot, Lapse, RemoveSlot, Report}
 use Rattle.sender.specs.Commands.{withSlots}
-use Rattle.sender.specs.Epochs.{beginOf, packetBytes, packetFields, rankIn, senderRun, startEpochOf, xOf}
 use Rattle.sender.specs.Ranks.{carries, noRank, rankAt, rowAt}
 use Rattle.sender.specs.Reports.{mstApplied, renumbered, becomes}
 use Rattle.sender.specs.Shown.{after, shown}
 use Rattle.sender.specs.Table.{sizeOf, slotAt}
-use Rattle.sender.specs.Theorems.Epochs.{onTable}
 use Rattle.sender.specs.Opened.{senderOpen}
 
 -- Slip 3: 'Giving the two members of P8 their asked numbers, so EOS lands on 1 and 0 is unused.' Nothing is numbered anew.

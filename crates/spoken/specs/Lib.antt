@@ -1,6 +1,7 @@
 pub mod Applying
 pub mod Changes
 pub mod Fitting
+pub mod Said
 pub mod Laws
 pub mod Listening
 pub mod Opened

@@ -2,3 +2,10 @@
 pub mod Reserved
 pub mod Words
 pub mod Heard
+pub mod ByTable
+pub mod FixedPackets
+pub mod Kept
+pub mod Lost
+pub mod Packets
+pub mod Run
+pub mod Steady

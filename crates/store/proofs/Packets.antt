@@ -7,8 +7,8 @@ use native.Mathlib.Omega.{arith}
 use lib.ListN.{getD, length, set}
 use Rattle.ground.specs.Truth.{eq-or-ne}
 use Rattle.packet.specs.Kinds.{frames}
-use Rattle.packet.specs.Laws.Symbols.{length-with, symbol-other, symbol-same, with-parts}
 use Rattle.packet.specs.Symbols.{entryAt, entryWith, symbolAt, symbolOf}
+use Rattle.packet.specs.Theorems.Symbols.{length-with, symbol-other, symbol-same, with-parts}
 use Rattle.rows.specs.declared.group.Group.{Group}
 use Rattle.store.specs.Frames.{byteAt, h4At, placeIn}
 

@@ -1,6 +1,7 @@
 -- Frames in the lent store (01, 'Numbers that bound the work': 'exactly ports x W x (P+1) bytes, a frame's payload and its H4').
+use mathlib.Core.Path.{_≡_}
 use mathlib.Core.List.{List}
-use Prim.Native.Nat.{ℕ, _+_, _*_, _%_}
+use Prim.Native.Nat.{ℕ, _+_, _*_, _%_, _<_}
 use lib.ListN.{length, getD}
 use Rattle.ground.specs.Drawn.{fillAt}
 use Rattle.ground.specs.Plain.{if_then_else_, _==_, _<?_}
@@ -30,3 +31,8 @@ h4At g port d s = byteAt s (placeIn g port d + g .payload)
 -- the packet that came with the frames of the oldest epoch
 unfoldable pub packetIn : (g : Group) (port : ℕ) (s : Bytes) → List ℕ
 packetIn g port s = rowFrom (g .kind) (λ k. h4At g port k s)
+
+-- the frame of port i at distance d stands in the store with this payload and this H4
+pub record Stands (g : Group) (i d : ℕ) (payload : Bytes) (h : ℕ) (s : Bytes) : Type 0 where
+  pub bytes : (k : ℕ) → k < g .payload → getD s (placeIn g i d + k) 0 ≡ getD payload k 0
+  pub last : getD s (placeIn g i d + g .payload) 0 ≡ h

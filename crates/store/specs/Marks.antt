@@ -1,7 +1,8 @@
 -- A port's marks: 128 bits in one row of sixteen bytes. Bit i says that all frames of the i-th epoch of the window, counted from the oldest, stand in the store.
+use mathlib.Core.Path.{_≡_}
 use mathlib.Core.Bool.{Bool}
-use Prim.Native.Nat.{ℕ, _+_, _*_, _/_, _%_, _^_}
-use lib.ListN.{getD, set}
+use Prim.Native.Nat.{ℕ, _+_, _*_, _/_, _%_, _^_, _<_}
+use lib.ListN.{getD, length, set}
 use Rattle.ground.specs.Bits.{odd}
 use Rattle.ground.specs.Plain.{if_then_else_, _<?_}
 use Rattle.ground.specs.Table.{tabulate}
@@ -34,3 +35,8 @@ passedByte b next = b / 2 + next % 2 * 128
 -- as the window passes its oldest epoch: each bit moves down by one
 unfoldable pub passedMarks : Bytes → Bytes
 passedMarks row = tabulate 16 (λ k. if k <? 15 then passedByte (getD row k 0) (getD row (k + 1) 0) else getD row k 0 / 2)
+
+-- a row of sixteen bytes
+pub record Sixteen (row : Bytes) : Type 0 where
+  pub len : length row ≡ 16
+  pub bytes : (k : ℕ) → k < 16 → getD row k 0 < 256

@@ -7,6 +7,7 @@ use mathlib.Core.List.{List, [], _∷_, _++_}
 use Prim.Native.Nat.{ℕ, suc, _+_, _-_, _*_, _≤_, _<_}
 use lib.ListN.{getD}
 use Rattle.ground.specs.Plain.{if_then_else_, _≤?_}
+use Rattle.ground.specs.Types.{Bytes}
 use Rattle.packet.specs.declared.reader.Reading.{Reading}
 use Rattle.packet.specs.declared.reader.Reading.the-variants.{Packet, Length, Crc, Fixed, Unassigned}
 use Rattle.packet.specs.Ruling.{readRow}
@@ -40,7 +41,7 @@ abbrev pub atStart : (k : Link) (m₀ : Moment) (t : ℕ) → Moment
 atStart k m₀ t = ownRun k m₀ (t * epochFrames k) []
 
 -- the reply that is read at that start, to go back with the packets of an epoch
-abbrev pub replyAt : (k : Link) (m₀ : Moment) (t epoch : ℕ) → List ℕ
+abbrev pub replyAt : (k : Link) (m₀ : Moment) (t epoch : ℕ) → Bytes
 replyAt k m₀ t e = replyOf (atStart k m₀ t .rows) e
 
 -- Both ends and the path, up to the start of some epoch.

@@ -7,6 +7,7 @@ use mathlib.Core.List.{List, []}
 use Prim.Native.Nat.{ℕ, zero, suc, _+_, _%_, _≤_, _<_}
 use lib.ListN.{getD, length}
 use Rattle.ground.specs.Plain.{if_then_else_}
+use Rattle.ground.specs.Types.{Bytes, Rows}
 use Rattle.packet.specs.Kinds.{epochs}
 use Rattle.packet.specs.declared.ruling.Ruling.{Ruling}
 use Rattle.phases.specs.Sizes.{portsIn}
@@ -48,8 +49,8 @@ pub record Rounds : Type 0 where
   pub ack : ℕ → ℕ
   -- the receiver as it stands where the report fetched by start k is due, the fetch, and the calls from there to the next
   pub far : ℕ → Receiver
-  pub output : ℕ → List ℕ
-  pub lent : ℕ → List ℕ
+  pub output : ℕ → Bytes
+  pub lent : ℕ → Bytes
   pub between : ℕ → List ReceiverCall
 
 -- a receiver that a start and any calls have made
@@ -60,8 +61,8 @@ pub record Starts (x : Receiver) : Type 0 where
   pub window : ℕ
   pub hold : List ℕ
   pub restore : List ℕ
-  pub rows : List (List ℕ)
-  pub store : List ℕ
+  pub rows : Rows
+  pub store : Bytes
   pub done : startAsAnswer kind count payload window (length store) hold restore (length rows) ≡ 0
   pub calls : List ReceiverCall
   pub is : x ≡ receiverRun (startedWith kind count payload window hold restore rows store) calls

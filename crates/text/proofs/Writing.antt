@@ -10,9 +10,9 @@ use lib.Seq.{drop-cons, drop-set-lt, getD-set-same, lt-length-set, take-all}
 use borrow.Author.Tests.{eq-eqb, le-ltb, lt-ltb, ltb-true, ne-eqb}
 use Rattle.ground.specs.Truth.{and-left, and-right}
 use Rattle.packet.specs.declared.words.Word.{Word}
-use Rattle.text.specs.Laws.Decimal.{before-append}
 use Rattle.text.specs.Output.{decimalText, digitsBefore, ended, numberText, wordText}
 use Rattle.text.specs.Text.{TAB}
+use Rattle.text.specs.Theorems.Decimal.{before-append}
 
 -- a byte's digits and the mark behind them
 pub decimal-one : (n mark : ℕ) → n < 10 → ended (decimalText n) mark ≡ (48 + n) ∷ mark ∷ []

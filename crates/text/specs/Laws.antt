@@ -1,5 +1,4 @@
 -- Laws on the definitions, for the proofs above them.
-pub mod Decimal
 pub mod Digits
 pub mod Lengths
 pub mod Lines

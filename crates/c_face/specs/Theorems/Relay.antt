@@ -6,13 +6,14 @@ use Prim.Native.Nat.{ℕ, _+_, _*_, _/_, _%_, _^_}
 use native.Mathlib.Omega.{arith}
 use lib.Dec.{eqb}
 use lib.ListN.{getD, length}
+use Rattle.packet.specs.Again.{Counted}
+use Rattle.packet.specs.Theorems.WrittenAgain.{again, again-bytes}
 use Rattle.packet.specs.declared.layout.Fields.{Fields}
 use Rattle.packet.specs.declared.reader.Reading.{Reading}
 use Rattle.packet.specs.declared.reader.Reading.the-variants.{Packet, Length, Crc, Fixed, Unassigned}
 use Rattle.packet.specs.Crc.{bitsOf}
 use Rattle.packet.specs.Layout.{highsOf}
 use Rattle.packet.specs.Reading.{readAnswer}
-use Rattle.packet.specs.Theorems.WrittenAgain.{Counted, again, again-bytes}
 use Rattle.packet.specs.Writing.{writingNumber}
 use Rattle.c_face.specs.Packets.{given, readAnswerC, readFieldsC, valuesIn, writeAnswerC, writeBytesC}
 

@@ -10,6 +10,8 @@ use borrow.Author.Tests.{eq-eqb}
 use Rattle.counting.specs.Each.{length-each}
 use Rattle.ground.specs.Table.{length-tabulate}
 use Rattle.sender.specs.Board.{boardOf, noRow, rowOf, rowsOf}
+use Rattle.sender.specs.SenderRuns.{Demand2Kept}
+use Rattle.sender.specs.Theorems.Epochs.{demand2-kept}
 use Rattle.sender.specs.declared.epochs.Sender.{Sender}
 use Rattle.sender.specs.declared.epochs.SenderOutcome.{SenderOutcome}
 use Rattle.sender.specs.declared.table.Answer.{Answer}
@@ -25,7 +27,6 @@ use Rattle.sender.specs.Numbering.{Demand2}
 use Rattle.sender.specs.Reports.{reportOf}
 use Rattle.sender.specs.Table.{answerNumber, isMember, sizeOf, slotAt}
 use Rattle.sender.specs.Theorems.Demand2.{sound-demand2}
-use Rattle.sender.specs.Theorems.Epochs.{Demand2Kept, demand2-kept}
 use Rattle.c_face.specs.Keeping.{bytesOf, byteAt, senderOf}
 use Rattle.c_face.specs.Senders.{areBytes, callStateC, isEpoch, isState, keptBytes, noStart, startAnswerC, startStateC}
 use Rattle.c_face.specs.Theorems.Round.{Whole, round}

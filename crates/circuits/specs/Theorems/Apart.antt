@@ -11,6 +11,7 @@ use borrow.Author.Tests.{eqb-true, lt-ltb, eqb-false}
 use Rattle.ground.specs.Flags.{oneIf}
 use Rattle.ground.specs.Table.{tabulate, tabulate-ext}
 use Rattle.sender.specs.Epochs as E
+use Rattle.circuits.specs.Views.{Asked, Made, Same, View, askedBy, bitOf, bitsOf, cardAfter, repliesTo, replyTo, run, viewOf}
 use Rattle.circuits.specs.declared.answers.Answer.{Answer}
 use Rattle.circuits.specs.declared.answers.Answer.the-variants as A
 use Rattle.circuits.specs.declared.card.Card.{Card}
@@ -23,7 +24,6 @@ use Rattle.circuits.specs.Laws.Seeing.{own-is, slot-is, slot-low}
 use Rattle.circuits.specs.Owners.{isMarked, ownedBytes}
 use Rattle.circuits.specs.Parts.{isSlot, owns, senderOf, shownSender}
 use Rattle.circuits.specs.Readings.{boardShown, outgoingShown, ownedShown, packetAnswer, packetBytes, payloadAnswer, payloadBytes, ranksShown}
-use Rattle.circuits.specs.Views.{Asked, Made, View, askedBy, bitOf, bitsOf, cardAfter, repliesTo, replyTo, run, viewOf}
 use Rattle.circuits.specs.Views.Asked.{Do, Packet, Payload, Board, Outgoing, Ranks, Owned}
 use Rattle.circuits.specs.Views.Reply.{Answered}
 
@@ -146,12 +146,6 @@ as-alone g hg c (m ∷ ms) = go (as-alone g hg (cardAfter c (m .group) (m .asked
     go rest false e =
         let kept : viewOf g (cardAfter c (m .group) (m .asked)) ≡ viewOf g c = others-keep c g (m .group) (m .asked) hg (eqb-false (m .group) g e) in
         record { replies = rw (e, rest .replies, kept) refl; view = rw (e, rest .view, kept) refl }
-
--- (c) Two lists of calls, from any two cards with the same view of g: where its calls are the same and its bits at its claims agree, all that it is given back is the same,
--- answers, boards now and going, ranks, packets and payload bytes, and so is the view left.
-pub record Same (g : ℕ) (c d : Card) (ms ns : List Made) : Type 0 where
-  pub replies : repliesTo g c ms ≡ repliesTo g d ns
-  pub view : viewOf g (run c ms) ≡ viewOf g (run d ns)
 
 pub apart : (g : ℕ) → g < 2 → (c d : Card) (ms ns : List Made) → viewOf g c ≡ viewOf g d → askedBy g ms ≡ askedBy g ns → bitsOf g c ms ≡ bitsOf g d ns → Same g c d ms ns
 apart g hg c d ms ns ev ea eb =

@@ -9,6 +9,8 @@ use lib.Dec.{eqb, ltb}
 use borrow.Author.Tests.{eqb-true, eqb-false}
 use Rattle.ground.specs.Table.{getD-tabulate}
 use Rattle.packet.specs.Words.{IDLE}
+use Rattle.sender.specs.SenderRuns.{Demand2Kept}
+use Rattle.sender.specs.Theorems.Epochs.{demand2-kept}
 use Rattle.sender.specs.declared.board.Board.{Board as B}
 use Rattle.sender.specs.declared.board.Row.{Row as R}
 use Rattle.sender.specs.declared.epochs.Sender.{Sender}
@@ -28,7 +30,7 @@ use Rattle.sender.specs.Laws.Sizes.{size-le}
 use Rattle.sender.specs.Numbering.{slotsIn, stateIn}
 use Rattle.sender.specs.Ranks.{rowAt}
 use Rattle.sender.specs.Table.{isMember, sizeOf, slotAt}
-use Rattle.sender.specs.Theorems.Epochs.{Demand2Kept, demand2-kept}
+use Rattle.circuits.specs.Views.{Asked, Made, View, bitOf, cardAfter, cardFrom, run, viewOf}
 use Rattle.circuits.specs.declared.answers.Answer.the-variants as A
 use Rattle.circuits.specs.declared.card.Card.{Card}
 use Rattle.circuits.specs.Alone.{Seen, outcomeSeen, ownIn, ownSeen, seen, sentSeen, slotIn, viewAfter, withOwn}
@@ -40,7 +42,6 @@ use Rattle.circuits.specs.Laws.Seeing.{own-is}
 use Rattle.circuits.specs.Owners.{ownerIn}
 use Rattle.circuits.specs.Parts.{owns, senderOf}
 use Rattle.circuits.specs.Theorems.Apart.{others-keep, own-view}
-use Rattle.circuits.specs.Views.{Asked, Made, View, bitOf, cardAfter, run, viewOf}
 use Rattle.circuits.specs.Views.Asked.{Do, Packet, Payload, Board, Outgoing, Ranks, Owned}
 
 -- what holds of a group's view after any calls: every member is owned, the count is the start's, and the sender has come from its start by calls of its own
@@ -180,10 +181,6 @@ tidy-start kind count e₀ e₁ g =
       calls = [];
       is = started-sender kind count e₀ e₁ g;
     }
-
--- the card after any calls from a start
-abbrev pub cardFrom : ℕ → ℕ → ℕ → ℕ → List Made → Card
-cardFrom kind count e₀ e₁ ms = run (startOf kind count e₀ e₁ .card) ms
 
 member-seen : (c : Card) (g i : ℕ) → isMember (stateIn (senderOf c g .table) i) ≡ true → memberAt (viewOf g c .sender .table .slots) i ≡ true
 unfolding viewOf

@@ -7,6 +7,8 @@ use native.Mathlib.Omega.{arith}
 use lib.Dec.{eqb}
 use borrow.Author.Tests.{eq-eqb, lt-ltb}
 use Rattle.ground.specs.Table.{getD-tabulate}
+use Rattle.circuits.specs.Theorems.Owned.{counts}
+use Rattle.circuits.specs.Views.{Made, cardFrom}
 use Rattle.circuits.specs.declared.answers.Answer.the-variants.{Done, NoSlot, Owned, Used}
 use Rattle.circuits.specs.declared.card.Card.{Card}
 use Rattle.circuits.specs.declared.card.CardOutcome.{CardOutcome}
@@ -15,8 +17,6 @@ use Rattle.circuits.specs.Commands.{claimOf, releaseOf}
 use Rattle.circuits.specs.Laws.Seeing.{slot-low}
 use Rattle.circuits.specs.Owners.{hasOwner, markOf, ownerIn, withOwner}
 use Rattle.circuits.specs.Parts.{isSlot, isUsed, marked, owns, refused, senderOf}
-use Rattle.circuits.specs.Theorems.Owned.{cardFrom, counts}
-use Rattle.circuits.specs.Views.{Made}
 
 release-done : (c : Card) (g i : ℕ) → releaseOf c g i .answer ≡ Done → releaseOf c g i ≡ marked c i 0
 unfolding releaseOf

@@ -5,12 +5,12 @@ use mathlib.Core.List.{List, [], _∷_, _++_}
 use Prim.Native.Nat.{ℕ}
 use lib.ListN.{drop, length, replicate, take}
 use Rattle.c_face.specs.Boards.{boardBytesOf, ranksBytesOf}
-use Rattle.c_face.specs.Cards.{startAnswerOn, startStateOn}
-use Rattle.c_face.specs.Changes.{appliedAnswerC, appliedBytesC, comparedAnswerC, comparedBytesC, spokenAnswerC, spokenBytesC, writtenC}
+use Rattle.c_cards.specs.Cards.{startAnswerOn, startStateOn}
+use Rattle.c_cards.specs.Changes.{appliedAnswerC, appliedBytesC, comparedAnswerC, comparedBytesC, spokenAnswerC, spokenBytesC, writtenC}
 use Rattle.c_face.specs.Keeping.{senderOf}
 use Rattle.c_face.specs.Packets.{given, readAnswerC, readFieldsC, readFixedAnswerC, readFixedFieldsC, valuesIn, writeAnswerC, writeBytesC, writeFixedAnswerC}
 use Rattle.c_face.specs.Payloads.{joinAnswerC, joinFrameC, spreadAnswerC, spreadMembersC}
-use Rattle.c_face.specs.Plans.{checkAnswerC, checkByteC, planAnswerC, planBytesC}
+use Rattle.c_cards.specs.Plans.{checkAnswerC, checkByteC, planAnswerC, planBytesC}
 use Rattle.c_face.specs.Receivers.{failedC, kindC, startAsAnswerC, startAsRowsC}
 use Rattle.c_face.specs.Senders.{startAnswerC, startStateC}
 use Rattle.conformance.specs.Clauses.Filled.{nines, zeros}

@@ -3,7 +3,7 @@ use mathlib.Core.Path.{_≡_, refl}
 use mathlib.Core.List.{List, [], _++_}
 use Prim.Native.Nat.{ℕ, _+_}
 use lib.ListN.{replicate}
-use Rattle.c_face.specs.Mends.{lengthsAnswerC, mendAnswerC, mendedC, mendedLengthC, notesC, notesLengthC}
+use Rattle.c_recordings.specs.Mends.{lengthsAnswerC, mendAnswerC, mendedC, mendedLengthC, notesC, notesLengthC}
 use Rattle.conformance.specs.Opened.{allOpen}
 use Rattle.mending.specs.Mending.{mendAnswer, readAnswer}
 use Rattle.mending.specs.Told.{lengthsOf, mendedLeft, notesLeft, told}

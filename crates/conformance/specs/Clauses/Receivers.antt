@@ -158,7 +158,7 @@ shows :
     × (waitingByte (timed 2) ≡ 0)
     × (waitingByte (timed 1) ≡ 0)
     × (portShown (groupAt opened) (stepAt opened 0) (member 2 3) ≡ 2 ∷ 7 ∷ 0 ∷ 0 ∷ 0 ∷ 0 ∷ 2 ∷ 1 ∷ [])
-    × (recordOf (record { mark = 2; epoch = 200; x = 64; bytes = 0x01248003 }) ≡ 2 ∷ 200 ∷ 64 ∷ 0 ∷ 0x01 ∷ 0x24 ∷ 0x80 ∷ 0x03 ∷ [])
+    × (recordOf (record { mark = 2; epoch = 200; x = 64; cause = 6; bytes = 0x01248003 }) ≡ 2 ∷ 200 ∷ 64 ∷ 6 ∷ 0x01 ∷ 0x24 ∷ 0x80 ∷ 0x03 ∷ [])
     × (portsAnswer opened 2 ≡ 0)
     × (portsAnswer opened 1 ≡ 9)
     × (portsAnswer opened 3 ≡ 9)

@@ -3,7 +3,7 @@ use mathlib.Core.Path.{_≡_, refl}
 use mathlib.Core.List.{List, [], _∷_, _++_}
 use Prim.Native.Nat.{ℕ}
 use lib.ListN.{drop, replicate}
-use Rattle.c_face.specs.Replays.{beginAnswerC, beginStateC, bytesOf, lengthsAnswerC, outLengthC, replayOf, storeLengthC, turnAnswerC, turnAtC, turnRowsC, turnSaidC, turnStateC, turnStoreC, turnWantsC, turnWrittenC}
+use Rattle.c_recordings.specs.Replays.{beginAnswerC, beginStateC, bytesOf, lengthsAnswerC, outLengthC, replayOf, storeLengthC, turnAnswerC, turnAtC, turnRowsC, turnSaidC, turnStateC, turnStoreC, turnWantsC, turnWrittenC}
 use Rattle.conformance.specs.Clauses.Filled.{nines}
 use Rattle.conformance.specs.Opened.{allOpen}
 use Rattle.replaying.specs.declared.lengths.Lengths.{Lengths}

@@ -6,11 +6,11 @@ use Prim.Native.Nat.{ℕ}
 use lib.ListN.{length, take}
 use Rattle.conformance.specs.Waits.{seenPort}
 use Rattle.ground.specs.Table.{tabulate}
+use Rattle.reply.specs.Zero.{statesOf}
 use Rattle.reply.specs.declared.members.Port.{Port}
 use Rattle.reply.specs.declared.waiting.Standing.{Standing}
 use Rattle.reply.specs.Telling.{ackOf, mstOf}
 use Rattle.reply.specs.Waiting.{standing, standingsOf}
-use Rattle.reply.specs.Zero.{plainClaims, plainHolders, stateBy, statesOf}
 use Rattle.conformance.specs.Opened.{allOpen}
 
 abbrev left : List Port → List Standing
@@ -41,7 +41,7 @@ choosing = (refl, refl, refl, refl, refl, refl, refl)
 plain :
     (take 4 (statesOf (added 5 ∷ sends 2 5 (standing 2 5 0) ∷ sends 5 255 (standing 2 3 0) ∷ added 3 ∷ []) 4) ≡ 1 ∷ 2 ∷ 0 ∷ 2 ∷ [])
     × (take 4 (statesOf (added 5 ∷ sends 2 5 (standing 1 5 0) ∷ seenPort 2 7 false (standing 2 7 0) 0 0 ∷ added 64 ∷ []) 4) ≡ 2 ∷ 1 ∷ 1 ∷ 1 ∷ [])
-unfolding allOpen plainClaims plainHolders stateBy statesOf
+unfolding allOpen
 plain = (refl, refl)
 
 -- 'During hold-off the port keeps its number against others', here number 63. One that turns IDLE keeps none, nor does one that is FAIL, nor one whose hold-off of 3 is over.

@@ -7,8 +7,10 @@ use lib.ListN.{getD, length, replicate, take}
 use Rattle.conformance.specs.Clauses.Filled.{nines, zeros}
 use Rattle.ground.specs.Plain.{if_then_else_, _==_}
 use Rattle.ground.specs.Table.{tabulate}
+use Rattle.judge.specs.Cause.{markOf}
 use Rattle.judge.specs.declared.order.Order.{Order}
 use Rattle.judge.specs.declared.seen.Seen.{Seen}
+use Rattle.receiver.specs.Cause.{causeAnswer, causeOut}
 use Rattle.receiver.specs.Fetch.{dueIn, fetchAnswer, fetchOut, fetchRecord, fetchRows, outIfDue, recordOf, reportIfDue, rowsIfDue}
 use Rattle.receiver.specs.Frame.{frameAnswer, frameRows, frameStore, gatheredBy, refusalBy}
 use Rattle.receiver.specs.Report.{framesInto, outputBy, outputOf, replyPort, replyPorts, reportBy, reportOf, rulingEpoch, seenAll, seenOf, startsOf, statesWorkedOut, withState}
@@ -17,7 +19,7 @@ use Rattle.reply.specs.Waiting.{standing}
 use Rattle.rows.specs.declared.group.Group.{Group}
 use Rattle.rows.specs.declared.member.Member.{Member}
 use Rattle.rows.specs.declared.step.Step.{Step}
-use Rattle.rows.specs.Group.{groupAt}
+use Rattle.rows.specs.Group.{groupAt, putGroup}
 use Rattle.rows.specs.Member.{memberAt, putMember}
 use Rattle.rows.specs.Packets.{putMarks, putPackets}
 use Rattle.rows.specs.Step.{putStep}
@@ -69,9 +71,9 @@ store = tabulate 96 (λ i. i)
 -- a held report has no bytes and X 0; a doubtful and a sure one X x 16 x P
 -- the first group frame: port 1's first byte, port 0's, port 1's second byte, port 0's. With the window's first frame at place 15 of the ring the next stands at place 0.
 payload :
-    (reportBy (group 0) 3 order ≡ record { mark = 3; epoch = 58; x = 2; bytes = 64 })
-    × (reportBy (group 0) 2 order ≡ record { mark = 2; epoch = 58; x = 2; bytes = 64 })
-    × (reportBy (group 0) 1 order ≡ record { mark = 1; epoch = 58; x = 0; bytes = 0 })
+    (reportBy (group 0) 3 0 order ≡ record { mark = 3; epoch = 58; x = 2; cause = 0; bytes = 64 })
+    × (reportBy (group 0) 2 7 order ≡ record { mark = 2; epoch = 58; x = 2; cause = 7; bytes = 64 })
+    × (reportBy (group 0) 1 4 order ≡ record { mark = 1; epoch = 58; x = 0; cause = 4; bytes = 0 })
     × (framesInto (group 0) order store 2 (nines 10) ≡ 48 ∷ 0 ∷ 49 ∷ 1 ∷ 51 ∷ 3 ∷ 52 ∷ 4 ∷ 9 ∷ 9 ∷ [])
     × (framesInto (group 15) order store 2 (nines 9) ≡ 93 ∷ 45 ∷ 94 ∷ 46 ∷ 48 ∷ 0 ∷ 49 ∷ 1 ∷ 9 ∷ [])
     × (outputBy (group 0) 1 order store (nines 70) ≡ nines 70)
@@ -235,8 +237,8 @@ due :
     × (dueIn (phase 1 1) 2 (putStep ruling 1 (step 32)) ≡ true)
     × (dueIn (phase 1 1) 2 (putStep ruling 0 (step 32)) ≡ false)
     × (dueIn (phase 1 1) 2 (putStep rows 1 (step 32)) ≡ false)
-    × (reportIfDue (phase 1 1) 2 ruling ≡ record { mark = 2; epoch = 58; x = 1; bytes = 32 })
-    × (reportIfDue (phase 1 0) 2 ruling ≡ record { mark = 0; epoch = 0; x = 0; bytes = 0 })
+    × (reportIfDue (phase 1 1) 2 ruling ≡ record { mark = 2; epoch = 58; x = 1; cause = 6; bytes = 32 })
+    × (reportIfDue (phase 1 0) 2 ruling ≡ record { mark = 0; epoch = 0; x = 0; cause = 0; bytes = 0 })
     × (take 5 (outIfDue (phase 1 1) 2 ruling store (nines 64)) ≡ 63 ∷ 64 ∷ 66 ∷ 67 ∷ 69 ∷ [])
     × (outIfDue (phase 1 0) 2 ruling store (nines 64) ≡ nines 64)
     × (rowsIfDue (phase 1 0) 2 ruling store ≡ ruling)
@@ -266,7 +268,7 @@ last-active = tabulate 18 (λ i. record { whole = true; good = true; word = if i
 
 many :
     (getD (seenAll (phase 1 1) eighteen 18) 17 (seen false 0 0 0) ≡ seen true 2 3 1)
-    × (reportOf (phase 1 1) last-active 18 ≡ record { mark = 3; epoch = 58; x = 1; bytes = 32 })
+    × (reportOf (phase 1 1) last-active 18 ≡ record { mark = 3; epoch = 58; x = 1; cause = 0; bytes = 32 })
     × (take 3 (outputOf (phase 1 1) last-active 18 (replicate 864 7) (nines 40)) ≡ 7 ∷ 7 ∷ 7 ∷ [])
     × (memberAt (statesWorkedOut (phase 1 1) 18 eighteen) 17 .state ≡ 0)
     × (memberAt (statesWorkedOut (phase 1 1) 18 eighteen) 17 .«told_word» ≡ 5)
@@ -276,7 +278,34 @@ many = (refl, refl, refl, refl, refl, refl)
 
 -- the byte count of a record, highest byte first, up to 32 bits
 records :
-    (recordOf (record { mark = 3; epoch = 7; x = 9; bytes = 0xFEFFFFFF }) ≡ 3 ∷ 7 ∷ 9 ∷ 0 ∷ 0xFE ∷ 0xFF ∷ 0xFF ∷ 0xFF ∷ [])
-    × (recordOf (record { mark = 3; epoch = 7; x = 9; bytes = 0xFF000000 }) ≡ 3 ∷ 7 ∷ 9 ∷ 0 ∷ 0xFF ∷ 0 ∷ 0 ∷ 0 ∷ [])
+    (recordOf (record { mark = 3; epoch = 7; x = 9; cause = 0; bytes = 0xFEFFFFFF }) ≡ 3 ∷ 7 ∷ 9 ∷ 0 ∷ 0xFE ∷ 0xFF ∷ 0xFF ∷ 0xFF ∷ [])
+    × (recordOf (record { mark = 3; epoch = 7; x = 9; cause = 0; bytes = 0xFF000000 }) ≡ 3 ∷ 7 ∷ 9 ∷ 0 ∷ 0xFF ∷ 0 ∷ 0 ∷ 0 ∷ [])
 unfolding allOpen
 records = (refl, refl)
+
+-- the record of a report of two ports with each cause of H4: sure with none, held with no bytes by 1 to 5, doubtful with all of them by 6 and 7
+causes-told :
+    tabulate 8 (λ c. recordOf (reportBy (group 0) (markOf 0 c) c order))
+    ≡ (3 ∷ 58 ∷ 2 ∷ 0 ∷ 0 ∷ 0 ∷ 0 ∷ 64 ∷ [])
+    ∷ (1 ∷ 58 ∷ 0 ∷ 1 ∷ 0 ∷ 0 ∷ 0 ∷ 0 ∷ [])
+    ∷ (1 ∷ 58 ∷ 0 ∷ 2 ∷ 0 ∷ 0 ∷ 0 ∷ 0 ∷ [])
+    ∷ (1 ∷ 58 ∷ 0 ∷ 3 ∷ 0 ∷ 0 ∷ 0 ∷ 0 ∷ [])
+    ∷ (1 ∷ 58 ∷ 0 ∷ 4 ∷ 0 ∷ 0 ∷ 0 ∷ 0 ∷ [])
+    ∷ (1 ∷ 58 ∷ 0 ∷ 5 ∷ 0 ∷ 0 ∷ 0 ∷ 0 ∷ [])
+    ∷ (2 ∷ 58 ∷ 2 ∷ 6 ∷ 0 ∷ 0 ∷ 0 ∷ 64 ∷ [])
+    ∷ (2 ∷ 58 ∷ 2 ∷ 7 ∷ 0 ∷ 0 ∷ 0 ∷ 64 ∷ [])
+    ∷ []
+unfolding allOpen
+causes-told = refl
+
+-- And read before the fetch: in epoch 58 port 0 has no whole packet; in epoch 0 that of port 1 is refused, since it is another epoch's. Two bytes are asked for, and the rows of two ports; an empty group has no cause.
+read-before :
+    (causeOut (putGroup ruling (phase 1 1)) (nines 2) ≡ 6 ∷ 0 ∷ [])
+    × (causeOut ruling (nines 2) ≡ 1 ∷ 1 ∷ [])
+    × (causeAnswer ruling 2 ≡ 0)
+    × (causeOut ruling (nines 3) ≡ nines 3)
+    × (causeAnswer ruling 3 ≡ 9)
+    × (causeAnswer (take 10 ruling) 2 ≡ 9)
+    × (causeOut (zeros 16 ∷ []) (nines 2) ≡ 0 ∷ 255 ∷ [])
+unfolding allOpen
+read-before = (refl, refl, refl, refl, refl, refl, refl)

@@ -2,7 +2,7 @@
 use mathlib.Core.Path.{_≡_, refl}
 use mathlib.Core.Bool.{Bool, true, false}
 use mathlib.Core.List.{List, [], _∷_, _++_}
-use Prim.Native.Nat.{ℕ, _-_}
+use Prim.Native.Nat.{ℕ, _+_, _-_}
 use lib.ListN.{length, replicate, take}
 use Rattle.ground.specs.Table.{tabulate}
 use Rattle.sender.specs.declared.board.Board.{Board}
@@ -13,7 +13,9 @@ use Rattle.spoken.specs.declared.lists.Change.{Change}
 use Rattle.spoken.specs.declared.lists.Changes.{Changes}
 use Rattle.spoken.specs.declared.lists.WaitChange.{WaitChange}
 use Rattle.spoken.specs.declared.lists.WaitChange.the-variants.{Same, Opened, Closed}
+use Rattle.spoken.specs.Runs.{runsOf, spread}
 use Rattle.spoken.specs.Speaking.{speakAnswer, speechBytes, speechOf, spokenText}
+use Rattle.spoken.specs.SpeakingRuns.{runsSpeechBytes, runsSpeechOf, runsText, wholeAnswer, wholeSpeechBytes, wholeSpeechOf, wholeText}
 use Rattle.text.specs.Ascii.{ascii}
 use Rattle.conformance.specs.Opened.{allOpen}
 
@@ -109,3 +111,57 @@ speaking :
     × (take 2 (speechBytes (changes (moved ∷ gone ∷ []) Same) (replicate 2188 7)) ≡ 7 ∷ 7 ∷ [])
 unfolding allOpen
 speaking = (refl, refl, refl, refl, refl, refl, refl, refl, refl, refl, refl, refl, refl, refl, refl, refl, refl)
+
+-- four slots are added
+abbrev few : Changes
+few = changes (tabulate 4 (λ i. change i (row 5 255) (row 1 i))) Same
+
+-- five slots carry, and the first of them is removed: each number falls by one
+abbrev shifted : Changes
+shifted = changes (change 0 (row 2 0) (row 5 255) ∷ (tabulate 3 (λ i. change (i + 1) (row 2 (i + 1)) (row 2 i)) ++ (change 4 (row 3 4) (row 3 3) ∷ []))) Opened
+
+-- runs: over no gap, of one old and one new word, of numbers that rise by one or are alike, and as long as they can be
+in-runs :
+    (runsText few ≡ ascii "slots\t0\tto\t3\twas\tIDLE\tnow\tADD\t0\tto\t3\n")
+    × (runsText shifted
+    ≡ ascii "slot\t0\twas\tNORM\t0\tnow\tIDLE\t255\nslots\t1\tto\t3\twas\tNORM\t1\tto\t3\tnow\tNORM\t0\tto\t2\nslot\t4\twas\tEOS\t4\tnow\tEOS\t3\nwait\topen\n")
+    × (runsText (changes (gone ∷ moved ∷ []) Opened) ≡ spokenText (changes (gone ∷ moved ∷ []) Opened))
+    × (runsText (changes (change 1 (row 2 1) (row 15 1) ∷ change 3 (row 2 2) (row 15 2) ∷ []) Same)
+    ≡ ascii "slot\t1\twas\tNORM\t1\tnow\tDNU\t1\nslot\t3\twas\tNORM\t2\tnow\tDNU\t2\n")
+    × (runsText (changes (change 1 (row 2 2) (row 15 2) ∷ change 2 (row 2 1) (row 15 1) ∷ []) Same)
+    ≡ ascii "slot\t1\twas\tNORM\t2\tnow\tDNU\t2\nslot\t2\twas\tNORM\t1\tnow\tDNU\t1\n")
+    × (runsText (changes (change 4 (row 5 63) (row 1 9) ∷ change 5 (row 5 63) (row 1 10) ∷ change 6 (row 5 63) (row 1 10) ∷ []) Closed)
+    ≡ ascii "slots\t4\tto\t5\twas\tIDLE\t63\tnow\tADD\t9\tto\t10\nslot\t6\twas\tIDLE\t63\tnow\tADD\t10\nwait\tclosed\n")
+    × (runsText (changes (change 0 (row 5 255) (row 1 7) ∷ change 1 (row 5 255) (row 1 7) ∷ change 2 (row 5 255) (row 1 8) ∷ []) Same)
+    ≡ ascii "slots\t0\tto\t1\twas\tIDLE\tnow\tADD\t7\nslot\t2\twas\tIDLE\t255\tnow\tADD\t8\n")
+    × (runsText (changes (change 0 (row 2 0) (row 3 0) ∷ change 1 (row 2 1) (row 15 1) ∷ []) Same)
+    ≡ ascii "slot\t0\twas\tNORM\t0\tnow\tEOS\t0\nslot\t1\twas\tNORM\t1\tnow\tDNU\t1\n")
+    × (runsText (changes [] Opened) ≡ ascii "wait\topen\n")
+    × (spread (runsOf (take 5 (shifted .list))) ≡ take 5 (shifted .list))
+    × (runsSpeechOf few (replicate 2188 0) .written ≡ 37)
+    × (runsSpeechOf few (replicate 2187 0) .written ≡ 0)
+    × (answerNumber (runsSpeechOf (changes (moved ∷ gone ∷ []) Same) (replicate 2188 0) .answer) ≡ 2)
+    × (take 2 (runsSpeechBytes (changes (moved ∷ gone ∷ []) Same) (replicate 2188 7)) ≡ 7 ∷ 7 ∷ [])
+    × (take 13 (runsSpeechBytes (changes [] Closed) (replicate 2188 7)) ≡ ascii "wait\tclosed\n" ++ (7 ∷ []))
+unfolding allOpen
+in-runs = (refl, refl, refl, refl, refl, refl, refl, refl, refl, refl, refl, refl, refl, refl, refl)
+
+-- a whole board; a word that no board shows, and a count above 64, are 2
+wholes :
+    (wholeText (old false) ≡ ascii "slots\t0\tto\t1\tNORM\t0\tto\t1\nslot\t2\tEOS\t2\nwait\t0\n")
+    × (wholeText (board [] 4 false) ≡ ascii "slots\t0\tto\t3\tIDLE\nwait\t0\n")
+    × (wholeText (board (row 3 0 ∷ []) 4 false) ≡ ascii "slot\t0\tEOS\t0\nslots\t1\tto\t3\tIDLE\nwait\t0\n")
+    × (wholeText (board (row 5 255 ∷ row 15 4 ∷ row 5 255 ∷ []) 3 true) ≡ ascii "slot\t0\tIDLE\t255\nslot\t1\tDNU\t4\nslot\t2\tIDLE\t255\nwait\t1\n")
+    × (wholeText (board (row 2 0 ∷ row 2 1 ∷ row 2 3 ∷ row 2 4 ∷ []) 4 true) ≡ ascii "slots\t0\tto\t1\tNORM\t0\tto\t1\nslots\t2\tto\t3\tNORM\t3\tto\t4\nwait\t1\n")
+    × (wholeText (board [] 0 true) ≡ ascii "wait\t1\n")
+    × (answerNumber (wholeAnswer (board [] 64 false) (replicate 2188 0)) ≡ 0)
+    × (answerNumber (wholeAnswer (board [] 65 false) (replicate 2188 0)) ≡ 2)
+    × (answerNumber (wholeAnswer (board (row 2 0 ∷ row 4 1 ∷ []) 2 false) (replicate 2188 0)) ≡ 2)
+    × (answerNumber (wholeAnswer (board (row 2 0 ∷ row 4 1 ∷ []) 1 false) (replicate 2188 0)) ≡ 0)
+    × (answerNumber (wholeAnswer (board [] 65 false) (replicate 2187 0)) ≡ 9)
+    × (wholeSpeechOf (board [] 0 true) (replicate 2188 0) .written ≡ 7)
+    × (wholeSpeechOf (board [] 65 true) (replicate 2188 0) .written ≡ 0)
+    × (take 8 (wholeSpeechBytes (board [] 0 true) (replicate 2188 7)) ≡ ascii "wait\t1\n" ++ (7 ∷ []))
+    × (take 2 (wholeSpeechBytes (board [] 65 true) (replicate 2188 7)) ≡ 7 ∷ 7 ∷ [])
+unfolding allOpen
+wholes = (refl, refl, refl, refl, refl, refl, refl, refl, refl, refl, refl, refl, refl, refl, refl)

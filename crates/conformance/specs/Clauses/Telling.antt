@@ -4,13 +4,13 @@ use mathlib.Core.List.{List, [], _∷_}
 use Prim.Native.Nat.{ℕ}
 use lib.ListN.{replicate, take}
 use Rattle.c_face.specs.Boards.{boardBytesOf}
-use Rattle.c_face.specs.CardCalls.{backOf}
-use Rattle.c_face.specs.CardCalls.CardCall.{Changes}
-use Rattle.c_face.specs.Cards.{putCard}
-use Rattle.c_face.specs.Going.{changesAnswerC, changesAnswerOn, changesBytesC, changesBytesOn, changesToldC, changesToldOn}
+use Rattle.c_cards.specs.CardCalls.{backOf}
+use Rattle.c_cards.specs.CardCalls.CardCall.{Changes}
+use Rattle.c_cards.specs.Cards.{putCard}
+use Rattle.c_cards.specs.Going.{changesAnswerC, changesAnswerOn, changesBytesC, changesBytesOn, changesToldC, changesToldOn}
 use Rattle.c_face.specs.Keeping.{bytesOf}
-use Rattle.c_face.specs.Listening.{Heard, Said, answersTo, heardAfter, senderHost}
-use Rattle.c_face.specs.Listening.Said.{Make, Tell}
+use Rattle.c_cards.specs.Listening.{Heard, Said, answersTo, heardAfter, senderHost}
+use Rattle.c_cards.specs.Listening.Said.{Make, Tell}
 use Rattle.conformance.specs.Clauses.Filled.{nines}
 use Rattle.conformance.specs.Opened.{allOpen}
 use Rattle.sender.specs.Calls.Call.{AddSlot}

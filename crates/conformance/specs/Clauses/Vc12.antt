@@ -8,7 +8,7 @@ use Rattle.ground.specs.Finite.{below, sameBits}
 use Rattle.ground.specs.Plain.{if_then_else_, _==_}
 use Rattle.ground.specs.Polynomial.{check}
 use Rattle.ground.specs.Table.{tabulate}
-use Rattle.c_face.specs.Cards.{cardOf, startAnswerOn, startStateOn}
+use Rattle.c_cards.specs.Cards.{cardOf, startAnswerOn, startStateOn}
 use Rattle.c_face.specs.Keeping.{senderOf}
 use Rattle.c_face.specs.Packets.{readVc12AnswerC, readVc12FieldsC, writeVc12AnswerC, writeVc12BytesC}
 use Rattle.c_face.specs.Receivers.{startAsAnswerC}

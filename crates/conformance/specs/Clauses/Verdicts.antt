@@ -9,6 +9,7 @@ use Rattle.ground.specs.Plain.{if_then_else_, _==_}
 use Rattle.ground.specs.Table.{tabulate}
 use Rattle.ground.specs.Types.{Epoch}
 use Rattle.judge.specs.declared.seen.Seen.{Seen}
+use Rattle.judge.specs.Cause.{blamedOf, causeOf, markOf}
 use Rattle.judge.specs.Order.{orderOf}
 use Rattle.judge.specs.Verdict.{judgeOf}
 use Rattle.packet.specs.Fixed.{readFixedAnswer, readFixedNibbles, writeFixedAnswer, writeFixedBytes}
@@ -115,6 +116,49 @@ any-fixed :
     × (judgeOf 2 (saw 0 0 0 ∷ []) 1 ≡ 3)
 unfolding allOpen
 any-fixed = (refl, refl, refl, refl, refl, refl, refl)
+
+-- the cause, and the lowest port to which its clause applies, 255 none
+abbrev why : (kind : ℕ) (ports : List Seen) → List ℕ
+why kind ports = causeOf kind ports (length ports) ∷ blamedOf kind ports (length ports) ∷ []
+
+-- Each clause alone: none; a refused packet, at the first of two; a frame that lacks; DNU's number, which a lower port has; GID, not an IDLE port's; EOS below the highest, and none on it; no whole packet; a gap, which is no one port's.
+causes :
+    (why 0 (saw 2 0 0 ∷ saw 3 1 0 ∷ []) ≡ 0 ∷ 255 ∷ [])
+    × (why 0 (saw 3 0 0 ∷ bad 2 1 ∷ bad 2 2 ∷ []) ≡ 1 ∷ 1 ∷ [])
+    × (why 0 (saw 2 0 0 ∷ lacks 2 1 ∷ lacks 3 2 ∷ []) ≡ 2 ∷ 1 ∷ [])
+    × (why 0 (saw 2 0 0 ∷ saw 3 1 0 ∷ saw 15 0 0 ∷ []) ≡ 3 ∷ 2 ∷ [])
+    × (why 0 (saw 5 255 1 ∷ saw 2 0 0 ∷ saw 3 1 1 ∷ []) ≡ 4 ∷ 2 ∷ [])
+    × (why 0 (saw 3 0 0 ∷ saw 2 1 0 ∷ []) ≡ 5 ∷ 0 ∷ [])
+    × (why 0 (saw 2 0 0 ∷ saw 2 1 0 ∷ []) ≡ 5 ∷ 1 ∷ [])
+    × (why 0 (saw 3 0 0 ∷ joining ∷ []) ≡ 6 ∷ 1 ∷ [])
+    × (why 0 (saw 2 0 0 ∷ saw 3 2 0 ∷ []) ≡ 7 ∷ 255 ∷ [])
+unfolding allOpen
+causes = (refl, refl, refl, refl, refl, refl, refl, refl, refl)
+
+-- of two clauses that hold the one before decides; and the marks by cause, of H4, VC-12 and a fixed group
+first-cause :
+    (why 0 (bad 2 0 ∷ lacks 3 1 ∷ []) ≡ 1 ∷ 0 ∷ [])
+    × (why 0 (lacks 2 0 ∷ saw 3 0 0 ∷ []) ≡ 2 ∷ 0 ∷ [])
+    × (why 0 (saw 2 0 0 ∷ saw 3 0 1 ∷ []) ≡ 3 ∷ 1 ∷ [])
+    × (why 0 (saw 3 0 0 ∷ saw 3 1 1 ∷ []) ≡ 4 ∷ 1 ∷ [])
+    × (why 0 (saw 3 0 0 ∷ saw 3 1 0 ∷ joining ∷ []) ≡ 5 ∷ 0 ∷ [])
+    × (why 1 (saw 3 1 0 ∷ joining ∷ []) ≡ 6 ∷ 1 ∷ [])
+    × (tabulate 8 (markOf 0) ≡ 3 ∷ 1 ∷ 1 ∷ 1 ∷ 1 ∷ 1 ∷ 2 ∷ 2 ∷ [])
+    × (tabulate 8 (markOf 1) ≡ 3 ∷ 1 ∷ 1 ∷ 1 ∷ 1 ∷ 1 ∷ 2 ∷ 2 ∷ [])
+    × (tabulate 8 (markOf 2) ≡ 3 ∷ 1 ∷ 1 ∷ 1 ∷ 1 ∷ 1 ∷ 1 ∷ 1 ∷ [])
+unfolding allOpen
+first-cause = (refl, refl, refl, refl, refl, refl, refl, refl, refl)
+
+-- a fixed group's, in its own order: no whole packet before a refused one, then frames, numbers twice and a gap; GID and EOS are not asked for
+fixed-causes :
+    (why 2 (saw 0 0 0 ∷ saw 0 1 1 ∷ []) ≡ 0 ∷ 255 ∷ [])
+    × (why 2 (bad 0 0 ∷ joining ∷ []) ≡ 6 ∷ 1 ∷ [])
+    × (why 2 (saw 0 0 0 ∷ bad 0 1 ∷ lacks 0 2 ∷ []) ≡ 1 ∷ 1 ∷ [])
+    × (why 2 (lacks 0 0 ∷ saw 0 0 0 ∷ []) ≡ 2 ∷ 0 ∷ [])
+    × (why 2 (saw 0 0 0 ∷ saw 0 0 0 ∷ []) ≡ 3 ∷ 1 ∷ [])
+    × (why 2 (saw 0 0 0 ∷ saw 0 2 0 ∷ []) ≡ 7 ∷ 255 ∷ [])
+unfolding allOpen
+fixed-causes = (refl, refl, refl, refl, refl, refl)
 
 -- payload goes by the numbers of active ports, however high, and not by what a refused or a torn packet reads as
 orders :

@@ -4,8 +4,8 @@ use mathlib.Core.List.{List, [], _∷_}
 use Prim.Native.Nat.{ℕ}
 use lib.ListN.{getD, length}
 use Rattle.ground.specs.Plain.{_==_, _<?_, _≤?_}
-use Rattle.c_face.specs.Cards.{cardOf}
-use Rattle.c_face.specs.Going.{changesAnswerC, changesAnswerOn, changesBytesC, changesBytesOn, changesToldC, changesToldOn, goingAnswer, goingChanges, goingTold}
+use Rattle.c_cards.specs.Cards.{cardOf}
+use Rattle.c_cards.specs.Going.{changesAnswerC, changesAnswerOn, changesBytesC, changesBytesOn, changesToldC, changesToldOn, goingAnswer, goingChanges, goingTold}
 use Rattle.c_face.specs.Keeping.{senderOf}
 use Rattle.circuits.specs.Readings.{outgoingShown}
 use Rattle.conformance.specs.Entries.{Call, Copes, Refusal, Unless, copes, stateless}

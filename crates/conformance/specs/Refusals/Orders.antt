@@ -4,7 +4,7 @@ use mathlib.Core.List.{List, [], _∷_}
 use Prim.Native.Nat.{ℕ}
 use lib.ListN.{length, take}
 use Rattle.ground.specs.Plain.{_==_, _<?_}
-use Rattle.c_face.specs.Orders.{orderAnswerOn, orderAnswersOn, orderStateOn}
+use Rattle.c_cards.specs.Orders.{orderAnswerOn, orderAnswersOn, orderStateOn}
 use Rattle.circuits.specs.declared.card.Card.{Card}
 use Rattle.circuits.specs.Answers.{answerNumber}
 use Rattle.conformance.specs.Entries.{Call, Copes, If, Unless, copes, stateful}

@@ -57,7 +57,7 @@ refused t n e = go (leb 1 n) (leb n 64) refl refl e
         let h = leb-false n 64 q in
         rw (ne-eqb n 0 (λ (z : n ≡ 0). omega arith), lt-ltb 64 n (omega arith))
 
-size-line : (t : Table) (l : Line) → isSize l ≡ true → t .kind ≡ 0 → replyOf t l .table ≡ startOf 0 (sizeOf l) .table
+pub size-line : (t : Table) (l : Line) → isSize l ≡ true → t .kind ≡ 0 → replyOf t l .table ≡ startOf 0 (sizeOf l) .table
 unfolding replyOf
 size-line t (Size n) e k = accepted t n e ∙ rw (k, e)
 size-line t (Add i) e k = absurd (false≢true e)
@@ -67,7 +67,7 @@ size-line t Lapse e k = absurd (false≢true e)
 size-line t Board e k = absurd (false≢true e)
 size-line t Malformed e k = absurd (false≢true e)
 
-call-line : (t : Table) (l : Line) → isSize l ≡ false → replyOf t l .table ≡ run t (callOf l)
+pub call-line : (t : Table) (l : Line) → isSize l ≡ false → replyOf t l .table ≡ run t (callOf l)
 unfolding replyOf
 call-line t (Size n) e = refused t n e
 call-line t (Add i) e = refl
@@ -77,7 +77,7 @@ call-line t Lapse e = refl
 call-line t Board e = refl
 call-line t Malformed e = refl
 
-kind-line : (t : Table) (l : Line) → t .kind ≡ 0 → replyOf t l .table .kind ≡ 0
+pub kind-line : (t : Table) (l : Line) → t .kind ≡ 0 → replyOf t l .table .kind ≡ 0
 kind-line t l k = go (isSize l) refl
   where
     go : (b : Bool) → isSize l ≡ b → replyOf t l .table .kind ≡ 0
@@ -100,7 +100,7 @@ told-from t (l ∷ ls) k = go (isSize (lineOf l)) (hasSize (meant ls)) refl refl
         rw (p, q)
         ((rw q at h) ∙ ap (λ (u : Table). run u (callsIn (meant ls))) (call-line t (lineOf l) p) ∙ sym (run-append t (callOf (lineOf l)) (callsIn (meant ls))))
 
-no-size : (ls : List Line) → hasSize ls ≡ false → (lastSize ls ≡ 0) × (sinceSize ls ≡ ls)
+pub no-size : (ls : List Line) → hasSize ls ≡ false → (lastSize ls ≡ 0) × (sinceSize ls ≡ ls)
 no-size [] e = (refl, refl)
 no-size (l ∷ ls) e =
     let a = or-left (isSize l) (hasSize ls) e in

@@ -8,7 +8,7 @@ use native.Mathlib.Numerals.{add-one}
 use native.Mathlib.Omega.{arith}
 use borrow.Author.Tests.{not-false}
 use Rattle.ground.specs.Truth.{and-true, and-left, and-right, or-left, or-right, or-cases, fails, clash, eq-or-ne}
-use Rattle.counting.specs.Words.{some, every, the}
+use Rattle.counting.specs.Words.{One, every, some, the}
 
 -- one more turn of a loop
 pub some-more : (f : ℕ → Bool) (i : ℕ) (r b : Bool) → r ≡ some i f → b ≡ f i → (r || b) ≡ some (i + 1) f
@@ -21,12 +21,6 @@ some-at (suc n) f k h t =
     ⊎-elim (λ (e : k ≡ n). or-right (some n f) (f n) (rw (← e) t))
     (λ (d : k ≢ n). or-left (some n f) (f n) (rest (omega arith) t))
     (eq-or-ne k n)
-
--- one at which the test holds
-pub record One (n : ℕ) (f : ℕ → Bool) : Type 0 where
-  pub at : ℕ
-  pub below : at < n
-  pub holds : f at ≡ true
 
 pub some-one : (n : ℕ) (f : ℕ → Bool) → some n f ≡ true → One n f
 some-one zero f t = absurd (false≢true t)

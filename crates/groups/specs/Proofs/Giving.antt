@@ -13,14 +13,15 @@ use Rattle.packet.specs.Kinds.{frames, payloadRight}
 use Rattle.payload.specs.Laws.Fits.{Sizes, one-done, spread-one-done}
 use Rattle.payload.specs.Order.{memberFrame}
 use Rattle.payload.specs.Spreading.{oneAnswer, spreadOne}
+use Rattle.sender.specs.Epochs.{onTable, rankIn, senderRun, xOf}
+use Rattle.sender.specs.SenderRuns.{Fixed}
+use Rattle.sender.specs.Theorems.Epochs.{fixed}
 use Rattle.sender.specs.declared.epochs.Sender.{Sender}
 use Rattle.sender.specs.declared.table.Answer.the-variants.{Done}
 use Rattle.sender.specs.Epochs as E
-use Rattle.sender.specs.Epochs.{rankIn, senderRun, xOf}
 use Rattle.sender.specs.Outcomes.{spreadTold}
 use Rattle.sender.specs.Ranks.{noRank}
 use Rattle.sender.specs.Table.{sizeOf}
-use Rattle.sender.specs.Theorems.Epochs.{Fixed, fixed, onTable}
 use Rattle.circuits.specs.Answers.{fromSender}
 use Rattle.circuits.specs.declared.answers.Answer.the-variants as A
 use Rattle.circuits.specs.declared.card.Card.{Card}

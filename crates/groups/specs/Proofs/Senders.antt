@@ -8,11 +8,11 @@ use native.Mathlib.Omega.{arith}
 use lib.Dec.{eqb}
 use borrow.Author.Tests.{eqb-false, eqb-true, lt-ltb}
 use Rattle.ground.specs.Table.{tabulate}
+use Rattle.sender.specs.Epochs.{SenderCall, beginOf, onTable, senderOutcomeOf, senderRun}
+use Rattle.sender.specs.Theorems.Epochs.{refused-start}
 use Rattle.sender.specs.declared.epochs.Sender.{Sender}
 use Rattle.sender.specs.Calls.{Call as T}
-use Rattle.sender.specs.Epochs.{SenderCall, beginOf, senderOutcomeOf, senderRun}
 use Rattle.sender.specs.Epochs.{SenderCall as E}
-use Rattle.sender.specs.Theorems.Epochs.{onTable, refused-start}
 use Rattle.circuits.specs.Calls.Call.{Claim, Release, AddSlot, RemoveSlot, Report, Lapse, StartEpoch}
 use Rattle.circuits.specs.Commands.{claimOf, commandOf, groupCallOf, releaseOf, sentOf, startOf}
 use Rattle.circuits.specs.declared.answers.Answer.the-variants as A

@@ -1,15 +1,15 @@
 -- What holds of the receiver's rows after any calls.
 use mathlib.Core.Path.{_≡_}
 use mathlib.Core.Bool.{Bool, true, false, _||_}
-use mathlib.Core.List.{List}
 use Prim.Native.Nat.{ℕ, _≤_, _<_}
 use lib.ListN.{length}
 use Rattle.ground.specs.Plain.{if_then_else_, _==_}
+use Rattle.ground.specs.Types.{Rows}
 use Rattle.invariant.specs.Kept.Port.{PortKept}
 use Rattle.packet.specs.Kinds.{epochs, fixedKind}
 use Rattle.packet.specs.Words.{ADD, DNU, EOS, FIXED, IDLE, NORM}
+use Rattle.phases.specs.Settling.{Settled}
 use Rattle.phases.specs.Sizes.{sized}
-use Rattle.phases.specs.Theorems.Settled.{Settled}
 use Rattle.reply.specs.Members.{noWord, okState}
 use Rattle.rows.specs.declared.group.Group.{Group}
 use Rattle.rows.specs.declared.member.Member.{Member}
@@ -51,13 +51,13 @@ pub record OkApart (n : ℕ) (member : ℕ → Member) : Type 0 where
   pub apart : (i j : ℕ) → i < n → j < n → member i .state ≡ okState → member j .state ≡ okState → member i .«state_number» ≡ member j .«state_number» → i ≡ j
 
 -- all but what follows from a frame for all ports
-pub record Lasting (s : List (List ℕ)) : Type 0 where
+pub record Lasting (s : Rows) : Type 0 where
   pub rows : length s ≡ rowsFor (groupAt s .count)
   pub group : GroupKept (groupAt s)
   pub ports : (i : ℕ) → i < groupAt s .count → PortIn (groupAt s) (portAt s i)
   pub members : OkApart (groupAt s .count) (λ i. portAt s i .member)
 
 -- After every call, stopping, beginning and gathering have followed: they wait for no other call.
-pub record Kept (s : List (List ℕ)) : Type 0 where
+pub record Kept (s : Rows) : Type 0 where
   pub lasting : Lasting s
   pub settled : Settled (groupAt s .count) s

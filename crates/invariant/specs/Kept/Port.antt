@@ -2,7 +2,6 @@
 use mathlib.Core.Path.{_≡_}
 use mathlib.Core.Logic.{_≢_}
 use mathlib.Core.Bool.{true, false}
-use mathlib.Core.List.{List}
 use Prim.Native.Nat.{ℕ, _+_, _*_, _≤_, _<_}
 use Rattle.ground.specs.Plain.{_≤?_}
 use Rattle.ground.specs.Types.{Bytes}
@@ -10,8 +9,7 @@ use Rattle.packet.specs.Kinds.{distanceOf, firstTag, frames, tags}
 use Rattle.rows.specs.declared.group.Group.{Group}
 use Rattle.rows.specs.declared.step.Step.{Step}
 use Rattle.step.specs.Arrival.{distanceIn, flagOf, inStep, runOf}
-use Rattle.store.specs.Laws.Marks.{Sixteen}
-use Rattle.store.specs.Marks.{markIn}
+use Rattle.store.specs.Marks.{Sixteen, markIn}
 use Rattle.invariant.specs.Kept.Run.{RunKept}
 
 -- 'The window W is 16 to 2,048 frames'
@@ -35,7 +33,7 @@ abbrev pub NoMark : Bytes → Type 0
 NoMark marks = (i : ℕ) → markIn marks i ≡ false
 
 -- before the beginning nobody has joined, nothing is stored and nothing rules
-pub record Idle (s : Step) (marks : List ℕ) : Type 0 where
+pub record Idle (s : Step) (marks : Bytes) : Type 0 where
   pub joined : s .joined ≡ 0
   pub since : s .since ≡ 0
   pub later : s .later ≡ 0
@@ -43,7 +41,7 @@ pub record Idle (s : Step) (marks : List ℕ) : Type 0 where
   pub empty : NoMark marks
 
 -- of a port that has joined
-pub record Joined (g : Group) (s : Step) (marks : List ℕ) : Type 0 where
+pub record Joined (g : Group) (s : Step) (marks : Bytes) : Type 0 where
   pub reach : offset g s ≤ g .window
   pub within : frames (g .kind) * s .later < g .window
   pub passed : s .later ≢ 0 → frames (g .kind) * s .later < offset g s
@@ -51,12 +49,12 @@ pub record Joined (g : Group) (s : Step) (marks : List ℕ) : Type 0 where
   pub marked : (i : ℕ) → s .later ≤ i → markIn marks i ≡ (endOf g i ≤? offset g s)
 
 -- of a port in step ever since the beginning that has not joined yet: the window's first frame is less than W frames ahead of it
-pub record Waiting (g : Group) (s : Step) (marks : List ℕ) : Type 0 where
+pub record Waiting (g : Group) (s : Step) (marks : Bytes) : Type 0 where
   pub gathered : g .gathered ≡ 0
   pub short : shortOf g s < g .window
   pub empty : NoMark marks
 
-pub record PortKept (g : Group) (s : Step) (marks : List ℕ) : Type 0 where
+pub record PortKept (g : Group) (s : Step) (marks : Bytes) : Type 0 where
   pub row : Sixteen marks
   pub run : RunKept (g .kind) (runOf s)
   -- flags are 0 or 1

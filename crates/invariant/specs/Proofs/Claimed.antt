@@ -51,10 +51,10 @@ use Rattle.rows.specs.Rows.{rowsFor}
 use Rattle.rows.specs.Step.{stepAt}
 use Rattle.step.specs.Arrival.{distanceIn, flagOf, inStep, takenOf}
 use Rattle.step.specs.declared.arrival.Taken.{Taken}
-use Rattle.store.specs.Frames.{byteAt, h4At, placeIn, storedAt}
+use Rattle.store.specs.Frames.{Stands, byteAt, h4At, placeIn, storedAt}
 use Rattle.store.specs.Laws.Marks.{first-mark, mark-none}
 use Rattle.store.specs.Laws.Places.{place-moved}
-use Rattle.store.specs.Laws.Stands.{Stands, stands-put, stands-same, stored-elsewhere}
+use Rattle.store.specs.Laws.Stands.{stands-put, stands-same, stored-elsewhere}
 use Rattle.store.specs.Marks.{firstMark, markIn, passedMarks}
 use Rattle.invariant.specs.Calls.{Fetch, Frame, Receiver, ReceiverCall, portAfter, receiverAfter, receiverRun, startedWith, storeAfter}
 use Rattle.invariant.specs.Claims.{Claimed, ClaimedOn, Claims, Handed, HandedBy, HandedLast, Part, tagIn}

@@ -21,10 +21,10 @@ use Rattle.receiver.specs.Frame.{marksBy}
 use Rattle.rows.specs.declared.group.Group.{Group}
 use Rattle.rows.specs.declared.step.Step.{Step}
 use Rattle.step.specs.Arrival.{frameDropped, countsOn, distanceIn, flagOf, flagged, joining, keeps, outside, runOf, takenOf}
+use Rattle.step.specs.Theorems.Lost.{run-goes-on}
 use Rattle.step.specs.declared.arrival.Taken.{Taken}
 use Rattle.step.specs.declared.run.Run.{Run}
 use Rattle.step.specs.Laws.Arrival.{inWindow, ranOn, stepped, taken-by}
-use Rattle.step.specs.Laws.Lost.{run-goes-on}
 use Rattle.store.specs.Laws.Marks.{mark-beyond, mark-cut, mark-marked, mark-passed, sixteen-marked}
 use Rattle.store.specs.Marks.{firstMark, markIn, markedAt, passedMarks}
 use Rattle.invariant.specs.Claims.{Claims, Part}

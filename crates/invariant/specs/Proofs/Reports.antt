@@ -6,4 +6,5 @@ pub mod Fixed
 pub mod Groups
 pub mod Order
 pub mod Ack
+pub mod Cause
 pub mod HandedAgain

@@ -152,6 +152,7 @@ module _ (x : Receiver) (k₀ : Kept (x .rows)) where
   now-kept : (calls : List ReceiverCall) → Kept (receiverRun x calls .rows)
   now-kept calls = run-kept x calls k₀
 
+  -- One call more: by `call-ruled` all ruling packets stay, none rules any more, or all have passed in this call. In the first case they are of the epoch of which they were, in the last of the one that the call passed.
   call-one : (calls : List ReceiverCall) (c : ReceiverCall) → OneEpoch x calls → OneEpoch x (calls ++ (c ∷ []))
   call-one calls c o = ⊎-elim stay (λ (u : AllUnruled (now .rows) (next .rows) ⊎ AllPassed now c (next .store) (next .rows)). ⊎-elim unruled passed u) (call-ruled now c (now-kept calls))
     where

@@ -13,8 +13,8 @@ use Rattle.counting.specs.Laws.Tests.{every-all, every-at, every-fails}
 use Rattle.counting.specs.Words.{every}
 use Rattle.ground.specs.Truth.{clash, eq-or-ne, fails}
 use Rattle.phases.specs.Due.{brought, owesNothing, silent}
-use Rattle.phases.specs.Settling.{settledOf}
-use Rattle.phases.specs.Theorems.Settled.{Settled, heard-port, settled-stays}
+use Rattle.phases.specs.Settling.{Settled, settledOf}
+use Rattle.phases.specs.Theorems.Settled.{heard-port, settled-stays}
 use Rattle.receiver.specs.Frame.{marksBy, oddIn, portRows, settledBy, takenIn}
 use Rattle.receiver.specs.Laws.Frames.{frame-group, frame-marks, frame-marks-other, frame-step, frame-step-other}
 use Rattle.rows.specs.declared.group.Group.{Group}

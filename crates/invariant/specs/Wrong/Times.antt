@@ -43,7 +43,7 @@ reports [] = []
 reports (o ∷ l) = if length (o .report) == 0 then reports l else (o .report ++ o .out) ∷ reports l
 
 both : List (List ℕ)
-both = (SURE ∷ 4 ∷ 1 ∷ 0 ∷ 0 ∷ 0 ∷ 0 ∷ 16 ∷ replicate 16 4) ∷ (DOUBTFUL ∷ 5 ∷ 1 ∷ 0 ∷ 0 ∷ 0 ∷ 0 ∷ 16 ∷ replicate 16 5) ∷ []
+both = (SURE ∷ 4 ∷ 1 ∷ 0 ∷ 0 ∷ 0 ∷ 0 ∷ 16 ∷ replicate 16 4) ∷ (DOUBTFUL ∷ 5 ∷ 1 ∷ 7 ∷ 0 ∷ 0 ∷ 0 ∷ 16 ∷ replicate 16 5) ∷ []
 
 -- Both start, and every report is the same. With no wait the port is OK under 0, with two reports to wait it is FAIL and restoring. MST differs with it, RS-Ack does not.
 times-differ :

@@ -1,26 +1,27 @@
 -- Fixed groups (request 2026-12): a report is sure exactly where every port has a whole good ruling packet and its frames, and the numbers are 0 to X-1, X being how many ports were set at the start. Otherwise it is held, and never doubtful.
 use mathlib.Core.Path.{_≡_, refl, sym, _∙_}
 use mathlib.Core.Logic.{_≢_}
-use mathlib.Core.Bool.{true, false, not, _&&_}
+use mathlib.Core.Bool.{true, false, not}
 use mathlib.Core.List.{List, [], _∷_}
-use Prim.Native.Nat.{ℕ, _≤_, _<_}
+use Prim.Native.Nat.{ℕ, _<_}
 use native.Mathlib.Omega.{arith}
-use lib.Dec.{eqb}
 use borrow.Author.Tests.{not-false}
 use Rattle.counting.specs.Words.{count, some}
 use Rattle.counting.specs.Laws.Numbers.{count-all}
-use Rattle.counting.specs.Laws.Ranks.{all-taken, full-below, taken}
-use Rattle.counting.specs.Laws.Tests.{every-all, every-at, none-at, some-at, some-none}
+use Rattle.counting.specs.Laws.Ranks.{taken}
+use Rattle.counting.specs.Laws.Tests.{every-at, none-at, some-none}
 use Rattle.ground.specs.Table.{tabulate}
 use Rattle.ground.specs.Truth.{cond-by, fails}
 use Rattle.packet.specs.Kinds.{fixedKind}
 use Rattle.packet.specs.Words.{FIXED}
 use Rattle.judge.specs.declared.seen.Seen.{Seen}
-use Rattle.judge.specs.Laws.Numbers.{AllApart, activeAt, all-active, apart-repeats, numberAt, numberedAt, repeats-apart}
+use Rattle.judge.specs.Full.{Full}
+use Rattle.judge.specs.Laws.Numbers.{AllApart, activeAt, all-active, numberAt, numberedAt, repeats-apart}
 use Rattle.judge.specs.Laws.Ports.{accepted-good, active-numbered, good-accepted, here-lacks, lacks-here}
 use Rattle.judge.specs.Order.{activeIn, portOf, rankOf}
 use Rattle.judge.specs.Seen.{activeSeen, lackingSeen, refusedSeen, seenAt}
 use Rattle.judge.specs.Theorems.Exact.{all-below}
+use Rattle.judge.specs.Theorems.Full.{full-apart, full-exact, full-members, full-rank, full-repeats}
 use Rattle.judge.specs.Theorems.Held.{none}
 use Rattle.judge.specs.Theorems.Ranks.{Ranked, port-ranked}
 use Rattle.judge.specs.Verdict.{DOUBTFUL, HELD, SURE, fixedExact, fixedHeld, fixedVerdict, judgeOf, missing, repeats, takes}
@@ -92,18 +93,12 @@ module _ (ports : List Seen) (n : ℕ) (fixed : AllFixed ports n) (o : Standing 
   stands-active : (i : ℕ) → i < n → activeAt ports i ≡ true
   stands-active i b = fixed-active (seenAt ports i) (o .whole i b) (o .good i b) (fixed i b (o .good i b))
 
-  stands-numbered : (i : ℕ) → i < n → numberedAt ports i ≡ true
-  stands-numbered i b = active-numbered (seenAt ports i) (stands-active i b)
-
-  stands-apart : AllApart ports n
-  stands-apart i j bi bj ti tj e = o .once i j bi bj e
+  stands-full : Full ports n
+  stands-full = record { active = stands-active; once = o .once; low = o .low }
 
   exact-in : fixedExact ports n ≡ true
-  unfolding fixedExact takes
-  exact-in =
-      every-all n (λ q. takes ports n q) (λ q h.
-      let w = all-taken n n (numberedAt ports) (numberAt ports) stands-apart (λ i b t. o .low i b) (count-all n (numberedAt ports) stands-numbered) q h in
-      some-at n (λ k. numberedAt ports k && eqb (numberAt ports k) q) (w .at) (w .below) (w .holds))
+  unfolding fixedExact
+  exact-in = full-exact ports n stands-full n (omega arith)
 
   pub stands-sure : fixedVerdict ports n ≡ SURE
   unfolding fixedVerdict fixedHeld missing
@@ -112,24 +107,16 @@ module _ (ports : List Seen) (n : ℕ) (fixed : AllFixed ports n) (o : Standing 
         some-none n (λ i. not (seenAt ports i .whole)) (λ i b. rw (o .whole i b)),
         some-none n (λ i. refusedSeen (seenAt ports i)) (λ i b. good-accepted (seenAt ports i) (o .good i b)),
         some-none n (λ i. lackingSeen (seenAt ports i)) (λ i b. here-lacks (seenAt ports i) (λ t. o .here i b)),
-        apart-repeats ports n stands-apart,
+        full-repeats ports n stands-full,
         exact-in,
       )
 
   -- X is the number of ports
   pub fixed-members : activeIn ports n ≡ n
-  unfolding activeIn
-  fixed-members = count-all n (activeAt ports) stands-active
-
-  -- and a number is its rank
-  rank-number : (q : ℕ) → q ≤ n → rankOf ports n q ≡ q
-  unfolding rankOf
-  rank-number q l =
-      let all : count n (activeAt ports) ≡ n = count-all n (activeAt ports) stands-active in
-      full-below n (activeAt ports) (numberAt ports) (λ i j bi bj ti tj e. o .once i j bi bj e) (λ i b t. rw all (o .low i b)) q (rw all l)
+  fixed-members = full-members ports n stands-full
 
   stands-ranked : (r : ℕ) → r < n → Ranked ports n r (portOf ports n r)
-  stands-ranked r h = port-ranked ports n (all-active ports n stands-apart) r (rw fixed-members h)
+  stands-ranked r h = port-ranked ports n (all-active ports n (full-apart ports n stands-full)) r (rw fixed-members h)
 
   -- the port of rank r is the one with the number r
   pub fixed-port : (r : ℕ) → r < n → (portOf ports n r < n) × (numberAt ports (portOf ports n r) ≡ r)
@@ -137,7 +124,7 @@ module _ (ports : List Seen) (n : ℕ) (fixed : AllFixed ports n) (o : Standing 
       let w = stands-ranked r h in
       let p : ℕ = portOf ports n r in
       let low : numberAt ports p < n = o .low p (w .below) in
-      (w .below, sym (rank-number (numberAt ports p) (omega arith)) ∙ w .rank)
+      (w .below, sym (full-rank ports n stands-full (numberAt ports p) (omega arith)) ∙ w .rank)
 
 -- by the kind
 pub fixed-judged : (ports : List Seen) (n : ℕ) → judgeOf fixedKind ports n ≡ fixedVerdict ports n

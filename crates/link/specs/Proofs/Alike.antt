@@ -13,7 +13,7 @@ use Rattle.judge.specs.Verdict.{SURE}
 use Rattle.packet.specs.Kinds.{firstTag, frames}
 use Rattle.packet.specs.Laws.Epochs.{one-epoch, start-after-lt}
 use Rattle.packet.specs.Theorems.Tags.{frames-some}
-use Rattle.step.specs.Laws.Run.{startFrom}
+use Rattle.step.specs.SentRuns.{startFrom}
 use Rattle.link.specs.Demand3.{FullyArrived, Reported, Time, ToldApart, noReport, reportAt, standing}
 use Rattle.link.specs.Proofs.Judged.Apart.{apart}
 use Rattle.link.specs.Proofs.Laws.Lists.{append-apart, not-apart}

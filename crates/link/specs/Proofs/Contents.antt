@@ -8,9 +8,8 @@ use Rattle.counting.specs.Each.{each}
 use Rattle.judge.specs.declared.seen.Seen.{Seen}
 use Rattle.judge.specs.Order.{activeIn, portOf}
 use Rattle.judge.specs.Verdict.{HELD, judgeOf}
-use Rattle.packet.specs.Kinds.{epochOf}
+use Rattle.packet.specs.Kinds.{epochOf, tagOf}
 use Rattle.packet.specs.Symbols.{rowFrom}
-use Rattle.packet.specs.Theorems.Tags.{tagOf}
 use Rattle.payload.specs.Order.{groupFrame}
 use Rattle.step.specs.OwnCount.{ownRuling}
 use Rattle.receiver.specs.Report.{noSeen}

@@ -7,8 +7,8 @@ use lib.ListN.{length}
 use Rattle.packet.specs.Kinds.{startsEpoch}
 use Rattle.phases.specs.Sizes.{startSized}
 use Rattle.receiver.specs.Laws.Sizes.{Sizes, start-sizes-of}
-use Rattle.step.specs.Laws.Sent.{KeptAs, SentWith}
 use Rattle.step.specs.OwnCount.{oddPacket}
+use Rattle.step.specs.Sent.{KeptAs, SentWith}
 use Rattle.link.specs.Moments.{Unready}
 use Rattle.link.specs.Proofs.Contents.{numberOf, packetOf}
 use Rattle.link.specs.Road.{Below, L, Road, times}

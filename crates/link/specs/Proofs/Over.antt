@@ -8,9 +8,9 @@ use native.Mathlib.Omega.{arith}
 use Rattle.packet.specs.Kinds.{firstTag}
 use Rattle.packet.specs.Laws.Epochs.{one-epoch, start-after-lt}
 use Rattle.packet.specs.Theorems.Tags.{frames-some}
-use Rattle.step.specs.Laws.Run.{start-from}
 use Rattle.ground.specs.Table.{tabulate, tabulate-ext}
 use Rattle.judge.specs.Verdict.{SURE}
+use Rattle.step.specs.Theorems.Run.{start-from}
 use Rattle.link.specs.Proofs.Alike.{never, ready-by}
 use Rattle.link.specs.Proofs.Contents.{reportAfter}
 use Rattle.link.specs.Demand3.{Demand3, NeverAlike, NoneDue, Reported, Stands, Started, Time, ToldApart, UntilBegun, ownRun, reportAt, standing}
@@ -65,6 +65,7 @@ module _ (k : Link) (a : AssumedOver k) where
         ∙ tabulate-ext (i - suc (F / epochFrames k)) (λ j. reportAfter (roadOf k) (suc (F / epochFrames k) + j) (k .output j)) (λ j. expected k (suc (F / epochFrames k) + j) (k .output j))
         (λ j l. judged k a (suc (F / epochFrames k) + j) (from-then F b j) (k .output j))
 
+    -- At every moment the run is in one of three phases (`phase`): before the beginning, in the first epoch, which is gathered and not reported, or later, when all epochs before the i-th have been reported and a port owes the i-th.
     stands : (at : Time k) → Stands k (ownRun k m₀) at
     unfolding roadOf
     stands at = go (phase (roadOf k) m₀ (fair k a) s fresh-start (at .t) (at .done) (at .rest) (at .is-order))

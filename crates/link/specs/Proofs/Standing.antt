@@ -6,9 +6,8 @@ use Prim.Native.Nat.{ℕ, suc, _+_, _-_, _*_, _%_, _≤_, _<_}
 use lib.Dec.{leb, ltb}
 use lib.ListN.{getD, length}
 use Rattle.ground.specs.Table.{tabulate}
-use Rattle.packet.specs.Kinds.{epochs, firstTag}
+use Rattle.packet.specs.Kinds.{epochs, firstTag, tagOf}
 use Rattle.packet.specs.Symbols.{symbolAt, symbolOf}
-use Rattle.packet.specs.Theorems.Tags.{tagOf}
 use Rattle.phases.specs.Beginning.{begins}
 use Rattle.rows.specs.declared.step.Step.{Step}
 use Rattle.rows.specs.Group.{groupAt}
@@ -17,13 +16,11 @@ use Rattle.rows.specs.Port.{portAt}
 use Rattle.rows.specs.Rows.{rowsFor}
 use Rattle.rows.specs.Step.{stepAt}
 use Rattle.step.specs.Arrival.{runOf}
+use Rattle.step.specs.SentRuns.{Stays, runAt, startFrom}
 use Rattle.step.specs.declared.run.Run.{Run}
-use Rattle.step.specs.Laws.Kept.{Stays}
-use Rattle.step.specs.Laws.Run.{runAt, startFrom}
 use Rattle.step.specs.Run.{noRun}
-use Rattle.store.specs.Laws.Marks.{Sixteen}
-use Rattle.store.specs.Laws.Stands.{Stands}
-use Rattle.store.specs.Marks.{markIn}
+use Rattle.store.specs.Frames.{Stands}
+use Rattle.store.specs.Marks.{Sixteen, markIn}
 use Rattle.link.specs.Proofs.Contents.{packetOf, reportAfter}
 use Rattle.link.specs.Road.{L, Road}
 use Rattle.link.specs.Running.{Moment}

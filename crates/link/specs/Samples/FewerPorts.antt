@@ -15,12 +15,11 @@ use Rattle.packet.specs.Kinds.{epochs, frames, payloadRight, tags}
 use Rattle.packet.specs.Words.{IDLE}
 use Rattle.phases.specs.Sizes.{knownKind, sized, startSized}
 use Rattle.sender.specs.Board.{boardOf}
+use Rattle.sender.specs.Epochs.{onTable, packetFields, senderRun, startEpochOf, startedSender}
 use Rattle.sender.specs.declared.epochs.Sender.{Sender}
 use Rattle.sender.specs.Calls.{Call}
 use Rattle.sender.specs.Calls.Call.{AddSlot, Lapse, RemoveSlot, Report}
-use Rattle.sender.specs.Epochs.{packetFields, senderRun, startEpochOf, startedSender}
 use Rattle.sender.specs.Ranks.{rowAt}
-use Rattle.sender.specs.Theorems.Epochs.{onTable}
 use Rattle.link.specs.Demand3.{Demand3}
 use Rattle.link.specs.History.{Allowed, Handed, History, packetSent, senderAt, sendingOf, wordSent, xAt}
 use Rattle.link.specs.Link.{AssumedOver, Link}

@@ -17,8 +17,8 @@ use Rattle.packet.specs.Changes.{changed, keptPart, mostChanges}
 use Rattle.packet.specs.Kinds.{firstTag, frames, lead, payloadRight, tags}
 use Rattle.packet.specs.Symbols.{packetRow, symbolOf}
 use Rattle.phases.specs.Sizes.{knownKind, sized, startSized}
-use Rattle.step.specs.Laws.Positions.{startFrom}
 use Rattle.step.specs.OwnCount.{ownNumber}
+use Rattle.step.specs.SentRuns.{startFrom}
 use Rattle.link.specs.Assumed.{Assumed}
 use Rattle.link.specs.Demand3.{Demand3}
 use Rattle.link.specs.History.{Allowed, History, sendingOf, xAt}

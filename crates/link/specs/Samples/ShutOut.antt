@@ -9,7 +9,7 @@ use lib.ListN.{getD, length, replicate}
 use Rattle.ground.specs.Truth.{eq-or-ne, le-or-lt}
 use Rattle.judge.specs.Verdict.{HELD, SURE}
 use Rattle.packet.specs.Kinds.{firstTag, frames, lead, tags}
-use Rattle.step.specs.Laws.Positions.{startFrom}
+use Rattle.step.specs.SentRuns.{startFrom}
 use Rattle.link.specs.Demand3.{FullyArrived, Promised, Reported, Stands, Started, Time, ownRun}
 use Rattle.link.specs.Demand3.Stands.{none-yet, reporting}
 use Rattle.link.specs.Moments.{Beginning, NotAfter, Ready, Run, Unready, nextAt, coming, reached, says, saysThrough}

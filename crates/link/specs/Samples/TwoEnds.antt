@@ -8,18 +8,15 @@ use Rattle.ground.specs.Flags.{oneIf}
 use Rattle.ground.specs.Plain.{_==_, _≤?_}
 use Rattle.receiver.specs.Fetch.{fetchRecord, fetchRows}
 use Rattle.receiver.specs.Frame.{frameRows, frameStore}
-use Rattle.receiver.specs.Heard.{heardOf, heardOut, heardFit, saidAt}
-use Rattle.receiver.specs.Seen.{carriedAt}
+use Rattle.receiver.specs.Heard.{heardOut}
 use Rattle.receiver.specs.Shown.{replyOf}
 use Rattle.receiver.specs.Starting.{startAsRows}
-use Rattle.reply.specs.Telling.{mstFrom, mstOf, okHolds}
 use Rattle.sender.specs.Calls.Call.{AddSlot, Report}
 use Rattle.sender.specs.declared.epochs.Sender.{Sender}
 use Rattle.sender.specs.Epochs.{beginOf, packetBytes, senderOutcomeOf}
 use Rattle.sender.specs.Epochs.SenderCall.{OnTable, StartEpoch}
 use Rattle.sender.specs.Numbering.{stateIn}
 use Rattle.sender.specs.Table.{isActive}
-use Rattle.step.specs.Carried.{readingIn}
 use Rattle.link.specs.Samples.Computing.{outcome}
 
 -- one end: its sender, the packets that it has sent, the last one first, its receiver's rows and store; and after each report what was heard, whether its slot is active then and whether a wait is open, the last one first
@@ -95,5 +92,5 @@ closed :
     ∷ (1 ∷ 255 ∷ 255 ∷ 0 ∷ 0 ∷ 0 ∷ [])
     ∷ (1 ∷ 254 ∷ 255 ∷ 0 ∷ 0 ∷ 0 ∷ [])
     ∷ []
-unfolding outcome replyOf mstOf mstFrom okHolds heardOut heardFit heardOf saidAt carriedAt readingIn started told framed comes ends
+unfolding outcome started told framed comes ends
 closed = refl

@@ -21,8 +21,8 @@ use Rattle.packet.specs.Vc12.{lowestOf}
 use Rattle.phases.specs.Sizes.{sized, startSized}
 use Rattle.sender.specs.Calls.{Call}
 use Rattle.sender.specs.Calls.Call.{AddSlot, Report}
-use Rattle.step.specs.Laws.Positions.{startFrom}
 use Rattle.step.specs.OwnCount.{ownRuling}
+use Rattle.step.specs.SentRuns.{startFrom}
 use Rattle.link.specs.Assumed.{Assumed}
 use Rattle.link.specs.Demand3.{Demand3, Stands, Started, Time, ownRun, standing}
 use Rattle.link.specs.Demand3.Stands.{none-yet, reporting}

@@ -11,7 +11,6 @@ use Rattle.rows.specs.Packets.{putMarks}
 use Rattle.rows.specs.Step.{putStep}
 use Rattle.rows.specs.declared.step.Step.{Step}
 use Rattle.sender.specs.Calls.Call.{AddSlot, Lapse, RemoveSlot, Report}
-use Rattle.step.specs.Laws.Positions.{startFrom}
 use Rattle.link.specs.FixedGroup.{sendingFixed}
 use Rattle.link.specs.History.{History, fieldsSent, hasRank, numberSent, payloadSent, sendingOf, wordSent, xAt}
 use Rattle.link.specs.Link.{Link, allAsSent, clientBytes, expected, roadOf, sentTo}
@@ -128,7 +127,7 @@ road-words :
     × (saysOne road 10 1 ≡ [])
     × (saysOne road 11 1 ≡ 12 ∷ [])
     × (says road 8 (1 ∷ 0 ∷ []) ≡ 12 ∷ [])
-unfolding linkOpen startFrom
+unfolding linkOpen
 road-words = (refl, refl, refl, refl, refl, refl, refl, refl, refl, refl, refl, refl, refl, refl, refl, refl, refl, refl, refl, refl, refl)
 
 abbrev zeros : ℕ → List ℕ

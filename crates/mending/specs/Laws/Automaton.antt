@@ -364,6 +364,7 @@ module _ (x : ℕ) (cs : List ℕ) (h : x < 16) (r : Runs cs) where
           (r 3 v b c (lessPlace x (suc (suc q))) q (s ++ []) (omega arith) (br .0, (br .1 .0, (e, tt))))
           refl
 
+  -- Three broken lines wait. A good one restores all three; a fourth broken one starts afresh at the first, a, and then so many of the four are good by a as lie before the next good one: none waits, or one, two or three do.
   from-three : (v a b c q : ℕ) (s : List ℕ) → Broken v (pend (suc (suc (suc zero))) a b c)
       → following (at v (up (suc (suc (suc zero))) q) (suc (suc (suc zero))) a b c) (s ++ placed q (pend (suc (suc (suc zero))) a b c)) (x ∷ cs) ≡ s ++ placed q (settle v (pend (suc (suc (suc zero))) a b c ++ offsets (up (suc (suc (suc zero))) q) (x ∷ cs)))
   from-three v a b c q s br = go (eqb (lessPlace x (suc (suc (suc q)))) v) refl

@@ -158,6 +158,7 @@ pub record Framed (ports size end next port h4 flag place n : ℕ) (line : List 
   pub place-is : place + (size + size) ≡ end
   pub next-is : n ≡ next
 
+-- A line of four fields that reads as a frame: the second is two hexadecimal digits and the third one, so that the line is known byte by byte but for the port's field and the payload, and the payload's place follows from the lengths.
 four-fields : (ports size end next port h4 flag place n : ℕ) (line a b c d : List ℕ) → joined (a ∷ b ∷ c ∷ d ∷ []) ≡ line → length line ≤ end → length line ≤ MOST
     → frameBy ports (numberOf 9 a) (hexOf 2 b) (flagIn c) (isHex (size + size) d) (end - length d) next ≡ Frame port h4 flag place n
     → Framed ports size end next port h4 flag place n line

@@ -19,9 +19,9 @@ use Rattle.mending.specs.Laws.Texts.{Ended, free-set}
 use Rattle.mending.specs.Lines.{Fate, Line, capital, countBy, countsOf, digitIn, digitPlace, fateBy, fateTo, judgedBy, leftBy, mendedLines, outBy, recordOf, withDigit}
 use Rattle.mending.specs.Lines.{Fate as F}
 use Rattle.mending.specs.Mending.{noteBy, noteText, notesFrom}
+use Rattle.recording.specs.Record.{isFrame}
 use Rattle.recording.specs.declared.record.Record.{Record}
 use Rattle.recording.specs.declared.record.Record.the-variants.{Frame, Malformed, Long, Unfinished, End}
-use Rattle.recording.specs.Laws.Here.{isFrame}
 use Rattle.text.specs.Ascii.{ascii}
 use Rattle.text.specs.Fields.{digitOf}
 use Rattle.text.specs.Laws.Lines.{Free}
@@ -138,6 +138,7 @@ module _ (ports size : ℕ) where
     pub bytes : (i : ℕ) → i ≢ digitPlace size l → getD (line .bytes) i 0 ≡ getD (l .bytes) i 0
     pub note : (n : ℕ) → noteBy size n l (fateBy size left l (recordOf ports size l)) ≡ alteredNote size n l line
 
+  -- A line of a port with its next count due: it comes out as it is where it has that count, else with that one digit put, and then its note is the one of what was altered.
   pub came : (left : ℕ → List ℕ) (l : Line) (port h4 flag place next : ℕ) → recordOf ports size l ≡ Frame port h4 flag place next → getD (left port) 0 0 < 16 → Came left l port
   came left l port h4 flag place next e b = go (eqb (h4 % 16) (getD (left port) 0 0)) refl
     where

@@ -13,9 +13,9 @@ use Rattle.bytes.specs.Bytes.{indexOf}
 use Rattle.mending.specs.declared.line.Read.{Read}
 use Rattle.mending.specs.Laws.Layout.{frame-layout, line-placed, placedAt}
 use Rattle.mending.specs.Lines.{Line, digitPlace, lineText, linesWith, recordOf}
+use Rattle.recording.specs.Theorems.Lines.{IsLine, is-line}
 use Rattle.recording.specs.declared.record.Record.{Record}
 use Rattle.recording.specs.declared.record.Record.the-variants.{Frame, Malformed, Long, Unfinished, End}
-use Rattle.recording.specs.Laws.Lines.{IsLine, is-line}
 use Rattle.recording.specs.Line.{MOST, firstLine, foundOf, hasEnd}
 use Rattle.recording.specs.Record.{lastRecord, lineRecord, recordIn}
 use Rattle.text.specs.Laws.Lines.{Free, free-line, free-take, last-line, with-end}

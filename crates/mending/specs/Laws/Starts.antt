@@ -18,8 +18,8 @@ use Rattle.mending.specs.Mending.{answerBy, fitting, mendedIn, mendedOf,
 use Rattle.phases.specs.Sizes.{startSized}
 use Rattle.receiver.specs.Laws.Sizes.{start-sizes-of}
 use Rattle.receiver.specs.Starting.{timesWithin}
+use Rattle.recording.specs.Theorems.Lines.{line-opens, opensTo}
 use Rattle.recording.specs.declared.pairs.Settings.{Settings}
-use Rattle.recording.specs.Laws.Lines.{line-opens, opensTo}
 use Rattle.recording.specs.Line.{MOST, firstLine, foundOf, hasEnd}
 use Rattle.recording.specs.Opening.{Opening, lineOpening, openingIn}
 use Rattle.recording.specs.Opening.{Opening as O}

@@ -13,9 +13,9 @@ use Rattle.mending.specs.Laws.Lines.{Read as R}
 use Rattle.mending.specs.Laws.Opened.{mended-lines}
 use Rattle.mending.specs.Lines.{Line, countBy, countsOf, fateBy, fateTo, judged, leftBy, linesWith, mendedLines, outBy, recordOf}
 use Rattle.mending.specs.Mending.{Opened, mendedOf}
+use Rattle.recording.specs.Record.{isFrame}
 use Rattle.recording.specs.declared.record.Record.{Record}
 use Rattle.recording.specs.declared.record.Record.the-variants.{Frame, Malformed, Long, Unfinished, End}
-use Rattle.recording.specs.Laws.Here.{isFrame}
 
 port-other : (port : ℕ) (r : Record) → isFrame r ≡ false → isPort port r ≡ false
 port-other port (Frame p h4 flag place next) e = absurd (true≢false e)

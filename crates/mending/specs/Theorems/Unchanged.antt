@@ -4,13 +4,13 @@ use mathlib.Core.Bool.{Bool, true, false, cond}
 use mathlib.Core.List.{List, [], _∷_, _++_}
 use Prim.Native.Nat.{ℕ, suc}
 use lib.ListN.{drop}
+use Rattle.recording.specs.Record.{isFrame}
 use Rattle.mending.specs.Beside.{AllAlike, alteredNote, notesBeside, wellFormed}
 use Rattle.mending.specs.Laws.Lines.{Fits, Read, came, fate-other, fits-followed, fits-next, followedLeft, next-count, out-frame, out-other, outOf, readOf}
 use Rattle.mending.specs.Laws.Lines.{Read as R}
 use Rattle.mending.specs.Laws.Opened.{mended-lines, notes-are, countedIn, portsIn, sizeIn}
 use Rattle.mending.specs.Lines.{Fate, Line, judgedBy, leftBy, linesWith, recordOf}
 use Rattle.mending.specs.Mending.{Opened, mendedOf, noteBy, noteText, notesFrom, notesOf}
-use Rattle.recording.specs.Laws.Here.{isFrame}
 use Rattle.text.specs.Ascii.{ascii}
 
 module _ (ports size : ℕ) where

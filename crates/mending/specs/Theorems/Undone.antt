@@ -23,10 +23,10 @@ use Rattle.mending.specs.Told.{LARGEST}
 use Rattle.mending.specs.Undone.{Note, before, beforeLast, behind, hasTab, noteOf, notesRead, owed, owedBy, sizeBy, toldAgain, againFrom, withOld}
 use Rattle.text.specs.Ascii.{ascii}
 use Rattle.text.specs.Fields.{areDigits, digitOf}
-use Rattle.text.specs.Laws.Decimal.{number-value}
 use Rattle.text.specs.Laws.Lines.{Free, free-append, free-line}
 use Rattle.text.specs.Output.{digitsBefore, numberText}
 use Rattle.text.specs.Text.{LINE-END, TAB, linesOf}
+use Rattle.text.specs.Theorems.Decimal.{number-value}
 
 -- A note's line read
 

@@ -7,7 +7,6 @@ use Prim.Native.Nat.{ℕ, suc, _+_, _-_, _*_, _≤_, _<_}
 use native.Mathlib.Nat.{suc-mul, zero-mul}
 use native.Mathlib.Omega.{arith}
 use lib.ListN.{length}
-use Rattle.counting.specs.Laws.Tests.{One, some-not-none, some-one}
 use Rattle.ground.specs.Truth.{and-right, or-cases}
 use Rattle.invariant.specs.Calls.{Fetch, Frame, Receiver, ReceiverCall, receiverAfter}
 use Rattle.invariant.specs.Kept.Group.{Kept}
@@ -21,6 +20,8 @@ use Rattle.invariant.specs.Proofs.Laws.Window.{distance-passed}
 use Rattle.invariant.specs.Proofs.Sizes.{fetch-sizes}
 use Rattle.invariant.specs.Reports.{Given}
 use Rattle.judge.specs.Seen.{sizeOf}
+use Rattle.counting.specs.Laws.Tests.{some-not-none, some-one}
+use Rattle.counting.specs.Words.{One}
 use Rattle.none_due.specs.Fetches.{AllGive}
 use Rattle.packet.specs.Kinds.{frames}
 use Rattle.phases.specs.Due.{silent}

@@ -17,8 +17,8 @@ use Rattle.phases.specs.Due.{brought}
 use Rattle.phases.specs.Sizes.{portsIn}
 use Rattle.receiver.specs.Fetch.{dueIn}
 use Rattle.receiver.specs.Starting.{groupWith, sizedAnswer, sizedFits, startAsAnswer, startFits, startRight, timesWithin}
+use Rattle.recording.specs.Theorems.Lines.{isSettled, opening-settled}
 use Rattle.recording.specs.declared.pairs.Settings.{Settings}
-use Rattle.recording.specs.Laws.Lines.{isSettled, opening-settled}
 use Rattle.recording.specs.Laws.Times.{Timed, TimedIn, opening-timed}
 use Rattle.recording.specs.Opening.{Opening, lineOpening}
 use Rattle.recording.specs.Opening.{Opening as O}

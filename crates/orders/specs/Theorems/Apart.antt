@@ -12,9 +12,9 @@ use Rattle.circuits.specs.Theorems.Apart as single
 use Rattle.circuits.specs.Views.{Asked, Reply, askedBy, bitsOf, repliesTo, viewOf}
 use Rattle.circuits.specs.Views.Asked.{Do}
 use Rattle.circuits.specs.Views.Reply.{Answered, Wrote, Showed, Ranked, Owns}
+use Rattle.orders.specs.Singles.{Same, answersTo, commandsOf, singlesOf}
 use Rattle.orders.specs.declared.commands.Command.{Command}
 use Rattle.orders.specs.Orders.{callBy, ordersOf, outcomeBy}
-use Rattle.orders.specs.Singles.{answersTo, commandsOf, singlesOf}
 use Rattle.orders.specs.Theorems.OneByOne.{card-single}
 
 -- the calls of g's commands, and the numbers of its replies
@@ -54,11 +54,6 @@ numbers-are g card (c ∷ cs) = go (eqb (c .group) g) refl (numbers-are g (outco
         ap (λ (h : ℕ). answerNumber (outcomeOf card h (callBy (c .kind) (c .slot)) .answer)) (eqb-true (c .group) g e) in
         rw (e, rest, same) refl
     go false e rest = rw (e, rest) refl
-
--- Two orders, from any two cards with the same view of g: where its commands are the same and its bits at its claims agree, the answers to them are the same, and so is the view left.
-pub record Same (g : ℕ) (card other : Card) (cs ds : List Command) : Type 0 where
-  pub answers : answersTo g cs (ordersOf card cs .numbers) ≡ answersTo g ds (ordersOf other ds .numbers)
-  pub view : viewOf g (ordersOf card cs .state) ≡ viewOf g (ordersOf other ds .state)
 
 pub apart : (g : ℕ) → g < 2 → (card other : Card) (cs ds : List Command) → viewOf g card ≡ viewOf g other → commandsOf g cs ≡ commandsOf g ds
     → bitsOf g card (singlesOf cs) ≡ bitsOf g other (singlesOf ds) → Same g card other cs ds

@@ -5,10 +5,9 @@ use mathlib.Core.Bool.{true, false}
 use Prim.Native.Nat.{ℕ, zero, suc, _+_, _-_, _*_, _/_, _%_, _<_}
 use native.Mathlib.Omega.{arith}
 use borrow.Author.Tests.{eq-eqb, eqb-false, eqb-true}
-use Rattle.packet.specs.Clock.{by}
-use Rattle.packet.specs.Kinds.{endsEpoch, epochOf, firstTag, frames, lead, placeOf, startsEpoch, tagAfter, tagBack, tagBefore, tags}
+use Rattle.packet.specs.Kinds.{endsEpoch, epochOf, firstTag, frames, lead, placeOf, startsEpoch, tagAfter, tagBack, tagBefore, tagOf, tags}
+use Rattle.packet.specs.Laws.Clock.{by}
 use Rattle.packet.specs.Laws.Distances.{tag-before-lt}
-use Rattle.packet.specs.Theorems.Tags.{tagOf}
 
 -- The tag after one.
 

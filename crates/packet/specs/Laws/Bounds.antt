@@ -7,6 +7,7 @@ use native.Mathlib.Omega.{arith}
 use borrow.Author.Tests.{ltb-true, ne-eqb, not-true}
 use lib.Dec.{eqb, ltb}
 use Rattle.ground.specs.Truth.{and-left, and-right, le-or-lt}
+use Rattle.packet.specs.Bounds.{Bounds, Vc12Bounds, Within}
 use Rattle.packet.specs.declared.layout.Fields.{Fields}
 use Rattle.packet.specs.declared.words.Word.{Word}
 use Rattle.packet.specs.Kinds.{vc12Kind}
@@ -14,23 +15,6 @@ use Rattle.packet.specs.Sent.{sentFits}
 use Rattle.packet.specs.Vc12.{vc12Fits}
 use Rattle.packet.specs.Words.{FIXED, assigned}
 use Rattle.packet.specs.Writing.{fitsWithin, fitting}
-
-pub record Within (epochs numbers values : ℕ) (f : Fields) : Type 0 where
-  pub epoch : f .epoch < epochs
-  pub mst : f .mst < 256
-  pub sq : f .sq < numbers
-  pub gid : f .gid < 2
-  pub ack : f .«rs_ack» < 2
-  pub reserved : f .reserved < values
-  pub nibble : f .word .0 < 16
-  pub word : assigned (f .word) ≡ true
-  pub not-fixed : eqb (f .word .0) FIXED ≡ false
-
-abbrev pub Bounds : Fields → Type 0
-Bounds f = Within 256 256 (2 ^ 26) f
-
-abbrev pub Vc12Bounds : Fields → Type 0
-Vc12Bounds f = Within 32 64 16 f
 
 large-unassigned : (w : Word) → 16 ≤ w .0 → assigned w ≡ false
 unfolding assigned

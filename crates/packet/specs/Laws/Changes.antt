@@ -8,9 +8,9 @@ use lib.Dec.{eqb, ltb}
 use borrow.Author.Tests.{eq-eqb, lt-ltb, ne-eqb}
 use Rattle.ground.specs.Truth.{or-left, or-right}
 use Rattle.packet.specs.Changes.{bringsMfi2, keptPart, mostChanges}
-use Rattle.packet.specs.Clock.{by-kind}
 use Rattle.packet.specs.Counts.{counts, saysStart, vc12Counts}
 use Rattle.packet.specs.Kinds.{fixedKind, frames, lead, placeOf, vc12Kind}
+use Rattle.packet.specs.Laws.Clock.{by-kind}
 use Rattle.packet.specs.Laws.Counting.{counts-as, counts-as-vc12, counts-bit, counts-h4, counts-start, counts-vc12}
 use Rattle.packet.specs.Symbols.{symbolOf}
 

@@ -9,12 +9,12 @@ use lib.Dec.{eqb, ltb}
 use lib.ListN.{getD}
 use borrow.Author.Tests.{eq-eqb, ne-eqb, eqb-true, lt-ltb, ltb-true, not-true}
 use Rattle.ground.specs.Truth.{and-left, and-right, and-true, eq-or-ne, or-left, or-right}
-use Rattle.packet.specs.Clock.{h4-clock}
-use Rattle.packet.specs.Counts.{carriesLow, counts, h4Counts, saysStart, startsCount, tagByHigh, tagByLow, toldBits, vc12Counts}
+use Rattle.packet.specs.Counts.{carriesLow, counts, h4Counts, saysStart, startsCount, tagByHigh, tagByLow, toldBits, toldFirst, vc12Counts}
+use Rattle.packet.specs.Kinds.{epochOf, frames, lead, placeOf, tagBefore, tagOf, tags, vc12Kind}
+use Rattle.packet.specs.Laws.Clock.{h4-clock}
+use Rattle.packet.specs.Theorems.Tags.{place-sent}
 use Rattle.packet.specs.declared.layout.Fields.{Fields}
-use Rattle.packet.specs.Kinds.{epochOf, frames, lead, placeOf, tagBefore, tags, vc12Kind}
 use Rattle.packet.specs.Layout.{dataOf, h4Of, nibblesOf, sealedOf}
-use Rattle.packet.specs.Theorems.Tags.{place-sent, tagOf}
 
 pub counts-h4 : (kind t h : ℕ) → eqb kind vc12Kind ≡ false → counts kind t h ≡ h4Counts t h
 unfolding counts
@@ -81,10 +81,6 @@ counts-later t h b =
     kept false = refl
 
 -- A frame of a run of the step rule.
-
--- what the first frame of a run tells of the tag to come
-unfoldable pub toldFirst : ℕ → ℕ → ℕ
-toldFirst kind x = tagOf kind x / 256 * 256 + 1
 
 module _ (kind x h : ℕ) (clock : eqb kind vc12Kind ≡ false) (sent : h4Counts (tagOf kind x) h ≡ true) where
   -- a frame with MFI1 0 can be the first of a run

@@ -7,8 +7,8 @@ use native.Mathlib.Omega.{arith}
 use borrow.Author.Tests.{eq-eqb, eqb-true}
 use Rattle.ground.specs.Arcs.{after-none, after-nearer, after-on, arc-on, farther-behind, forth-and-back, nearer-behind, none-after}
 use Rattle.ground.specs.Circle.{after, after-leads}
-use Rattle.packet.specs.Clock.{by}
 use Rattle.packet.specs.Kinds.{distanceOf, epochAfter, epochOf, firstTag, frames, lead, placeOf, startsEpoch, tagAfter, tagBefore, tags}
+use Rattle.packet.specs.Laws.Clock.{by}
 use Rattle.packet.specs.Theorems.Tags.{frames-some, tags-some}
 
 pub tag-before-lt : (kind t : ℕ) → tagBefore kind t < tags kind

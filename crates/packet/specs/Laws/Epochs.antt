@@ -8,8 +8,8 @@ use native.Mathlib.Omega.{arith}
 use lib.Dec.{eqb, leb}
 use borrow.Author.Tests.{eq-eqb, eqb-false, eqb-true, le-leb, leb-true, lt-leb, ne-eqb}
 use Rattle.ground.specs.Truth.{eq-or-ne, le-or-lt}
-use Rattle.packet.specs.Clock.{by}
 use Rattle.packet.specs.Kinds.{endsEpoch, epochsIn, frames, tags}
+use Rattle.packet.specs.Laws.Clock.{by}
 use Rattle.packet.specs.Theorems.Tags.{frames-some}
 
 -- How many there are.

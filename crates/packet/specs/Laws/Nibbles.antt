@@ -8,9 +8,9 @@ use native.Mathlib.Omega.{arith}
 use lib.ListN.{length, getD, take, drop}
 use Rattle.ground.specs.Bits.{number, number-bits}
 use Rattle.ground.specs.Table.{tabulate, tabulate-ext, tabulate-self, getD-tabulate}
+use Rattle.packet.specs.Bounds.{Bounds}
 use Rattle.packet.specs.declared.layout.Fields.{Fields}
 use Rattle.packet.specs.Crc.{crcOf, nibbleBits, bitsOf}
-use Rattle.packet.specs.Laws.Bounds.{Bounds}
 use Rattle.packet.specs.Laws.Bytes.{crc-lt}
 use Rattle.packet.specs.Layout.{dataOf, h4Of, highsOf, nibblesOf, sealedOf}
 

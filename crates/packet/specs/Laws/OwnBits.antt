@@ -7,14 +7,13 @@ use native.Mathlib.Nat.{mod-eq-of-lt}
 use native.Mathlib.Omega.{arith}
 use lib.Dec.{eqb}
 use Rattle.ground.specs.Bits.{number-bits, odd}
-use Rattle.packet.specs.Clock.{by-kind, h4-clock}
 use Rattle.packet.specs.Counts.{counts, h4Counts, toldBits}
-use Rattle.packet.specs.Kinds.{epochs, firstTag, frames, lead, tags, vc12Kind}
+use Rattle.packet.specs.Kinds.{epochs, firstTag, frames, lead, tagOf, tags, vc12Kind}
+use Rattle.packet.specs.Laws.Clock.{by-kind, h4-clock}
 use Rattle.packet.specs.Laws.Counting.{counts-bit, counts-h4, counts-high, counts-low, counts-vc12}
 use Rattle.packet.specs.Layout.{fieldsOf}
 use Rattle.packet.specs.Ruling.{fieldsIn}
 use Rattle.packet.specs.Symbols.{entryFrom, rowFrom}
-use Rattle.packet.specs.Theorems.Tags.{tagOf}
 use Rattle.packet.specs.Vc12.{rowBits, vc12Fields}
 
 -- the fields of H4's packets

@@ -17,9 +17,9 @@ use Rattle.ground.specs.Polynomial.{apart, check, remainder, sealed, sum, zeros
 use Rattle.ground.specs.Sums.{sum-apart, sum-self}
 use Rattle.ground.specs.Table.{getD-tabulate, tabulate, tabulate-ext, tabulate-self}
 use Rattle.ground.specs.Truth.{fails}
+use Rattle.packet.specs.Bounds.{Vc12Bounds}
 use Rattle.packet.specs.declared.layout.Fields.{Fields}
 use Rattle.packet.specs.declared.reader.Reading.the-variants.{Crc}
-use Rattle.packet.specs.Laws.Bounds.{Vc12Bounds}
 use Rattle.packet.specs.Reading.{readFields}
 use Rattle.packet.specs.Vc12.{frameByte, lowestOf, readVc12Bits, rowBits, vc12Bits, vc12Bytes, vc12Data, vc12Divisor, vc12Fields}
 

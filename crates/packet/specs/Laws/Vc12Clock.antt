@@ -2,8 +2,7 @@
 use mathlib.Core.Path.{_≡_, refl}
 use Prim.Native.Nat.{ℕ, _+_, _/_, _%_}
 use native.Mathlib.Omega.{arith}
-use Rattle.packet.specs.Kinds.{epochOf, epochs, frames, lead, placeOf, tagAfter, tagBefore, tags, vc12Kind}
-use Rattle.packet.specs.Theorems.Tags.{tagOf}
+use Rattle.packet.specs.Kinds.{epochOf, epochs, frames, lead, placeOf, tagAfter, tagBefore, tagOf, tags, vc12Kind}
 
 pub vc12-frames : frames vc12Kind ≡ 32
 unfolding frames

@@ -9,9 +9,9 @@ use Rattle.ground.specs.Bits.{bits}
 use Rattle.ground.specs.Catching.{Catches, Strong, strong-catches}
 use Rattle.ground.specs.Distance.{sealed-apart}
 use Rattle.ground.specs.Polynomial.{apart, sealed}
+use Rattle.packet.specs.Bounds.{Bounds}
 use Rattle.packet.specs.declared.layout.Fields.{Fields}
 use Rattle.packet.specs.Crc.{bitsOf, crcOf, divisor, nibbleBits}
-use Rattle.packet.specs.Laws.Bounds.{Bounds}
 use Rattle.packet.specs.Laws.Bytes.{bits-append, byte-back, byte-bits, crc-bits, crc-lt, length-bits-of}
 use Rattle.packet.specs.Laws.Nibbles.{Nibbles, bits-tell, data-nibbles}
 use Rattle.packet.specs.Layout.{dataOf, fieldsOf, nibblesOf, sealedOf}

@@ -7,16 +7,17 @@ use Prim.Native.Nat.{ℕ, _/_, _%_, _≤_, _<_}
 use native.Mathlib.Omega.{arith}
 use borrow.Author.Tests.{ltb-true, ne-eqb}
 use lib.Dec.{eqb, ltb}
-use lib.ListN.{getD, length, replicate}
+use lib.ListN.{getD, length}
 use Rattle.ground.specs.Polynomial.{apart}
 use Rattle.ground.specs.Truth.{and-left, and-right, cond-by}
 use Rattle.packet.specs.Counts.{counts}
+use Rattle.packet.specs.Kinds.{epochOf, fixedKind, placeOf, tagOf}
+use Rattle.packet.specs.Samples.{fixedSent}
 use Rattle.packet.specs.declared.reader.Reading.{Reading}
 use Rattle.packet.specs.declared.reader.Reading.the-variants.{Packet, Unassigned}
 use Rattle.packet.specs.declared.writer.Writing.the-variants.{Done, Length, Field}
 use Rattle.packet.specs.Crc.{bitsOf, nibbleBits}
 use Rattle.packet.specs.Fixed.{fixedFields, fixedFits, fixedNibbles, fixedNibblesWith, fixedRulingOf, readFixedAnswer, readFixedNibbles, writeFixedAnswer, writeFixedBytes}
-use Rattle.packet.specs.Kinds.{epochOf, fixedKind, placeOf}
 use Rattle.packet.specs.Laws.Bytes.{byte-back}
 use Rattle.packet.specs.Laws.Counting.{counted-with, counts-h4}
 use Rattle.packet.specs.Laws.Nibbles.{Nibbles, highs-back}
@@ -24,7 +25,6 @@ use Rattle.packet.specs.Layout.{byteOf, fieldsOf, h4Of, highsOf}
 use Rattle.packet.specs.Reading.{readingNumber}
 use Rattle.packet.specs.Ruling.{refused, rulingBy}
 use Rattle.packet.specs.Symbols.{entryFrom, packetRow, rowFrom}
-use Rattle.packet.specs.Theorems.Tags.{tagOf}
 use Rattle.packet.specs.Words.{FIXED}
 use Rattle.packet.specs.Writing.{writingNumber}
 
@@ -117,10 +117,6 @@ fixed-answered s = go (eqb (length s) 16) (eqb (getD s 10 0 / 16 % 16) 0) refl r
     go true false hl ht = rw (hl, ht) refl
     go false t hl ht = rw hl refl
 
--- two good packets one bit apart
-abbrev sent : ℕ → List ℕ
-sent sq = writeFixedBytes 58 sq (replicate 16 0)
-
-pub one-bit : (readFixedAnswer (sent 5) ≡ Packet (fixedFields 58 5)) × (readFixedAnswer (sent 4) ≡ Packet (fixedFields 58 4)) × (apart (bitsOf (highsOf (sent 5))) (bitsOf (highsOf (sent 4))) ≡ 1)
+pub one-bit : (readFixedAnswer (fixedSent 5) ≡ Packet (fixedFields 58 5)) × (readFixedAnswer (fixedSent 4) ≡ Packet (fixedFields 58 4)) × (apart (bitsOf (highsOf (fixedSent 5))) (bitsOf (highsOf (fixedSent 4))) ≡ 1)
 unfolding writeFixedBytes fixedNibbles fixedNibblesWith h4Of highsOf readFixedAnswer readFixedNibbles nibbleBits
 one-bit = (refl, refl, refl)

@@ -7,11 +7,12 @@ use native.Mathlib.Omega.{arith}
 use borrow.Author.Tests.{eq-eqb}
 use lib.Dec.{eqb}
 use lib.ListN.{length, take}
+use Rattle.packet.specs.Bounds.{Bounds}
+use Rattle.packet.specs.Laws.Bounds.{bounds}
 use Rattle.packet.specs.declared.layout.Fields.{Fields}
 use Rattle.packet.specs.declared.reader.Reading.the-variants.{Packet}
 use Rattle.packet.specs.declared.writer.Writing.the-variants.{Done, Field, Length}
 use Rattle.packet.specs.Crc.{crcOf}
-use Rattle.packet.specs.Laws.Bounds.{Bounds, bounds}
 use Rattle.packet.specs.Laws.Bytes.{byte-back, crc-lt}
 use Rattle.packet.specs.Laws.Nibbles.{packet-nibbles, highs-back}
 use Rattle.packet.specs.Layout.{carriedIn, dataOf, fieldsOf, h4Of, nibblesOf, sealedOf, reservedOf}

@@ -3,7 +3,7 @@ use mathlib.Core.Path.{_≡_, refl, sym, ap, _∙_}
 use mathlib.Core.Logic.{_≢_}
 use mathlib.Core.Bool.{Bool, true, false}
 use mathlib.Core.List.{List, [], _∷_}
-use Prim.Native.Nat.{ℕ, zero, suc, _+_, _*_, _%_, _≤_, _<_}
+use Prim.Native.Nat.{ℕ, zero, suc, _+_, _*_, _≤_, _<_}
 use native.Mathlib.Nat.{suc-inj}
 use native.Mathlib.Omega.{arith}
 use lib.ListN.{drop, getD, length, take}
@@ -12,6 +12,8 @@ use Rattle.ground.specs.Finite.{sameBits}
 use Rattle.ground.specs.Plain.{if_then_else_, _==_}
 use Rattle.ground.specs.Polynomial.{check}
 use Rattle.ground.specs.Truth.{cond-by}
+use Rattle.packet.specs.Reserved.{SameBeside, SameBesideBy, SameBesideVc12, withReserved}
+use Rattle.packet.specs.Theorems.Sent.{sent-as}
 use Rattle.packet.specs.declared.layout.Fields.{Fields}
 use Rattle.packet.specs.declared.reader.Reading.{Reading}
 use Rattle.packet.specs.declared.reader.Reading.the-variants.{Packet, Crc, Fixed, Unassigned}
@@ -19,7 +21,6 @@ use Rattle.packet.specs.declared.writer.Writing.the-variants.{Done}
 use Rattle.packet.specs.Crc.{crcOf}
 use Rattle.packet.specs.Fixed.{fixedRulingOf, readFixedNibbles}
 use Rattle.packet.specs.Kinds.{vc12Kind}
-use Rattle.packet.specs.Laws.Sent.{sent-as}
 use Rattle.packet.specs.Laws.Vc12.{length-row}
 use Rattle.packet.specs.Layout.{carriedIn, fieldsOf}
 use Rattle.packet.specs.Reading.{readFields, readNibbles}
@@ -28,30 +29,6 @@ use Rattle.packet.specs.Sent.{sentAnswer, sentBytes}
 use Rattle.packet.specs.Symbols.{packetRow}
 use Rattle.packet.specs.Vc12.{numberAt, readVc12Bits, readVc12Row, rowBits, vc12Divisor, vc12Fields}
 use Rattle.packet.specs.Words.{FIXED, assigned}
-
--- H4, frame by frame: all bits of MST, SQ, MFI2 and the word, and the last one of the frames with RS-Ack and with GID
-pub record SameBeside (row other : List ℕ) : Type 0 where
-  pub mfi1-8 : getD row 0 0 % 16 ≡ getD other 0 0 % 16
-  pub mfi1-9 : getD row 1 0 % 16 ≡ getD other 1 0 % 16
-  pub mfi1-10 : getD row 2 0 % 2 ≡ getD other 2 0 % 2
-  pub mfi1-14 : getD row 6 0 % 16 ≡ getD other 6 0 % 16
-  pub mfi1-15 : getD row 7 0 % 16 ≡ getD other 7 0 % 16
-  pub mfi1-0 : getD row 8 0 % 16 ≡ getD other 8 0 % 16
-  pub mfi1-1 : getD row 9 0 % 16 ≡ getD other 9 0 % 16
-  pub mfi1-2 : getD row 10 0 % 16 ≡ getD other 10 0 % 16
-  pub mfi1-3 : getD row 11 0 % 2 ≡ getD other 11 0 % 2
-
--- VC-12: the bits before the four and those behind them, up to the CRC
-pub record SameBesideVc12 (row other : List ℕ) : Type 0 where
-  pub before : (k : ℕ) → k < 16 → getD (rowBits row) k false ≡ getD (rowBits other) k false
-  pub behind : (k : ℕ) → 20 ≤ k → k < 29 → getD (rowBits row) k false ≡ getD (rowBits other) k false
-
-abbrev pub SameBesideBy : ℕ → List ℕ → List ℕ → Type 0
-SameBesideBy kind row other = if kind == vc12Kind then SameBesideVc12 row other else SameBeside row other
-
--- the same fields with other reserved bits
-abbrev pub withReserved : ℕ → Fields → Fields
-withReserved r f = record { epoch = f .epoch; word = f .word; gid = f .gid; mst = f .mst; «rs_ack» = f .«rs_ack»; sq = f .sq; reserved = r }
 
 -- Such rows carry the same fields beside the reserved number.
 

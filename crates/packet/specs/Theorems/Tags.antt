@@ -11,13 +11,9 @@ use lib.ListN.{getD}
 use Rattle.ground.specs.Bits.{odd}
 use Rattle.ground.specs.Circle.{after-of, after-lt}
 use Rattle.ground.specs.Table.{getD-tabulate}
-use Rattle.packet.specs.Clock.{by, h4-clock}
+use Rattle.packet.specs.Kinds.{distanceOf, endsEpoch, epochAfter, epochOf, epochs, epochsIn, firstTag, frames, idleNumber, lead, mstEpochs, mstFails, mstFirst, mstNumbers, placeOf, startsEpoch, tagAfter, tagBefore, tagOf, tags, vc12Kind}
+use Rattle.packet.specs.Laws.Clock.{by, h4-clock}
 use Rattle.packet.specs.Layout.{h4Of}
-use Rattle.packet.specs.Kinds.{distanceOf, endsEpoch, epochAfter, epochOf, epochs, epochsIn, firstTag, frames, idleNumber, lead, mstEpochs, mstFails, mstFirst, mstNumbers, placeOf, startsEpoch, tagAfter, tagBefore, tags, vc12Kind}
-
--- the tag of the x-th frame after one with tag 0
-abbrev pub tagOf : ℕ → ℕ → ℕ
-tagOf kind x = x % tags kind
 
 -- an epoch has frames, and more than one
 pub frames-some : (kind : ℕ) → 0 < frames kind

@@ -13,6 +13,8 @@ use Rattle.ground.specs.Finite.{sameBits, same-bits}
 use Rattle.ground.specs.Polynomial.{apart, check, sealed}
 use Rattle.ground.specs.Table.{getD-tabulate, tabulate, tabulate-ext, tabulate-self}
 use Rattle.ground.specs.Truth.{eq-or-ne}
+use Rattle.packet.specs.Again.{Started, Vc12Again}
+use Rattle.packet.specs.Samples.{nine, sentOf}
 use Rattle.packet.specs.declared.layout.Fields.{Fields}
 use Rattle.packet.specs.declared.reader.Reading.{Reading}
 use Rattle.packet.specs.declared.reader.Reading.the-variants.{Packet, Length, Crc, Fixed, Unassigned}
@@ -103,16 +105,6 @@ reads s f e = go (eqb (length s) 32) (sameBits (check vc12Divisor (take 29 (lowe
     go true false hl hc = absurd (let w : Crc ≡ Packet f = rw (hl, hc) at e in let n = ap readingNumber w in omega arith)
     go false c hl hc = absurd (let w : Length ≡ Packet f = rw hl at e in let n = ap readingNumber w in omega arith)
 
--- bytes as a host hands them in: the bit, and 2 more in the first
-pub record Started (s : List ℕ) : Type 0 where
-  pub first : getD s 0 0 / 2 ≡ 1
-  pub others : (k : ℕ) → 0 < k → k < 32 → getD s k 0 < 2
-
--- what is written of a packet that was read
-pub record Vc12Again (s t : List ℕ) (f : Fields) : Type 0 where
-  pub answer : writeVc12Answer f t ≡ Done
-  pub bits : lowestOf (writeVc12Bytes f t) ≡ lowestOf s
-
 module _ (s t : List ℕ) (f : Fields) (e : readVc12Answer s ≡ Packet f) (room : length t ≡ 32) where
   read : Reads s f
   read = reads s f e
@@ -174,13 +166,6 @@ unfolding readVc12Answer vc12Bits
 vc12-damaged f s came e h one =
     rw (eq-eqb (length came) 32 h)
     (bits-damaged (vc12Data f) (lowestOf came) (length-data f) (length-lowest came) (rw (vc12-bits f s e) at one))
-
--- NORM 9 and EOS 9, count 7, GID 0: MST 80 beside the other word makes up for it ('two changed bits seven places apart pass this CRC')
-abbrev nine : ℕ → ℕ → Fields
-nine word mst = record { epoch = 7; word = record { 0 = word }; gid = 0; mst = mst; «rs_ack» = 0; sq = 9; reserved = 0 }
-
-abbrev sentOf : Fields → List ℕ
-sentOf f = writeVc12Bytes f (replicate 32 0)
 
 pub two-bits : (readVc12Answer (sentOf (nine NORM 0)) ≡ Packet (nine NORM 0)) × (readVc12Answer (sentOf (nine EOS 0x80)) ≡ Packet (nine EOS 0x80))
     × (apart (lowestOf (sentOf (nine NORM 0))) (lowestOf (sentOf (nine EOS 0x80))) ≡ 2)

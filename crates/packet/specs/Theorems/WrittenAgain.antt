@@ -10,6 +10,7 @@ use lib.ListN.{length, getD, take}
 use Rattle.ground.specs.Bits.{bits-mod, number}
 use Rattle.ground.specs.Polynomial.{check}
 use Rattle.ground.specs.Table.{tabulate, tabulate-ext, tabulate-self, getD-tabulate}
+use Rattle.packet.specs.Again.{Again, Counted}
 use Rattle.packet.specs.declared.layout.Fields.{Fields}
 use Rattle.packet.specs.declared.reader.Reading.{Reading}
 use Rattle.packet.specs.declared.reader.Reading.the-variants.{Packet, Length, Crc, Fixed, Unassigned}
@@ -169,16 +170,6 @@ fields-fit s w a =
   where
     h : ℕ → ℕ
     h k = getD s k 0 / 16
-
--- bytes whose low nibbles are the MFI1 of their places, 8 to 15 and then 0 to 7
-pub record Counted (s : List ℕ) : Type 0 where
-  pub byte : (k : ℕ) → k < 16 → getD s k 0 < 256
-  pub count : (k : ℕ) → k < 16 → getD s k 0 % 16 ≡ (k + 8) % 16
-
--- what is written of a packet that was read
-pub record Again (s t : List ℕ) (f : Fields) : Type 0 where
-  pub answer : writeAnswer f t ≡ Done
-  pub bits : bitsOf (highsOf (writeBytes f t)) ≡ bitsOf (highsOf s)
 
 module _ (s t : List ℕ) (f : Fields) (e : readAnswer s ≡ Packet f) (room : length t ≡ 16) where
   read : Reads s f

@@ -11,9 +11,9 @@ use lib.ListN.{length, getD, take}
 use lib.Seq.{take-append-seam}
 use borrow.Author.Tests.{eq-eqb, le-leb, lt-leb}
 use Rattle.counting.specs.Laws.Numbers.{count-le}
-use Rattle.counting.specs.Laws.Ranks.{Apart, Top, count-taken, some-top, taken}
+use Rattle.counting.specs.Laws.Ranks.{Top, count-taken, some-top, taken}
 use Rattle.counting.specs.Laws.Tests.{some-at}
-use Rattle.counting.specs.Words.{count}
+use Rattle.counting.specs.Words.{Apart, count}
 use Rattle.ground.specs.Drawn.{within-said, within-true}
 use Rattle.ground.specs.Truth.{and-true, le-or-lt}
 use Rattle.paths.specs.Answers.{answerOf, inRange, numberOf}

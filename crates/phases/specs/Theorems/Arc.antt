@@ -15,20 +15,11 @@ use Rattle.ground.specs.Truth.{and-left, and-right, and-true, eq-or-ne, le-or-l
 use Rattle.packet.specs.Kinds.{distanceOf, frames, tags}
 use Rattle.packet.specs.Laws.Distances.{distance-none, distance-same, farther-not-after, nearer-after, tag-before-lt}
 use Rattle.packet.specs.Theorems.Tags.{frames-some}
-use Rattle.phases.specs.Beginning.{begins, foremost, further, latest, noTag, ready, within}
 use Rattle.rows.specs.declared.group.Group.{Group}
 use Rattle.rows.specs.declared.step.Step.{Step}
 use Rattle.rows.specs.Step.{stepAt}
 use Rattle.step.specs.Arrival.{inStep}
-
--- some port in step has the tag `fore`, and none in step lies more than W - 16 tags behind it
-pub record Arc (g : Group) (s : List (List ℕ)) (n fore : ℕ) : Type 0 where
-  pub all-ready : (i : ℕ) → i < n → ready g (stepAt s i) ≡ true
-  pub port : ℕ
-  pub below : port < n
-  pub stepped : inStep g (stepAt s port) ≡ true
-  pub fore-is : latest g (stepAt s port) ≡ fore
-  pub behind : (j : ℕ) → j < n → inStep g (stepAt s j) ≡ true → distanceOf (g .kind) fore (latest g (stepAt s j)) + frames (g .kind) ≤ g .window
+use Rattle.phases.specs.Beginning.{Arc, begins, foremost, further, latest, noTag, ready, within}
 
 -- a port in step whose latest tag it is
 record LatestOf (g : Group) (s : List (List ℕ)) (n fore : ℕ) : Type 0 where

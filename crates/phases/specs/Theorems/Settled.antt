@@ -6,15 +6,16 @@ use Prim.Native.Nat.{ℕ, _≤_}
 use native.Mathlib.Omega.{arith}
 use borrow.Author.Tests.{not-true}
 use lib.ListN.{length, replicate}
-use Rattle.counting.specs.Laws.Tests.{One, every-ext, every-fails, some-not-none, some-one}
 use Rattle.ground.specs.Truth.{and-left, and-right, and-true, clash, cond-by}
+use Rattle.counting.specs.Laws.Tests.{every-ext, every-fails, some-not-none, some-one}
+use Rattle.counting.specs.Words.{One}
 use Rattle.phases.specs.Beginning.{begins}
 use Rattle.phases.specs.Due.{brought, owesNothing, silent}
 use Rattle.phases.specs.Laws.Cleared.{begun-group, begun-marks-at, begun-step-at, stopped-group}
 use Rattle.phases.specs.Laws.Lengths.{length-begin, length-stop}
 use Rattle.phases.specs.Laws.Passed.{passed-group, passed-step-at}
 use Rattle.phases.specs.Passing.{groupTo, passedGroup, passedOf, passedStep}
-use Rattle.phases.specs.Settling.{beginBy, begunOf, clearedStep, gatherBy, settledOf, stopBy, stoppedOf}
+use Rattle.phases.specs.Settling.{Settled, beginBy, begunAt, begunOf, clearedStep, gatherBy, gatheredAt, settledOf, stopBy, stoppedOf}
 use Rattle.phases.specs.Theorems.Arc.{sound}
 use Rattle.rows.specs.declared.group.Group.{Group}
 use Rattle.rows.specs.declared.step.Step.{Step}
@@ -24,20 +25,6 @@ use Rattle.rows.specs.Rows.{rowsFor}
 use Rattle.rows.specs.Step.{stepAt}
 use Rattle.step.specs.Arrival.{flagOf, inStep, readable}
 use Rattle.store.specs.Marks.{firstMark}
-
-abbrev pub begunAt : List (List ℕ) → Bool
-begunAt s = flagOf (groupAt s .begun)
-
-abbrev pub gatheredAt : List (List ℕ) → Bool
-gatheredAt s = flagOf (groupAt s .gathered)
-
-pub record Settled (n : ℕ) (s : List (List ℕ)) : Type 0 where
-  -- 'When no port is readable any more, receiving stops'
-  pub heard : begunAt s ≡ true → silent (groupAt s) s n ≡ false
-  -- 'gathered, in the call that makes it due'
-  pub gathers : begunAt s ≡ true → gatheredAt s ≡ false → brought (groupAt s) s n ≡ false
-  -- when receiving begins
-  pub waits : begunAt s ≡ false → begins (groupAt s) s n ≡ false
 
 other : (b c : Bool) → (b && c) ≡ false → b ≡ true → c ≡ false
 other b c e t = rw t at e

@@ -1,5 +1,5 @@
 -- Where the rings of the ranked ports begin in the store: a frame lies as far behind the beginning of its ring in one as in another. And a member alone.
-use mathlib.Core.Path.{_≡_, refl, sym, ap, _∙_}
+use mathlib.Core.Path.{_≡_, sym, ap, _∙_}
 use mathlib.Core.Bool.{false, _&&_}
 use mathlib.Core.Logic.{⊎-elim}
 use mathlib.Core.List.{List}

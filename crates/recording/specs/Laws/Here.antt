@@ -11,11 +11,11 @@ use lib.Seq.{slice, drop-drop, length-slice, length-take-le}
 use borrow.Author.Tests.{eq-eqb, eqb-true, ltb-true}
 use Rattle.bytes.specs.Bytes.{indexAfter, indexOf}
 use Rattle.ground.specs.Truth.{and-left, and-right}
+use Rattle.recording.specs.Record.{flagIn, frameBy, isFrame, recordIn}
 use Rattle.recording.specs.declared.record.Record.{Record}
-use Rattle.recording.specs.declared.record.Record.the-variants.{Frame, Malformed, Long, Unfinished, End}
 use Rattle.recording.specs.Laws.Parting.{found-ends, line-short, record-ends}
 use Rattle.recording.specs.Line.{MOST, foundOf}
-use Rattle.recording.specs.Record.{flagIn, frameBy, recordIn}
+use Rattle.recording.specs.declared.record.Record.the-variants.{Frame, Malformed}
 use Rattle.text.specs.declared.fields.Number.{Number}
 use Rattle.text.specs.declared.fields.Number.the-variants.{Value, Unreadable}
 use Rattle.text.specs.Ascii.{ascii}
@@ -23,13 +23,6 @@ use Rattle.text.specs.Fields.{areDigits, digitOf, hexOf, isHex, numberOf, sameB
 use Rattle.text.specs.Laws.Parted.{index-le}
 use Rattle.text.specs.Laws.Slices.{fields-last, fields-more, slice-more, take-slice}
 use Rattle.text.specs.Text.{LINE-END, TAB, fieldsOf}
-
-abbrev pub isFrame : Record → Bool
-isFrame (Frame port h4 flag place next) = true
-isFrame (Malformed next) = false
-isFrame Long = false
-isFrame Unfinished = false
-isFrame End = false
 
 -- tabs behind the port, the H4 and the flag, and the line's end
 unfoldable pub partedAt : ℕ → ℕ → List ℕ → Bool

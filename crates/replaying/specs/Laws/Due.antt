@@ -29,7 +29,7 @@ module _ (s : List (List ℕ)) (store out : List ℕ) (d : dueAt s ≡ false) wh
   unfolding fetchRecord reportIfDue recordOf
   record-none = rw d (go (fits s store out (replicate 8 0)))
     where
-      go : (b : Bool) → getD (cond b (recordOf (record { mark = 0; epoch = 0; x = 0; bytes = 0 })) (replicate 8 0)) 0 0 ≡ 0
+      go : (b : Bool) → getD (cond b (recordOf (record { mark = 0; epoch = 0; x = 0; cause = 0; bytes = 0 })) (replicate 8 0)) 0 0 ≡ 0
       go true = refl
       go false = refl
 

@@ -19,12 +19,12 @@ use Rattle.receiver.specs.Frame.{frameRows, frameStore}
 use Rattle.receiver.specs.Laws.Sizes.{start-sizes-of}
 use Rattle.recording.specs.Opening.{Opening}
 use Rattle.recording.specs.Opening.{Opening as O}
+use Rattle.recording.specs.Theorems.Lines.{IsLine, goingTo, is-line, isSettled, line-going, line-lies, line-opens, opening-settled, opensTo}
+use Rattle.recording.specs.Theorems.Lines.IsLine.{frame, malformed}
 use Rattle.recording.specs.declared.pairs.Settings.{Settings as GroupSettings}
 use Rattle.recording.specs.declared.record.Record.{Record}
 use Rattle.recording.specs.declared.record.Record.the-variants.{Frame, Malformed, Long, Unfinished, End}
 use Rattle.recording.specs.Line.{MOST, foundOf}
-use Rattle.recording.specs.Laws.Lines.{IsLine, goingTo, is-line, isSettled, line-going, line-lies, line-opens, opening-settled, opensTo}
-use Rattle.recording.specs.Laws.Lines.IsLine.{frame, malformed}
 use Rattle.recording.specs.Opening.{lineOpening, openingIn}
 use Rattle.recording.specs.Record.{lastRecord, lineRecord, recordIn}
 use Rattle.replaying.specs.declared.replay.Phase.{Phase}

@@ -12,11 +12,11 @@ use Rattle.bytes.specs.Bytes.{indexOf}
 use Rattle.ground.specs.Truth.{or-right}
 use Rattle.recording.specs.Opening.{Opening}
 use Rattle.recording.specs.Opening.{Opening as O}
+use Rattle.recording.specs.Theorems.Lines.{IsLine, goingTo, is-line, line-going}
+use Rattle.recording.specs.Theorems.Lines.IsLine.{frame, malformed}
 use Rattle.recording.specs.declared.pairs.Settings.{Settings as GroupSettings}
 use Rattle.recording.specs.declared.record.Record.{Record}
 use Rattle.recording.specs.declared.record.Record.the-variants.{Frame, Malformed, Long, Unfinished, End}
-use Rattle.recording.specs.Laws.Lines.{IsLine, goingTo, is-line, line-going}
-use Rattle.recording.specs.Laws.Lines.IsLine.{frame, malformed}
 use Rattle.recording.specs.Line.{MOST, foundOf}
 use Rattle.recording.specs.Opening.{openingIn}
 use Rattle.recording.specs.Record.{lastRecord, lineRecord, recordIn}

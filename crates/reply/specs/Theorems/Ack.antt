@@ -9,8 +9,9 @@ use lib.Dec.{eqb}
 use lib.ListN.{getD}
 use borrow.Author.Tests.{eq-eqb, eqb-true, eqb-false}
 use Rattle.counting.specs.Laws.Tests.{none-at, some-none}
-use Rattle.ground.specs.Table.{tabulate, tabulate-ext, getD-tabulate}
+use Rattle.ground.specs.Table.{getD-tabulate, tabulate-ext}
 use Rattle.ground.specs.Truth.{and-left, and-right, and-true, clash, fails, neither}
+use Rattle.reply.specs.Lists.{Left, entry, listNow, listTold}
 use Rattle.reply.specs.declared.members.Port.{Port}
 use Rattle.reply.specs.Members.{noWord, portAt}
 use Rattle.reply.specs.Telling.{ackOf, hasChanged, hasLeft, isListed, turns}
@@ -37,17 +38,6 @@ none-turns ports n each = some-none n (λ i. hasChanged (portAt ports i) || hasL
 pub fresh-kept : (ports : List Port) (n : ℕ) → ((i : ℕ) → i < n → (portAt ports i .word ≡ noWord) × (portAt ports i .«told_word» ≡ noWord)) → turns ports n ≡ false
 fresh-kept ports n fresh = none-turns ports n (λ i b. rw (fresh i b .0, fresh i b .1))
 
--- 'the list of active and DNU ports with their numbers', port by port: the number of one whose word is NORM, EOS or DNU
-abbrev pub entry : ℕ → ℕ → Option ℕ
-entry word number = cond (eqb word 2 || eqb word 3 || eqb word 15) (some number) none
-
-abbrev pub listNow : List Port → ℕ → List (Option ℕ)
-listNow ports n = tabulate n (λ i. entry (portAt ports i .word) (portAt ports i .number))
-
--- the one of the last report
-abbrev pub listTold : List Port → ℕ → List (Option ℕ)
-listTold ports n = tabulate n (λ i. entry (portAt ports i .«told_word») (portAt ports i .«told_number»))
-
 unchanged : (p : Port) → hasChanged p ≡ false → entry (p .word) (p .number) ≡ entry (p .«told_word») (p .«told_number»)
 unchanged p = go (isListed (p .word)) (isListed (p .«told_word»)) (eqb (p .number) (p .«told_number»)) refl
   where
@@ -68,10 +58,6 @@ changed p = go (isListed (p .word)) (isListed (p .«told_word»))
     go true false h = absurd (Option·some-ne-none (p .number) h)
     go false true h = absurd (Option·none-ne-some (p .«told_number») h)
     go false false h = refl
-
--- a port whose word was ADD at the last report and is IDLE now
-abbrev pub Left : Port → Type 0
-Left p = (p .«told_word» ≡ 1) × (p .word ≡ 5)
 
 unleft : (p : Port) → hasLeft p ≡ false → Left p → ⊥
 unleft p e l = clash (hasLeft p) (and-true (eqb (p .«told_word») 1) (eqb (p .word) 5) (eq-eqb (p .«told_word») 1 (l .0)) (eq-eqb (p .word) 5 (l .1))) e

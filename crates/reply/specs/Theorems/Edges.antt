@@ -4,20 +4,13 @@ use mathlib.Core.Bool.{false}
 use mathlib.Core.List.{List}
 use Prim.Native.Nat.{ℕ, zero, suc, _+_, _≤_, _<_}
 use native.Mathlib.Omega.{arith}
+use Rattle.reply.specs.Reports.{Apart, Claim, Low, Reports}
+use Rattle.reply.specs.Theorems.States.{told-apart, told-below}
+use Rattle.reply.specs.Theorems.Waiting.{hold-kept, hold-over, restore-over, restore-waits}
 use Rattle.reply.specs.declared.members.Port.{Port}
 use Rattle.reply.specs.declared.waiting.Standing.{Standing}
-use Rattle.reply.specs.Laws.Keeping.{Apart, Low}
 use Rattle.reply.specs.Members.{failState, isIdle, okState, portAt}
-use Rattle.reply.specs.Theorems.States.{Told, told-apart, told-below}
-use Rattle.reply.specs.Theorems.Waiting.{Claim, hold-kept, hold-over, restore-over, restore-waits}
 use Rattle.reply.specs.Waiting.{standing, standingAt}
-
--- The ports as each of a row of reports sees them: at each what the one before has left.
-pub record Reports (seen : ℕ → List Port) (n : ℕ) : Type 0 where
-  pub small : n ≤ 64
-  pub apart : Apart (seen 0) n
-  pub low : Low (seen 0) n
-  pub told : (k : ℕ) → Told (seen k) n (seen (suc k))
 
 module _ (seen : ℕ → List Port) (n : ℕ) (all : Reports seen n) where
   apart-at : (k : ℕ) → Apart (seen k) n

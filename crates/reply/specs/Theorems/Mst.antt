@@ -12,10 +12,11 @@ use Rattle.ground.specs.Bits.{odd}
 use Rattle.ground.specs.Truth.{and-true, and-left, and-right, fails}
 use Rattle.packet.specs.Kinds.{mstFails, mstFirst}
 use Rattle.packet.specs.Theorems.Tags.{mst-bit}
+use Rattle.reply.specs.Reports.{Told}
+use Rattle.reply.specs.Theorems.States.{Holder, told-below}
 use Rattle.reply.specs.declared.members.Port.{Port}
 use Rattle.reply.specs.Members.{okState, portAt}
 use Rattle.reply.specs.Telling.{failBit, mstFrom, mstOf, okHolds}
-use Rattle.reply.specs.Theorems.States.{Holder, Told, told-below}
 
 fail-le : (b : Bool) → cond b 0 1 ≤ 1
 fail-le true = omega arith

@@ -8,12 +8,13 @@ use native.Mathlib.Omega.{arith}
 use lib.ListN.{length, replicate, length-replicate, List·getD-eq-default}
 use Rattle.counting.specs.Each.{getD-each}
 use Rattle.ground.specs.Truth.{le-or-lt}
+use Rattle.reply.specs.Reports.{Apart, Low, Told}
+use Rattle.reply.specs.Theorems.Keeping.{KeptBy, kept-by, kept-lost}
 use Rattle.reply.specs.declared.members.Port.{Port}
 use Rattle.reply.specs.declared.waiting.Standing.{Standing}
 use Rattle.reply.specs.Choosing.{FREE, holderOf}
 use Rattle.reply.specs.Laws.Choosing.{Chosen, holders-after, holders-from, length-holders}
 use Rattle.reply.specs.Laws.Claims.{claim-alone, claim-candidate, claim-own, keeps, keeps-own, left-claim, left-idle, left-lost, with-rested, with-restoring, without-failed, without-kept}
-use Rattle.reply.specs.Laws.Keeping.{Apart, KeptBy, Low, kept-by, kept-lost}
 use Rattle.reply.specs.Laws.Members.{candidate-not-idle, left-elapsed, left-not-idle, left-ok}
 use Rattle.reply.specs.Members.{failState, idleState, isIdle, isRestoring, okState, portAt}
 use Rattle.reply.specs.Waiting.{chosenOf, hasClaim, keptNumbers, keepsNumber, noStanding, standing, standingAt, standingBy, standingsOf, withClaim, withoutClaim}
@@ -127,12 +128,6 @@ pub record Holder (ports : List Port) (n q : ℕ) : Type 0 where
   pub below : at < n
   pub ok : standingAt ports n at .state ≡ okState
   pub same : standingAt ports n at .number ≡ q
-
--- the ports with what this report left of each
-pub record Told (ports : List Port) (n : ℕ) (now : List Port) : Type 0 where
-  pub state : (i : ℕ) → i < n → portAt now i .state ≡ standingAt ports n i .state
-  pub number : (i : ℕ) → i < n → portAt now i .«state_number» ≡ standingAt ports n i .number
-  pub elapsed : (i : ℕ) → i < n → portAt now i .elapsed ≡ standingAt ports n i .elapsed
 
 -- what every report leaves, whatever came before it: OK ports have different numbers, below 64
 pub told-below : (ports : List Port) (n : ℕ) (now : List Port) → n ≤ 64 → Told ports n now → Low now n

@@ -8,20 +8,16 @@ use Prim.Native.Nat.{ℕ, _≤_, _<_}
 use lib.ListN.{length-replicate}
 use Rattle.ground.specs.Truth.{and-left, fails}
 use Rattle.counting.specs.Laws.Tests.{some-none}
+use Rattle.reply.specs.Members.{hasHoldOff, isIdle, okState, portAt}
+use Rattle.reply.specs.Reports.{Undisputed}
+use Rattle.reply.specs.Theorems.Keeping.{all-free, rounds-still}
 use Rattle.reply.specs.declared.members.Port.{Port}
 use Rattle.reply.specs.Choosing.{FREE, allFree, holderOf, holders}
 use Rattle.reply.specs.Laws.Choosing.{Chosen, holders-after, holders-from}
 use Rattle.reply.specs.Laws.Claims.{claim-own, left-claim, with-rested}
-use Rattle.reply.specs.Laws.Keeping.{all-free, rounds-still}
 use Rattle.reply.specs.Laws.Members.{candidate-not-idle, left-not-idle}
-use Rattle.reply.specs.Members.{hasHoldOff, isCandidate, isIdle, isRestoring, okState, portAt}
 use Rattle.reply.specs.Theorems.States.{standing-is}
 use Rattle.reply.specs.Waiting.{chosenOf, hasClaim, joinsKept, keptNumbers, mustKeep, someJoin, standing, standingAt}
-
-pub record Undisputed (ports : List Port) (n : ℕ) : Type 0 where
-  pub candidate : (i : ℕ) → i < n → isIdle (portAt ports i) ≡ false → isCandidate (portAt ports i) ≡ true
-  pub rested : (i : ℕ) → i < n → isIdle (portAt ports i) ≡ false → isRestoring (portAt ports i) ≡ false
-  pub own : (i j : ℕ) → i < n → j < n → isIdle (portAt ports i) ≡ false → isIdle (portAt ports j) ≡ false → portAt ports i .number ≡ portAt ports j .number → i ≡ j
 
 module _ (ports : List Port) (n : ℕ) (small : n ≤ 64) (o : Undisputed ports n) where
   abbrev first : List ℕ

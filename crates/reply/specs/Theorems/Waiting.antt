@@ -7,29 +7,17 @@ use mathlib.Core.List.{List}
 use Prim.Native.Nat.{ℕ, _+_, _≤_, _<_}
 use native.Mathlib.Omega.{arith}
 use Rattle.ground.specs.Truth.{eq-or-ne, fails, le-or-lt}
+use Rattle.reply.specs.Reports.{Apart, Claim, InHoldOff, InRestoring, Low, Other, Timed}
+use Rattle.reply.specs.Theorems.Keeping.{is-kept, keeps-own, kept-by}
 use Rattle.reply.specs.declared.members.Port.{Port}
 use Rattle.reply.specs.declared.waiting.Standing.{Standing}
 use Rattle.reply.specs.Choosing.{FREE, holderOf}
 use Rattle.reply.specs.Laws.Choosing.{holders-kept}
 use Rattle.reply.specs.Laws.Claims.{claim-alone, claim-candidate, claim-free, claim-lost, claim-own, keeps, keeps-elapsed, keeps-none, keeps-not, keeps-state, left-claim, left-idle, left-lost, with-rested, with-restoring, without-failed, without-kept}
-use Rattle.reply.specs.Laws.Keeping.{Apart, Low, is-kept, keeps-own, kept-by}
 use Rattle.reply.specs.Laws.Members.{candidate-not-idle, has-left, ok-rested, rested, restoring, restoring-fail, restoring-left, was-number, was-state}
 use Rattle.reply.specs.Members.{failState, idleState, isCandidate, isIdle, isRestoring, okState, portAt, wasOk}
 use Rattle.reply.specs.Theorems.States.{OkUnder, ok-after, ok-apart, ok-holds, standing-is}
 use Rattle.reply.specs.Waiting.{chosenOf, hasClaim, keepsNumber, keptNumbers, standing, standingAt, standingBy, withClaim, withoutClaim}
-
--- the claim of port i at a report: it is a candidate, and no other port is OK under its number afterwards
-pub record Claim (ports : List Port) (n i : ℕ) : Type 0 where
-  pub candidate : isCandidate (portAt ports i) ≡ true
-  pub alone : (j : ℕ) → j < n → j ≢ i → standingAt ports n j .state ≡ okState → standingAt ports n j .number ≢ portAt ports i .number
-
--- another port is OK under the number of port i
-pub record Other (ports : List Port) (n i : ℕ) : Type 0 where
-  pub at : ℕ
-  pub below : at < n
-  pub ok : standingAt ports n at .state ≡ okState
-  pub same : standingAt ports n at .number ≡ portAt ports i .number
-  pub other : at ≢ i
 
 -- 'one that turns IDLE does so at once', from every state, and no timer runs
 pub idle-at-once : (ports : List Port) (n i : ℕ) → n ≤ 64 → i < n → isIdle (portAt ports i) ≡ true
@@ -195,22 +183,9 @@ module _ (ports : List Port) (n : ℕ) (small : n ≤ 64) (apart : Apart ports n
       → standingAt ports n j .number ≢ standingAt ports n i .number
   against-others ok j bj d okj same = d (ok-apart ports n j i small bj b okj ok same)
 
--- which timer runs
-abbrev pub InHoldOff : Standing → Type 0
-InHoldOff s = (s .state ≡ okState) × (0 < s .elapsed)
-
-abbrev pub InRestoring : Standing → Type 0
-InRestoring s = (s .state ≡ failState) × (0 < s .elapsed)
-
 -- 'Never are both running for one port (source document 002, annex C).'
 pub never-both : (s : Standing) → InHoldOff s → InRestoring s → ⊥
 never-both s h r = let e = h .0 in let f = r .0 in omega arith
-
--- the counter runs no further than the port's times, and hold-off only of a port that was OK, restoring only of one that was FAIL
-pub record Timed (p : Port) (s : Standing) : Type 0 where
-  pub idle : s .state ≡ idleState → s .elapsed ≡ 0
-  pub holding : InHoldOff s → (p .state ≡ okState) × (s .number ≡ p .«state_number») × (s .elapsed ≤ p .«hold_off»)
-  pub restoring : InRestoring s → (p .state ≡ failState) × (s .elapsed ≤ p .restore)
 
 still : (p : Port) (state : ℕ) → Timed p (standing state (p .number) 0)
 still p state = record { idle = λ e. refl; holding = λ w. absurd (let z = w .1 in omega arith); restoring = λ w. absurd (let z = w .1 in omega arith) }

@@ -10,21 +10,18 @@ use borrow.Author.Tests.{eq-eqb, eqb-true}
 use Rattle.counting.specs.Each.{getD-each}
 use Rattle.counting.specs.Laws.Tests.{some-none}
 use Rattle.ground.specs.Truth.{and-left, and-right, and-true, fails}
+use Rattle.reply.specs.Reports.{NoTimes}
+use Rattle.reply.specs.Theorems.Keeping.{rounds-still}
 use Rattle.reply.specs.declared.members.Port.{Port}
 use Rattle.reply.specs.declared.waiting.Standing.{Standing}
 use Rattle.reply.specs.Choosing.{FREE, chooses, claims, holderOf, holders, allFree}
 use Rattle.reply.specs.Laws.Claims.{claim-candidate, claim-lost, keeps-not, left-claim, left-idle, left-lost, with-rested, without-failed}
 use Rattle.reply.specs.Laws.Granting.{granted-ext}
-use Rattle.reply.specs.Laws.Keeping.{rounds-still}
 use Rattle.reply.specs.Laws.Members.{left-elapsed, rested}
 use Rattle.reply.specs.Members.{failState, hasHoldOff, idleState, isCandidate, isIdle, isRestoring, okState, portAt, wasOk}
 use Rattle.reply.specs.Theorems.States.{claim-has, standing-is}
 use Rattle.reply.specs.Waiting.{chosenOf, hasClaim, joinsKept, keptNumbers, mustKeep, someJoin, standingAt, standingBy}
 use Rattle.reply.specs.Zero.{plainClaims, plainHolders, stateBy, statesOf}
-
--- no port has a time
-abbrev pub NoTimes : List Port → ℕ → Type 0
-NoTimes ports n = (i : ℕ) → i < n → (portAt ports i .«hold_off» ≡ 0) × (portAt ports i .restore ≡ 0)
 
 unrested : (a b r : Bool) → r ≡ false → (a && not r && b) ≡ (a && b)
 unrested true b r e = rw e

@@ -6,7 +6,7 @@ use Prim.Native.Nat.{ℕ, suc, _≤_, _<_}
 use native.Mathlib.Omega.{arith}
 use Rattle.ground.specs.Truth.{eq-or-ne}
 use Rattle.counting.specs.Laws.Numbers.{count-ext, count-mono, count-without}
-use Rattle.counting.specs.Laws.Ranks.{Apart}
+use Rattle.counting.specs.Words.{Apart}
 use Rattle.sender.specs.declared.table.State.{State}
 use Rattle.sender.specs.declared.table.State.the-variants.{Add}
 use Rattle.sender.specs.Table.{isAdd, isMember}
@@ -15,6 +15,7 @@ use Rattle.sender.specs.Numbering.{isPlaced, placed, members}
 
 -- one slot, s, is added; the others stay
 module _ (n idle : ℕ) (st su : ℕ → State) (nu nv : ℕ → ℕ) (s : ℕ) (h : s < n) (others : (j : ℕ) → j < n → j ≢ s → (su j ≡ st j) × (nv j ≡ nu j)) where
+  -- It takes the next number: the numbering holds again. A slot is s, whose number is the count of members before it, or one that stays; members are one more, placed ones as many.
   pub numbered-add : isMember (st s) ≡ false → su s ≡ Add → nv s ≡ members st n → Numbered n idle st nu → Numbered n idle su nv
   numbered-add out added number o =
       record { once = once; low = low; follow = follow; top = top; idles = idles }

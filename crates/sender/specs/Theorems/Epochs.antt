@@ -8,9 +8,11 @@ use borrow.Author.Tests.{eq-eqb, eqb-true}
 use Rattle.ground.specs.Truth.{and-true, and-left, and-right}
 use Rattle.counting.specs.Laws.Numbers.{count-none}
 use Rattle.counting.specs.Laws.Ranks.{rank, ranked}
-use Rattle.counting.specs.Laws.Tests.{One}
-use Rattle.counting.specs.Words.{count}
+use Rattle.counting.specs.Words.{One, count}
 use Rattle.packet.specs.declared.layout.Fields.{Fields}
+use Rattle.sender.specs.Epochs.{SenderCall, beginOf, freshSender, onTable, packetAnswer, packetBytes, packetFields, payloadAnswer, payloadBytes, rankIn, senderAfter, senderOutcomeOf, senderRun, startEpochOf, startedSender, xOf}
+use Rattle.sender.specs.Numbering.{numberIn, slotsIn, stateIn}
+use Rattle.sender.specs.SenderRuns.{Demand2Kept, Fixed}
 use Rattle.sender.specs.declared.board.Board.{Board}
 use Rattle.sender.specs.declared.epochs.Sender.{Sender}
 use Rattle.sender.specs.declared.epochs.SenderOutcome.{SenderOutcome}
@@ -19,11 +21,9 @@ use Rattle.sender.specs.declared.table.Table.{Table}
 use Rattle.sender.specs.Board.{boardOf}
 use Rattle.sender.specs.Calls.{Call}
 use Rattle.sender.specs.Commands.{startOf}
-use Rattle.sender.specs.Epochs.{SenderCall, beginOf, freshSender, packetAnswer, packetBytes, packetFields, payloadAnswer, payloadBytes, rankIn, senderOutcomeOf, senderRun, startEpochOf, startedSender, xOf}
 use Rattle.sender.specs.Epochs.SenderCall.{OnTable, StartEpoch}
 use Rattle.sender.specs.Laws.Carrying.{board-size, carries-active, rank-active, x-active}
 use Rattle.sender.specs.Laws.Kept.{Sound, group-call, sound-call, sound-start, start-idle}
-use Rattle.sender.specs.Numbering.{Demand2, numberIn, slotsIn, stateIn}
 use Rattle.sender.specs.Ranks.{carries, carriersIn, rankAt, rowAt}
 use Rattle.sender.specs.Table.{isActive, sizeOf}
 use Rattle.sender.specs.Theorems.Demand2.{active-member, sound-demand2}
@@ -78,23 +78,9 @@ begins : (kind count e : ℕ) → beginOf kind count e .sender .outgoing ≡ boa
 unfolding beginOf freshSender
 begins kind count e = refl
 
--- a sender made by calls from a start
-abbrev pub senderAfter : ℕ → ℕ → ℕ → List SenderCall → Sender
-senderAfter kind count e cs = senderRun (beginOf kind count e .sender) cs
-
 pub sender-sound : (kind count e : ℕ) (cs : List SenderCall) → SoundSender (senderAfter kind count e cs)
 unfolding beginOf
 sender-sound kind count e cs = run-sound (beginOf kind count e .sender) cs (fresh-sound (startOf kind count .table) e (sound-start kind count))
-
--- Demand 2 of the table, and of the two tables that an epoch's start keeps: those whose boards go out now and went out before
-pub record Demand2Kept (s : Sender) : Type 0 where
-  pub table : Demand2 (s .table)
-  pub outgoing-of : Table
-  pub outgoing-is : s .outgoing ≡ boardOf outgoing-of
-  pub outgoing : Demand2 outgoing-of
-  pub ruling-of : Table
-  pub ruling-is : s .ruling ≡ boardOf ruling-of
-  pub ruling : Demand2 ruling-of
 
 pub demand2-kept : (kind count e : ℕ) (cs : List SenderCall) → Demand2Kept (senderAfter kind count e cs)
 demand2-kept kind count e cs =
@@ -109,20 +95,6 @@ demand2-kept kind count e cs =
       ruling-is = o .ruling .is;
       ruling = sound-demand2 (o .ruling .source) (o .ruling .sound);
     }
-
--- What every slot sends in this epoch stays as its start fixed it, whatever calls on the table come in between: packet, payload, X and ranks.
-pub record Fixed (s r : Sender) : Type 0 where
-  pub fields : (i : ℕ) → packetFields r i ≡ packetFields s i
-  pub answer : (i : ℕ) (h4 : List ℕ) → packetAnswer r i h4 ≡ packetAnswer s i h4
-  pub bytes : (i : ℕ) (h4 : List ℕ) → packetBytes r i h4 ≡ packetBytes s i h4
-  pub x : xOf r ≡ xOf s
-  pub ranks : (i : ℕ) → rankIn r i ≡ rankIn s i
-  pub told : (i P frame member : ℕ) → payloadAnswer r i P frame member ≡ payloadAnswer s i P frame member
-  pub carried : (i P : ℕ) (frame member : List ℕ) → payloadBytes r i P frame member ≡ payloadBytes s i P frame member
-
-abbrev pub onTable : List Call → List SenderCall
-onTable [] = []
-onTable (c ∷ cs) = OnTable c ∷ onTable cs
 
 pub fixed : (s : Sender) (cs : List Call) → Fixed s (senderRun s (onTable cs))
 unfolding packetFields packetAnswer packetBytes payloadAnswer payloadBytes

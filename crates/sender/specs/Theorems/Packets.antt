@@ -13,12 +13,16 @@ use Rattle.counting.specs.Laws.Numbers.{count-le}
 use Rattle.packet.specs.Kinds.{epochAfter, epochs, frames, idleNumber}
 use Rattle.packet.specs.Laws.Reading.{lcas-assigned}
 use Rattle.packet.specs.Laws.Writing.{answer-sized, fields-fit as sent-fit}
+use Rattle.packet.specs.Reserved.{NoneReservedBy}
+use Rattle.packet.specs.Theorems.Reserved.{none-reserved-by}
 use Rattle.packet.specs.declared.writer.Writing.{Writing}
 use Rattle.packet.specs.declared.writer.Writing.the-variants as W
 use Rattle.packet.specs.Sent.{sentAnswer, sentFits}
-use Rattle.packet.specs.Theorems.Reserved.{NoneReservedBy, none-reserved-by}
 use Rattle.packet.specs.Theorems.Tags.{epoch-after-lt}
 use Rattle.packet.specs.Words.{ADD, DNU, EOS, FIXED, IDLE, NORM, assigned}
+use Rattle.sender.specs.Epochs.{SenderCall, beginOf, freshSender, packetAnswer, packetBytes, packetFields, senderAfter, senderOutcomeOf, senderRun, startEpochOf, startedEpoch, startedSender}
+use Rattle.sender.specs.SenderRuns.{AllGiven, Given}
+use Rattle.sender.specs.Theorems.Epochs.{SoundSender, sender-sound}
 use Rattle.sender.specs.declared.board.Board.{Board}
 use Rattle.sender.specs.declared.board.Row.{Row}
 use Rattle.sender.specs.declared.epochs.Sender.{Sender}
@@ -28,7 +32,6 @@ use Rattle.sender.specs.declared.table.State.{State}
 use Rattle.sender.specs.declared.table.State.the-variants.{Idle, Add, Active, Dnu}
 use Rattle.sender.specs.declared.table.Table.{Table}
 use Rattle.sender.specs.Board.{boardOf, highest, rowOf, wordOf}
-use Rattle.sender.specs.Epochs.{SenderCall, beginOf, freshSender, packetAnswer, packetBytes, packetFields, senderOutcomeOf, senderRun, startEpochOf, startedEpoch, startedSender}
 use Rattle.sender.specs.Epochs.SenderCall.{OnTable, StartEpoch}
 use Rattle.sender.specs.Laws.Carrying.{board-row, row-number}
 use Rattle.sender.specs.Laws.Kept.{Sound, group-call, start-kind}
@@ -37,16 +40,6 @@ use Rattle.sender.specs.Numbering.{numberIn, slotsIn, stateIn}
 use Rattle.sender.specs.Outcomes.{written}
 use Rattle.sender.specs.Ranks.{rowAt}
 use Rattle.sender.specs.Table.{answerNumber, isMember, sizeOf}
-use Rattle.sender.specs.Theorems.Epochs.{SoundSender, sender-sound, senderAfter}
-
--- a call that is given bytes
-abbrev pub Given : SenderCall → Type 0
-Given (OnTable c) = Unit {0}
-Given (StartEpoch gid mst ack) = mst < 256
-
-abbrev pub AllGiven : List SenderCall → Type 0
-AllGiven [] = Unit {0}
-AllGiven (c ∷ cs) = Given c × AllGiven cs
 
 -- what a packet's fields ask beside the row
 record Fit (s : Sender) : Type 0 where

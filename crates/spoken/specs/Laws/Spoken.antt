@@ -13,6 +13,7 @@ use Rattle.ground.specs.Truth.{eq-or-ne, le-or-lt}
 use Rattle.counting.specs.Laws.Numbers.{count-ext}
 use Rattle.counting.specs.Words.{count}
 use Rattle.sender.specs.declared.board.Row.{Row}
+use Rattle.spoken.specs.Said.{Told}
 use Rattle.spoken.specs.declared.lists.Change.{Change}
 use Rattle.spoken.specs.Applying.{changeIn}
 use Rattle.spoken.specs.Changes.{changeAt, changed, listOf, noChange, spokenTo}
@@ -50,13 +51,7 @@ each-last P l c p q k h =
     (eq-or-ne k (length l))
 
 module _ (old new : List Row) where
-  -- what a spoken change is: a slot below n that has changed, with its old and its new row
-  pub record Told (n : ℕ) (c : Change) : Type 0 where
-    pub below : c .slot < n
-    pub is : c ≡ changeAt old new (c .slot)
-    pub differs : changed old new (c .slot) ≡ true
-
-  told-more : (n : ℕ) (c : Change) → Told n c → Told (suc n) c
+  told-more : (n : ℕ) (c : Change) → Told old new n c → Told old new (suc n) c
   told-more n c t = record { below = (let b = t .below in omega arith); is = t .is; differs = t .differs }
 
   -- the next slot has changed, or it has not
@@ -84,10 +79,10 @@ module _ (old new : List Row) where
       (λ n l i e h. omega arith)
 
   -- only slots that have changed
-  pub spoken-told : (n : ℕ) → Each (Told n) (spokenTo old new n)
+  pub spoken-told : (n : ℕ) → Each (Told old new n) (spokenTo old new n)
   spoken-told =
-      by-slots (λ n l. Each (Told n) l) (λ k h. absurd (omega arith))
-      (λ n l i e p. each-last (Told (suc n)) l (changeAt old new n) (λ k h. told-more n (changeIn l k) (p k h)) (record { below = omega arith; is = refl; differs = e }))
+      by-slots (λ n l. Each (Told old new n) l) (λ k h. absurd (omega arith))
+      (λ n l i e p. each-last (Told old new (suc n)) l (changeAt old new n) (λ k h. told-more n (changeIn l k) (p k h)) (record { below = omega arith; is = refl; differs = e }))
       (λ n l i e p k h. told-more n (changeIn l k) (p k h))
 
   -- in rising order

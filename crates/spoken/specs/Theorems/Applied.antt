@@ -21,6 +21,8 @@ use Rattle.sender.specs.declared.table.Table.{Table}
 use Rattle.sender.specs.Laws.Sizes.{size-le}
 use Rattle.sender.specs.Ranks.{rowAt}
 use Rattle.sender.specs.Table.{sizeOf}
+use Rattle.spoken.specs.Laws.Spoken.{length-list, spoken-le}
+use Rattle.spoken.specs.Said.{Agrees, Told}
 use Rattle.spoken.specs.declared.comparing.Compared.{Compared}
 use Rattle.spoken.specs.declared.lists.Answer.the-variants.{Done, Counts}
 use Rattle.spoken.specs.declared.lists.Change.{Change}
@@ -29,15 +31,8 @@ use Rattle.spoken.specs.Changes.{changed, changesIn, changesOf, comparab
 use Rattle.spoken.specs.Laws.Laying.{laid-at, laid-other, length-laid}
 use Rattle.spoken.specs.Laws.Rising.{slotIn}
 use Rattle.spoken.specs.Laws.Rows.{row-same, same-row}
-use Rattle.spoken.specs.Laws.Spoken.{Told, length-list, spoken-le}
 use Rattle.spoken.specs.Laws.Waits.{wait-right}
 use Rattle.spoken.specs.Theorems.Exactly.{comparable-said, listed-rising, listed-times, listed-told}
-
--- the count, the wait and each slot below the count are the other board's
-pub record Agrees (b new : Board) : Type 0 where
-  pub count : b .count ≡ new .count
-  pub wait : b .wait ≡ new .wait
-  pub rows : (i : ℕ) → i < new .count → rowAt (b .rows) i ≡ rowAt (new .rows) i
 
 module _ (old new : List Row) (n : ℕ) where
   abbrev l : List Change

@@ -12,35 +12,16 @@ use Rattle.counting.specs.Laws.Numbers.{count-ext}
 use Rattle.counting.specs.Words.{count}
 use Rattle.sender.specs.declared.board.Board.{Board}
 use Rattle.sender.specs.declared.board.Row.{Row}
+use Rattle.spoken.specs.Laws.Spoken.{list-at, spoken-ordered, spoken-times, spoken-told}
+use Rattle.spoken.specs.Said.{Exactly, Told, WaitTold}
 use Rattle.spoken.specs.declared.lists.Answer.the-variants.{Done, Counts}
 use Rattle.spoken.specs.declared.lists.Change.{Change}
-use Rattle.spoken.specs.declared.lists.Changes.{Changes}
-use Rattle.spoken.specs.declared.lists.WaitChange.{WaitChange}
-use Rattle.spoken.specs.declared.lists.WaitChange.the-variants.{Same, Opened, Closed}
 use Rattle.spoken.specs.Applying.{changeIn}
 use Rattle.spoken.specs.Changes.{changed, changesIn, changesOf, comparable, comparedOf, listOf, noChanges, spokenTo, waitChange}
-use Rattle.spoken.specs.Fitting.{spoken}
 use Rattle.spoken.specs.Laws.Rising.{Rising, rising-lt, rising-next, slotIn}
 use Rattle.spoken.specs.Laws.Waits.{opened-closed, same-closed, same-opened}
-use Rattle.spoken.specs.Laws.Spoken.{Told, list-at, spoken-ordered, spoken-times, spoken-told}
 
--- the wait is in the changes if it differs, and if it is in them it differs
-pub record WaitTold (old new : Bool) (w : WaitChange) : Type 0 where
-  pub same : old ≡ new → w ≡ Same
-  pub same-back : w ≡ Same → old ≡ new
-  pub opened : old ≡ false → new ≡ true → w ≡ Opened
-  pub opened-back : w ≡ Opened → (old ≡ false) × (new ≡ true)
-  pub closed : old ≡ true → new ≡ false → w ≡ Closed
-  pub closed-back : w ≡ Closed → (old ≡ true) × (new ≡ false)
-
-pub record Exactly (old new : Board) (cs : Changes) : Type 0 where
-  -- a slot of the boards is in the changes once if its rows differ, else not at all
-  pub once : (i : ℕ) → i < old .count → count (cs .count) (λ k. eqb (spoken cs k .slot) i) ≡ cond (changed (old .rows) (new .rows) i) 1 0
-  -- each change is of a slot of the boards, which differs, with its old and its new row
-  pub told : (k : ℕ) → k < cs .count → Told (old .rows) (new .rows) (old .count) (spoken cs k)
-  pub rising : (i j : ℕ) → i < j → j < cs .count → spoken cs i .slot < spoken cs j .slot
-  pub wait : WaitTold (old .wait) (new .wait) (cs .wait)
-
+-- four cases, of the wait before and now
 pub wait-told : (old new : Bool) → WaitTold old new (waitChange old new)
 wait-told true true =
     record {

@@ -8,11 +8,11 @@ use native.Mathlib.Omega.{arith}
 use lib.Dec.{eqb, leb, ltb}
 use lib.ListN.{length}
 use borrow.Author.Tests.{eq-eqb, le-leb, le-ltb, lt-leb, lt-ltb, ne-eqb}
-use Rattle.ground.specs.Plain.{if_then_else_, _≤?_}
 use Rattle.ground.specs.Table.{tabulate}
 use Rattle.ground.specs.Truth.{cond-by, eq-or-ne, le-or-lt}
 use Rattle.counting.specs.Words.{count}
 use Rattle.sender.specs.declared.board.Row.{Row}
+use Rattle.spoken.specs.Said.{runsWith, tellsOf}
 use Rattle.spoken.specs.declared.lists.Change.{Change}
 use Rattle.spoken.specs.declared.runs.Run.{Run}
 use Rattle.spoken.specs.Changes.{changed, spokenTo}
@@ -21,14 +21,6 @@ use Rattle.spoken.specs.Laws.Runs.{Whole, whole-longer, whole-single}
 use Rattle.spoken.specs.Laws.Spoken.{spoken-times}
 use Rattle.spoken.specs.Runs.{continues, inRun, longer, runsFrom, runsOf, single, spread, spreadRun}
 use Rattle.spoken.specs.Theorems.Runs.{spread-back}
-
--- whether a run tells of a slot, and how many of some runs do
-abbrev pub tellsOf : (run : Run) (slot : ℕ) → Bool
-tellsOf run slot = run .first .slot ≤? slot && slot ≤? run .last .slot
-
-abbrev pub runsWith : (slot : ℕ) (runs : List Run) → ℕ
-runsWith slot [] = 0
-runsWith slot (run ∷ runs) = (if tellsOf run slot then 1 else 0) + runsWith slot runs
 
 module _ (slot : ℕ) where
   -- how many changes of a list are of the slot

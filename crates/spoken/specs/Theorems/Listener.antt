@@ -6,17 +6,16 @@ use Prim.Native.Nat.{ℕ}
 use lib.Dec.{ltb}
 use Rattle.sender.specs.Board.{boardOf}
 use Rattle.sender.specs.Commands.{startOf}
+use Rattle.sender.specs.Epochs.{SenderCall, beginOf, freshSender, senderAfter, senderOutcomeOf, senderRun, startEpochOf, startedSender}
 use Rattle.sender.specs.declared.board.Board.{Board}
 use Rattle.sender.specs.declared.epochs.Sender.{Sender}
 use Rattle.sender.specs.declared.epochs.SenderOutcome.{SenderOutcome}
 use Rattle.sender.specs.declared.table.Answer.the-variants as A
 use Rattle.sender.specs.declared.table.Table.{Table}
-use Rattle.sender.specs.Epochs.{SenderCall, beginOf, freshSender, senderOutcomeOf, senderRun, startEpochOf, startedSender}
 use Rattle.sender.specs.Epochs.SenderCall.{OnTable, StartEpoch}
 use Rattle.sender.specs.Laws.Kept.{Sound, group-call, sound-call, sound-start}
-use Rattle.sender.specs.Numbering.{Demand2}
 use Rattle.sender.specs.Theorems.Demand2.{sound-demand2}
-use Rattle.sender.specs.Theorems.Epochs.{senderAfter}
+use Rattle.spoken.specs.Said.{OneTable}
 use Rattle.spoken.specs.declared.applying.Applied.{Applied}
 use Rattle.spoken.specs.declared.lists.Answer.the-variants.{Done}
 use Rattle.spoken.specs.Listening.{Moment, callsIn, hearsCall, knownAfter, knownNow, knownWith, toldFrom}
@@ -141,11 +140,6 @@ module _ (kind count e : ℕ) where
       caught-up ms m h ∙ ap (λ (cs : List SenderCall). takenOf (senderAfter kind count e cs)) same ∙ sym (caught-up ns n g)
 
   -- At no time does anyone hold half of an old order: what is known is the board of one table, as demand 2 asks.
-  pub record OneTable (b : Board) : Type 0 where
-    pub source : Table
-    pub is : b ≡ boardOf source
-    pub demand2 : Demand2 source
-
   pub one-table : (ms : List Moment) → OneTable (knownWith (takenOf begun) begun ms)
   one-table ms =
       let o = with-of sort slots (takenOf begun) begun ms (known .outgoing) known in

@@ -16,6 +16,8 @@ use Rattle.counting.specs.Words.{some}
 use Rattle.sender.specs.declared.board.Board.{Board}
 use Rattle.sender.specs.declared.board.Row.{Row}
 use Rattle.sender.specs.Ranks.{rowAt}
+use Rattle.spoken.specs.Laws.Spoken.{spoken-changed, spoken-same, take-list}
+use Rattle.spoken.specs.Said.{Agrees, SameChanges, Told}
 use Rattle.spoken.specs.declared.applying.Applied.{Applied}
 use Rattle.spoken.specs.declared.lists.Answer.the-variants.{Done, Unfit}
 use Rattle.spoken.specs.declared.lists.Change.{Change}
@@ -26,9 +28,7 @@ use Rattle.spoken.specs.Fitting.{Fits, spoken}
 use Rattle.spoken.specs.Laws.Laying.{laid-at, laid-other}
 use Rattle.spoken.specs.Laws.Rising.{Rising, rising-by, rising-lt, slotIn}
 use Rattle.spoken.specs.Laws.Rows.{row-same, same-row}
-use Rattle.spoken.specs.Laws.Spoken.{Told, spoken-changed, spoken-same, take-list}
 use Rattle.spoken.specs.Laws.Waits.{wait-fits, wait-only, wait-said}
-use Rattle.spoken.specs.Theorems.Applied.{Agrees}
 
 -- What one change says that fits.
 pub record FitsOne (c : Change) (row : Row) (count : ℕ) (rises : Bool) : Type 0 where
@@ -169,12 +169,6 @@ module _ (old new : List Row) (list : List Change) where
       go : (b : Bool) → changed old new n ≡ b → Lists n → take m list ≡ spokenTo old new (suc n)
       go true e rest = lists-changed n e rest m l r t f
       go false e rest = lists-same n e rest m l r t f
-
--- the same changes; what stands behind their count is not looked at
-pub record SameChanges (cs ds : Changes) : Type 0 where
-  pub count : cs .count ≡ ds .count
-  pub list : take (cs .count) (cs .list) ≡ take (ds .count) (ds .list)
-  pub wait : cs .wait ≡ ds .wait
 
 module _ (old new : Board) (cs : Changes) (f : Fits old cs) (a : Agrees (withChanges old cs) new) (whole : length (old .rows) ≡ 64) where
   abbrev n : ℕ

@@ -2,6 +2,7 @@
 use mathlib.Core.Path.{_≡_, refl, _∙_, ap}
 use mathlib.Core.List.{List, [], _∷_, _++_}
 use Rattle.ground.specs.Truth.{clash, cond-by}
+use Rattle.spoken.specs.Said.{AllEnd, Ends}
 use Rattle.spoken.specs.declared.lists.Change.{Change}
 use Rattle.spoken.specs.declared.runs.Run.{Run}
 use Rattle.spoken.specs.Laws.Runs.{Whole, continues-back, spread-from, spread-single, whole-longer, whole-single}
@@ -10,15 +11,6 @@ use Rattle.spoken.specs.Runs.{continues, longer, runsFrom, runsOf, singl
 pub spread-back : (list : List Change) → spread (runsOf list) ≡ list
 spread-back [] = refl
 spread-back (change ∷ rest) = spread-from (single change) rest (whole-single change) ∙ ap (λ (l : List Change). l ++ rest) (spread-single change)
-
--- no run has the changes of a run and the first one behind it
-abbrev pub Ends : Run → List Run → Type 0
-Ends run [] = Unit {0}
-Ends run (next ∷ runs) = (q : Run) → spreadRun q ≡ spreadRun run ++ (next .first ∷ []) → ⊥
-
-abbrev pub AllEnd : List Run → Type 0
-AllEnd [] = Unit {0}
-AllEnd (run ∷ runs) = Ends run runs × AllEnd runs
 
 -- the first run from one that has begun begins as it did
 ends-from : (run begun : Run) (rest : List Change) → ((q : Run) → spreadRun q ≡ spreadRun run ++ (begun .first ∷ []) → ⊥) → Ends run (runsFrom begun rest)

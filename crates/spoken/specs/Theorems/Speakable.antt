@@ -13,25 +13,19 @@ use Rattle.counting.specs.Laws.Tests.{every-all, every-at}
 use Rattle.sender.specs.declared.board.Board.{Board}
 use Rattle.sender.specs.declared.board.Row.{Row}
 use Rattle.sender.specs.Ranks.{rowAt}
+use Rattle.spoken.specs.Fitting.{spoken}
+use Rattle.spoken.specs.Said.{Speaks}
 use Rattle.spoken.specs.declared.lists.Change.{Change}
 use Rattle.spoken.specs.declared.lists.Changes.{Changes}
 use Rattle.spoken.specs.declared.lists.WaitChange.{WaitChange}
 use Rattle.spoken.specs.declared.lists.WaitChange.the-variants.{Same, Opened, Closed}
 use Rattle.spoken.specs.Applying.{changeIn, laidTo, risesAt}
 use Rattle.spoken.specs.Changes.{sameRow}
-use Rattle.spoken.specs.Fitting.{Fits, spoken}
 use Rattle.spoken.specs.Laws.Laying.{laid-at}
 use Rattle.spoken.specs.Laws.Rising.{Rising, rising-by, rising-lt, slotIn}
 use Rattle.spoken.specs.Laws.Rows.{row-same, same-row}
 use Rattle.spoken.specs.Laws.Waits.{opened-closed, same-closed}
 use Rattle.spoken.specs.Speaking.{canSpeak, changesSpeak, isShown, speaksBy}
-
-pub record Speaks (cs : Changes) : Type 0 where
-  -- a board that they fit
-  pub board : Board
-  pub fits : Fits board cs
-  pub old : (k : ℕ) → k < cs .count → isShown (spoken cs k .old .word) ≡ true
-  pub new : (k : ℕ) → k < cs .count → isShown (spoken cs k .new .word) ≡ true
 
 -- what one change says that can be spoken
 record SpeaksOne (c : Change) (rises : Bool) : Type 0 where

@@ -5,26 +5,20 @@ use mathlib.Core.Logic.{⊎-elim, _≢_}
 use mathlib.Core.Bool.{Bool, true, false, cond}
 use Prim.Native.Nat.{ℕ, _+_, _-_, _*_, _%_, _≤_, _<_, min}
 use native.Mathlib.Omega.{arith}
-use lib.Dec.{eqb, ltb}
 use borrow.Author.Tests.{eq-eqb, ne-eqb, lt-ltb, le-ltb, le-leb, lt-leb}
+use lib.Dec.{eqb}
 use Rattle.ground.specs.Truth.{eq-or-ne, le-or-lt}
-use Rattle.packet.specs.Counts.{h4Counts}
-use Rattle.packet.specs.Kinds.{frames, placeOf, tagAfter, tagBefore, vc12Kind}
-use Rattle.packet.specs.Laws.Counting.{sent-first, sent-second, sent-starts, sent-starts-not, sent-told, told-place, toldFirst}
-use Rattle.packet.specs.Theorems.Tags.{frames-two, next-tag, tag-before, tagOf}
+use Rattle.packet.specs.Counts.{h4Counts, toldFirst}
+use Rattle.packet.specs.Kinds.{frames, placeOf, tagAfter, tagBefore, tagOf, vc12Kind}
+use Rattle.packet.specs.Laws.Counting.{sent-first, sent-second, sent-starts, sent-starts-not, sent-told, told-place}
+use Rattle.packet.specs.Theorems.Tags.{frames-two, next-tag, tag-before}
+use Rattle.step.specs.Laws.Positions.{few-short, starts-least}
+use Rattle.step.specs.SentRuns.{Starts, h4RunAt}
 use Rattle.step.specs.declared.run.Run.{Run}
-use Rattle.step.specs.Laws.Positions.{Starts, few-short, starts-least}
 use Rattle.step.specs.Run.{begunRun, breaksAfter, endsPacket, furtherRun, gainedRun, h4RunOn, inStepAt, loses, noRun, oddAfter, secondRun, stayedRun}
 
 abbrev pub H4Sent : ℕ → ℕ → ℕ → Type 0
 H4Sent kind x h = h4Counts (tagOf kind x) h ≡ true
-
--- the run after the frame at x
-unfoldable pub h4RunAt : ℕ → ℕ → ℕ → ℕ → Run
-h4RunAt kind c0 a x =
-    cond (ltb x a) noRun
-    (cond (eqb x a) (record { count = 1; next = toldFirst kind (c0 + x); breaks = 0; odd = 0; bits = 0 })
-    (record { count = min (x - a + 1) (frames kind * 2); next = tagOf kind (c0 + (x + 1)); breaks = 0; odd = 0; bits = 0 }))
 
 abbrev pub H4RunAt : ℕ → ℕ → ℕ → ℕ → Run → Type 0
 H4RunAt kind c0 a x run = run ≡ h4RunAt kind c0 a x

@@ -9,16 +9,16 @@ use lib.Dec.{eqb, ltb}
 use borrow.Author.Tests.{eq-eqb, eqb-true, lt-ltb, ne-eqb, not-false}
 use Rattle.ground.specs.Truth.{cond-by, le-or-lt, neither}
 use Rattle.packet.specs.Counts.{saysStart, toldBits}
-use Rattle.packet.specs.Kinds.{endsEpoch, epochOf, epochs, firstTag, frames, placeOf, vc12Kind}
+use Rattle.packet.specs.Kinds.{endsEpoch, epochOf, epochs, firstTag, frames, placeOf, tagOf, vc12Kind}
 use Rattle.packet.specs.Laws.Epochs as Epochs
 use Rattle.packet.specs.Laws.Epochs.{ends-alike, place-lt, position-is, same-epoch-before}
 use Rattle.packet.specs.Laws.OwnBits.{OwnBit, own-read}
 use Rattle.packet.specs.Laws.Vc12Clock.{vc12-epoch, vc12-epochs, vc12-frames, vc12-place}
 use Rattle.packet.specs.Ruling.{fieldsIn}
 use Rattle.packet.specs.Symbols.{rowFrom}
-use Rattle.packet.specs.Theorems.Tags.{epoch-each, place-each, tagOf}
+use Rattle.packet.specs.Theorems.Tags.{epoch-each, place-each}
+use Rattle.step.specs.Theorems.Lost.{packet-short, two-short}
 use Rattle.step.specs.declared.run.Run.{Run}
-use Rattle.step.specs.Laws.Lost.{packet-short, two-short}
 use Rattle.step.specs.OwnCount.{withoutMfi2}
 use Rattle.step.specs.Run.{endsPacket, inStepAt, runOn}
 use Rattle.step.specs.Starts.{begunPacket, bitsAfter, fifthBit, firstOfTwo, goesOn, startsRun}

@@ -9,6 +9,7 @@ use borrow.Author.Tests.{leb-false, lt-leb}
 use Rattle.ground.specs.Truth.{neither}
 use Rattle.packet.specs.Kinds.{frames}
 use Rattle.packet.specs.Laws.Epochs.{run-fits, start-least, to-start, to-start-lt}
+use Rattle.step.specs.SentRuns.{Starts, startFrom}
 use Rattle.step.specs.declared.run.Run.{Run}
 use Rattle.step.specs.Run.{inStepAt, loses}
 
@@ -30,16 +31,6 @@ unfolding inStepAt
 few-short kind count l = lt-leb (frames kind * 2) count l
 
 -- Frames as sent from position f on. Position x has the tag of the (c0 + x)-th frame after one with tag 0.
-
--- a is the first position from f on that has MFI1 0
-pub record Starts (kind c0 f a : ℕ) : Type 0 where
-  pub from : f ≤ a
-  pub soon : a < f + frames kind
-  pub starts : (c0 + a) % frames kind ≡ 0
-
--- where it lies
-unfoldable pub startFrom : ℕ → ℕ → ℕ → ℕ
-startFrom kind c0 f = f + (frames kind - (c0 + f) % frames kind) % frames kind
 
 pub start-from : (kind c0 f : ℕ) → Starts kind c0 f (startFrom kind c0 f)
 unfolding startFrom

@@ -7,10 +7,10 @@ use native.Mathlib.Omega.{arith}
 use lib.Dec.{eqb, ltb}
 use borrow.Author.Tests.{eqb-false, eqb-true, le-ltb, leb-false, leb-true, lt-ltb}
 use Rattle.ground.specs.Truth.{cond-by, le-or-lt}
-use Rattle.packet.specs.Clock.{by, by-kind}
 use Rattle.packet.specs.Counts.{carriesLow, h4Counts, saysStart, startsCount, tagByHigh, tagByLow}
 use Rattle.packet.specs.Kinds.{frames, tagAfter, tags, vc12Kind}
 use Rattle.packet.specs.Laws.Back.{after-mod}
+use Rattle.packet.specs.Laws.Clock.{by, by-kind}
 use Rattle.packet.specs.Laws.Counting.{high-told, low-told}
 use Rattle.packet.specs.Laws.Distances.{place-on, tag-after-lt}
 use Rattle.packet.specs.Laws.Vc12Clock.{vc12-frames, vc12-next}

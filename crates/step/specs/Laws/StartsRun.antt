@@ -8,6 +8,7 @@ use lib.Dec.{eqb, ltb}
 use borrow.Author.Tests.{eq-eqb, ne-eqb, lt-ltb, le-ltb}
 use Rattle.ground.specs.Truth.{eq-or-ne, le-or-lt}
 use Rattle.packet.specs.Counts.{saysStart, toldBits}
+use Rattle.step.specs.SentRuns.{vc12RunAt}
 use Rattle.step.specs.declared.run.Run.{Run}
 use Rattle.step.specs.Starts.{begunPacket, bitsAfter, countAfter, fifthBit, firstOfTwo, goesOn, noRun, startsRun}
 
@@ -15,11 +16,6 @@ use Rattle.step.specs.Starts.{begunPacket, bitsAfter, countAfter, fifthB
 pub record Vc12Sent (x byte : ℕ) : Type 0 where
   pub start : saysStart byte ≡ eqb (x % 32) 0
   pub bit : x % 32 < 5 → byte % 2 ≡ toldBits (x % 1024 / 32) (x % 32) % 2
-
--- the run after the frame at x, where the first of it was that at a
-unfoldable pub vc12RunAt : ℕ → ℕ → Run
-vc12RunAt a x =
-    record { count = min (x - a + 1) 64; next = cond (ltb (x - a) 4) (x - a + 1) ((x + 1) % 1024); breaks = 0; odd = 0; bits = toldBits (x % 1024 / 32) (x % 32) }
 
 same : (b : Bool) → ((b && b) || (not b && not b)) ≡ true
 same true = refl

@@ -4,24 +4,15 @@ use mathlib.Core.Bool.{Bool, true, false}
 use mathlib.Core.List.{List, [], _∷_}
 use Prim.Native.Nat.{ℕ, zero, suc, _-_, _<_}
 use native.Mathlib.Omega.{arith}
-use lib.ListN.{getD, length}
 use borrow.Author.Tests.{eqb-true, le-leb, leb-true}
+use lib.ListN.{length}
 use Rattle.packet.specs.Kinds.{vc12Kind}
 use Rattle.packet.specs.Laws.Vc12Clock.{vc12-frames}
+use Rattle.step.specs.Theorems.Words.{in-step-so, so-in-step}
+use Rattle.step.specs.Words.{InStepExactly, heardAt, runAfter, runOver}
 use Rattle.step.specs.declared.run.Run.{Run}
 use Rattle.step.specs.OwnCount.{withoutMfi2}
 use Rattle.step.specs.Run.{inStepAt, runOn}
-use Rattle.step.specs.Starts.{noRun}
-use Rattle.step.specs.Theorems.Words.{InStep, in-step-so, runAfter, so-in-step}
-
--- the run after them, where none ends an odd packet
-abbrev pub runOver : ℕ → List ℕ → Run
-runOver kind [] = noRun
-runOver kind (h ∷ heard) = runOn kind (runOver kind heard) false h
-
--- the k-th of them, from the first on
-abbrev pub heardAt : List ℕ → ℕ → ℕ
-heardAt heard k = getD heard (length heard - 1 - k) 0
 
 run-ext : (b c : ℕ → ℕ) (t : ℕ) → ((k : ℕ) → k < t → b k ≡ c k) → runAfter b t ≡ runAfter c t
 unfolding runAfter
@@ -41,11 +32,6 @@ unfolding runAfter
 over-after [] = refl
 over-after (h ∷ heard) =
     rw (latest h heard, run-ext (heardAt (h ∷ heard)) (heardAt heard) (length heard) (λ k l. behind h heard k l), ← over-after heard) refl
-
--- 'A port is in step after two whole packets in a row whose counts differ by one': exactly then
-pub record InStepExactly (kind : ℕ) (heard : List ℕ) (count : ℕ) : Type 0 where
-  pub so : InStep (heardAt heard) (length heard) → inStepAt kind count ≡ true
-  pub only : inStepAt kind count ≡ true → InStep (heardAt heard) (length heard)
 
 of-vc12 : (heard : List ℕ) → InStepExactly vc12Kind heard (runOver vc12Kind heard .count)
 unfolding inStepAt

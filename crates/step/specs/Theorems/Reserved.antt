@@ -6,11 +6,12 @@ use mathlib.Core.List.{List}
 use Prim.Native.Nat.{ℕ}
 use borrow.Author.Tests.{eqb-true}
 use Rattle.ground.specs.Plain.{if_then_else_, _==_}
+use Rattle.packet.specs.Reserved.{SameBeside, SameBesideBy, SameBesideVc12}
+use Rattle.packet.specs.Theorems.RuleAlike.{epoch-alike, fixed-alike, rule-alike}
 use Rattle.packet.specs.declared.reader.Reading.the-variants.{Crc}
 use Rattle.packet.specs.declared.ruling.Ruling.{Ruling}
 use Rattle.packet.specs.Kinds.{fixedKind, vc12Kind}
 use Rattle.packet.specs.Ruling.{readRow, refused}
-use Rattle.packet.specs.Theorems.RuleAlike.{SameBeside, SameBesideBy, SameBesideVc12, epoch-alike, fixed-alike, rule-alike}
 use Rattle.step.specs.OwnCount.{ownNumber, ownRuling, rulingIn}
 
 module _ (kind epoch : ℕ) (row other : List ℕ) (same : SameBesideBy kind row other) where

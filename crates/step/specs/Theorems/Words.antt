@@ -8,36 +8,12 @@ use native.Mathlib.Omega.{arith}
 use lib.Dec.{eqb, ltb}
 use borrow.Author.Tests.{eq-eqb, ne-eqb, lt-ltb, le-ltb}
 use Rattle.ground.specs.Truth.{eq-or-ne, le-or-lt}
+use Rattle.step.specs.Words.{InStep, Row, bitsFrom, countAt, runAfter}
 use Rattle.step.specs.declared.run.Run.{Run}
 use Rattle.packet.specs.Counts.{saysStart}
-use Rattle.packet.specs.Kinds.{vc12Kind}
 use Rattle.step.specs.Laws.StartsRun.{alike, fifth-bit, later, lt-or-le, other-bit}
 use Rattle.step.specs.Run.{runOn}
 use Rattle.step.specs.Starts.{begunPacket, bitsAfter, countAfter, fifthBit, firstOfTwo, goesOn, noRun, startsRun}
-
--- the run after t frames, none flagged
-unfoldable pub runAfter : (ℕ → ℕ) → ℕ → Run
-runAfter b zero = noRun
-runAfter b (suc t) = runOn vc12Kind (runAfter b t) false (b t)
-
--- m bits from the frame j on, as a number
-abbrev pub bitsFrom : (ℕ → ℕ) → ℕ → ℕ → ℕ
-bitsFrom b j zero = 0
-bitsFrom b j (suc m) = bitsFrom b j m * 2 + b (j + m) % 2
-
--- a packet's count
-abbrev pub countAt : (ℕ → ℕ) → ℕ → ℕ
-countAt b j = bitsFrom b j 5
-
--- From the frame a up to the t-th, a start is said at each 32nd frame and nowhere between, and each packet's count, once its five bits have come, is one more than the one before.
-pub record Row (b : ℕ → ℕ) (a t : ℕ) : Type 0 where
-  pub starts : (j : ℕ) → a + j < t → saysStart (b (a + j)) ≡ eqb (j % 32) 0
-  pub counts : (k : ℕ) → a + 32 * (k + 1) + 5 ≤ t → countAt b (a + 32 * (k + 1)) ≡ (countAt b (a + 32 * k) + 1) % 32
-
-pub record InStep (b : ℕ → ℕ) (t : ℕ) : Type 0 where
-  pub a : ℕ
-  pub enough : a + 64 ≤ t
-  pub row : Row b a t
 
 bit-lt : (n : ℕ) → n % 2 < 2
 bit-lt n = omega arith

@@ -14,12 +14,7 @@ use Rattle.ground.specs.Bits.{odd}
 use Rattle.ground.specs.Table.{getD-tabulate}
 use Rattle.ground.specs.Truth.{le-or-lt, eq-or-ne}
 use Rattle.store.specs.Laws.Bytes.{marked-fits, marked-bit, cut-bit, passed-bit}
-use Rattle.store.specs.Marks.{cutByte, cutFrom, firstMark, markIn, markedAt, markedByte, passedByte, passedMarks}
-
--- a row of sixteen bytes
-pub record Sixteen (row : List ℕ) : Type 0 where
-  pub len : length row ≡ 16
-  pub bytes : (k : ℕ) → k < 16 → getD row k 0 < 256
+use Rattle.store.specs.Marks.{Sixteen, cutByte, cutFrom, firstMark, markIn, markedAt, markedByte, passedByte, passedMarks}
 
 -- there are 128 marks
 pub mark-beyond : (row : List ℕ) (j : ℕ) → length row ≡ 16 → 128 ≤ j → markIn row j ≡ false

@@ -6,17 +6,12 @@ use Prim.Native.Nat.{ℕ, _+_, _*_, _%_, _≤_, _<_}
 use native.Mathlib.Omega.{arith}
 use lib.ListN.{length, getD}
 use Rattle.packet.specs.Kinds.{frames}
-use Rattle.packet.specs.Laws.Symbols.{row-ext}
 use Rattle.packet.specs.Symbols.{rowFrom}
+use Rattle.packet.specs.Theorems.Symbols.{row-ext}
 use Rattle.rows.specs.declared.group.Group.{Group}
-use Rattle.store.specs.Frames.{byteAt, h4At, packetIn, placeIn, storedAt}
+use Rattle.store.specs.Frames.{Stands, byteAt, h4At, packetIn, placeIn, storedAt}
 use Rattle.store.specs.Laws.Places.{place-apart, place-moved, place-same, place-within}
 use Rattle.store.specs.Laws.Stored.{stored-after, stored-before, stored-h4, stored-payload}
-
--- the frame of port i at distance d stands in the store with this payload and this H4
-pub record Stands (g : Group) (i d : ℕ) (payload : List ℕ) (h : ℕ) (s : List ℕ) : Type 0 where
-  pub bytes : (k : ℕ) → k < g .payload → getD s (placeIn g i d + k) 0 ≡ getD payload k 0
-  pub last : getD s (placeIn g i d + g .payload) 0 ≡ h
 
 pub stands-h4 : (g : Group) (i d : ℕ) (payload : List ℕ) (h : ℕ) (s : List ℕ) → Stands g i d payload h s → h4At g i d s ≡ h
 unfolding h4At byteAt

@@ -5,14 +5,14 @@ use mathlib.Core.Bool.{true, false, true≢false}
 use mathlib.Core.List.{List}
 use Prim.Native.Nat.{ℕ, _≤_, _<_}
 use native.Mathlib.Omega.{arith}
+use Rattle.reply.specs.Reports.{Apart, Claim, Other}
+use Rattle.reply.specs.Theorems.Waiting.{claim-is, claim-or-not, really-lost, restore-over}
 use Rattle.reply.specs.declared.members.Port.{Port}
 use Rattle.reply.specs.declared.waiting.Standing.{Standing}
 use Rattle.reply.specs.Laws.Claims.{left-claim}
-use Rattle.reply.specs.Laws.Keeping.{Apart}
 use Rattle.reply.specs.Laws.Members.{candidate-not-idle}
 use Rattle.reply.specs.Members.{isCandidate, portAt}
 use Rattle.reply.specs.Theorems.States.{Holder, standing-is}
-use Rattle.reply.specs.Theorems.Waiting.{Claim, Other, claim-is, claim-or-not, really-lost, restore-over}
 use Rattle.reply.specs.Waiting.{chosenOf, standingAt, withClaim}
 
 module _ (ports : List Port) (n : ℕ) (small : n ≤ 64) (apart : Apart ports n) (i : ℕ) (b : i < n) where

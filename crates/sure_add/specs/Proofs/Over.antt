@@ -19,8 +19,8 @@ use Rattle.phases.specs.Laws.Sizes.{SameSizes}
 use Rattle.phases.specs.Sizes.{portsIn}
 use Rattle.receiver.specs.Laws.Sizes.{ports-are, sizes-of}
 use Rattle.receiver.specs.Shown.{replyOf}
+use Rattle.reply.specs.Reports.{Apart}
 use Rattle.reply.specs.declared.waiting.Standing.{Standing}
-use Rattle.reply.specs.Laws.Keeping.{Apart}
 use Rattle.reply.specs.Members.{isCandidate, okState}
 use Rattle.reply.specs.Members as R
 use Rattle.reply.specs.Theorems.States.{Holder}

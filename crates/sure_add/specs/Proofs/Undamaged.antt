@@ -28,12 +28,13 @@ use Rattle.receiver.specs.Report.{replyPort, replyPorts}
 use Rattle.receiver.specs.Shown.{replyOf}
 use Rattle.receiver.specs.Frame.{frameRows}
 use Rattle.receiver.specs.Starting.{freshPorts, groupWith, sizedFits, sizedRows, startAsRows, startFits, startRight}
+use Rattle.reply.specs.Reports.{Undisputed}
+use Rattle.reply.specs.Theorems.Undisputed.{ok-at-once}
 use Rattle.reply.specs.declared.members.Port.{Port as ReplyPort}
 use Rattle.reply.specs.declared.waiting.Standing.{Standing}
 use Rattle.reply.specs.Members.{failState, idleState, isIdle, okState}
 use Rattle.reply.specs.Members as R
 use Rattle.reply.specs.Waiting.{standingAt}
-use Rattle.reply.specs.Theorems.Undisputed.{Undisputed, ok-at-once}
 use Rattle.reply.specs.Theorems.Waiting.{idle-at-once}
 use Rattle.rows.specs.declared.group.Group.{Group}
 use Rattle.rows.specs.declared.member.Member.{Member}

@@ -19,9 +19,9 @@ use Rattle.phases.specs.Due.{brought, silent}
 use Rattle.phases.specs.Laws.Lengths.{length-passed}
 use Rattle.phases.specs.Laws.Passed.{passed-group}
 use Rattle.phases.specs.Passing.{passedGroup, passedOf}
-use Rattle.phases.specs.Settling.{settledOf}
+use Rattle.phases.specs.Settling.{Settled, settledOf}
 use Rattle.phases.specs.Sizes.{portsIn}
-use Rattle.phases.specs.Theorems.Settled.{Settled, passed-begun, passed-silent, settled}
+use Rattle.phases.specs.Theorems.Settled.{passed-begun, passed-silent, settled}
 use Rattle.receiver.specs.Fetch.{dueIn, fetchRows, fits, rowsIfDue}
 use Rattle.receiver.specs.Frame.{frameRefusal, frameRows, portRows, settledBy, storeBy, takenIn, takenRows}
 use Rattle.receiver.specs.Laws.Answers.{unrefused}

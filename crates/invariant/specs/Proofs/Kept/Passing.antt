@@ -55,6 +55,7 @@ module _ (g : Group) (s : Step) (marks : List ℕ) (k : PortKept g s marks) (beg
       (or-cases (firstMark marks) (flagOf (s .joined) && flagOf (s .later)) (has-brought brought))))
       (true-or-false (flagOf (s .joined)))
 
+  -- A port of which an epoch passes: its run and flags stay, its marks move up by one, and its next frame lies an epoch nearer to the oldest (`near`), by which what was marked up to there is so again.
   pub passed-kept : PortKept (passedGroup g) (passedStep s (firstMark marks)) (passedMarks marks)
   unfolding passedGroup passedStep inStep
   passed-kept =

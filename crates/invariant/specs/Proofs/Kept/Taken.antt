@@ -8,6 +8,8 @@ use Prim.Native.Nat.{ℕ, _+_, _*_, _%_, _≤_, _<_}
 use native.Mathlib.Omega.{arith}
 use lib.Dec.{eqb, leb, ltb}
 use borrow.Author.Tests.{ltb-true, lt-ltb, le-ltb, eqb-true}
+use Rattle.store.specs.Laws.Marks.{mark-beyond, mark-cut, mark-marked, sixteen-cut, sixteen-marked}
+use Rattle.store.specs.Marks.{Sixteen, markIn, markedAt}
 use Rattle.invariant.specs.Kept.Port.{Joined, PortKept, Waiting, Windowed, endOf, offset, shortOf}
 use Rattle.invariant.specs.Proofs.Laws.Flags.{flag-on, never}
 use Rattle.step.specs.Laws.RunKept.{ended-kept, run-kept}
@@ -20,13 +22,11 @@ use Rattle.receiver.specs.Frame.{marksBy}
 use Rattle.rows.specs.declared.group.Group.{Group}
 use Rattle.rows.specs.declared.step.Step.{Step}
 use Rattle.step.specs.Arrival.{advanced, frameDropped, countsOn, distanceIn, flagOf, flagged, inStep, joining, keeps, lost, outside, runOf, takenOf}
+use Rattle.step.specs.Theorems.Lost.{run-goes-on}
 use Rattle.step.specs.declared.arrival.Taken.{Taken}
 use Rattle.step.specs.declared.run.Run.{Run}
 use Rattle.step.specs.Laws.Arrival.{inWindow, ranOn, stepped, taken-by}
-use Rattle.step.specs.Laws.Lost.{run-goes-on}
 use Rattle.step.specs.Run.{noRun, withBits}
-use Rattle.store.specs.Laws.Marks.{Sixteen, mark-beyond, mark-cut, mark-marked, sixteen-cut, sixteen-marked}
-use Rattle.store.specs.Marks.{markIn, markedAt}
 use Rattle.invariant.specs.Kept.Run.{RunKept}
 
 -- a port without step

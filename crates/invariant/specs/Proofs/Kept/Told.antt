@@ -65,6 +65,7 @@ module _ (s : List (List ℕ)) (k : Lasting s) where
   few : n ≤ 64
   few = sizes-of (g .kind) n (g .payload) (g .window) (k .group .sizes) .few-ports
 
+  -- What lasts does so when the states have been worked out: of the group RS-Ack alone is another, of a port its member alone, and OK ports have different numbers after every report (`ok-below`, `ok-apart` of reply).
   pub lasting-told : Lasting (statesWorkedOut g n s)
   lasting-told =
       record {

@@ -46,12 +46,13 @@ use Rattle.rows.specs.Port.{Port, portAt}
 use Rattle.rows.specs.Rows.{rowsFor}
 use Rattle.rows.specs.Step.{stepAt}
 use Rattle.step.specs.Arrival.{runOf}
+use Rattle.step.specs.Theorems.Heard.{in-step-exactly, odd-alike}
+use Rattle.step.specs.Words.{InStepExactly, runOver}
 use Rattle.step.specs.declared.arrival.Taken.{Taken}
 use Rattle.step.specs.declared.run.Run.{Run}
 use Rattle.step.specs.Laws.Arrival.{ranOn}
 use Rattle.step.specs.OwnCount.{withoutMfi2}
 use Rattle.step.specs.Run.{noRun, runOn, withBits}
-use Rattle.step.specs.Theorems.Heard.{InStepExactly, in-step-exactly, odd-alike, runOver}
 
 -- What holds of a port's run and of the packet being gathered, of the frames heard. `None` says that none of them is flagged: the run of a port without MFI2 is then theirs.
 pub record LiveIn (None : Type 0) (kind : ℕ) (run : Run) (row heard : List ℕ) : Type 0 where

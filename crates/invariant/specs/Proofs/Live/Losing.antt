@@ -18,21 +18,21 @@ use Rattle.invariant.specs.Live.{LiveRow, packetHeard}
 use Rattle.invariant.specs.Proofs.Live.Rows.{packet-judged}
 use Rattle.invariant.specs.Proofs.Live.Runs.{Went}
 use Rattle.packet.specs.Counts.{carriesLow, counts, h4Counts, startsCount, tagByHigh, tagByLow}
+use Rattle.packet.specs.Kinds.{epochOf, firstTag, frames, placeOf, tagAfter, tagBack, tagBefore, tagOf}
+use Rattle.packet.specs.Theorems.Tags.{epoch-lt}
 use Rattle.packet.specs.declared.layout.Fields.{Fields}
-use Rattle.packet.specs.Kinds.{epochOf, firstTag, frames, placeOf, tagAfter, tagBack, tagBefore}
 use Rattle.packet.specs.Laws.Back.{anew-early, back-after, before-after, ended-back, ends-starts, place-further, starts-place}
 use Rattle.packet.specs.Laws.Counting.{counts-h4}
 use Rattle.packet.specs.Laws.Distances.{place-on}
 use Rattle.packet.specs.Laws.OwnBits.{h4-fields, own-counted}
 use Rattle.packet.specs.Layout.{fieldsOf}
-use Rattle.packet.specs.Theorems.Tags.{epoch-lt, tagOf}
 use Rattle.rows.specs.declared.group.Group.{Group}
 use Rattle.rows.specs.declared.step.Step.{Step}
 use Rattle.step.specs.Arrival.{flagOf, runOf}
+use Rattle.step.specs.Theorems.Lost.{two-not-in-step}
 use Rattle.step.specs.declared.arrival.Taken.{Taken}
 use Rattle.step.specs.declared.run.Run.{Run}
 use Rattle.step.specs.Laws.Arrival.{ranOn}
-use Rattle.step.specs.Laws.Lost.{two-not-in-step}
 use Rattle.step.specs.OwnCount.{endsOdd, oddPacket, ownNumber, rightCrc, withoutMfi2}
 use Rattle.step.specs.Run.{begunRun, breaksAfter, endsPacket, furtherRun, gainedRun, h4RunOn, inStepAt, loses, noRun, oddAfter, runOn, secondRun, stayedRun, withBits}
 

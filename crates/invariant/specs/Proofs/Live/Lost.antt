@@ -34,10 +34,11 @@ use Rattle.rows.specs.Packets.{packetsAt}
 use Rattle.rows.specs.Port.{Port, portAt}
 use Rattle.rows.specs.Step.{stepAt}
 use Rattle.step.specs.Arrival.{countsOn, flagOf, frameDropped, joining, keeps, outside, runOf, takenOf}
+use Rattle.step.specs.Losing.{FourthBreak, SecondOdd}
+use Rattle.step.specs.Theorems.Lost.{lost-so, so-lost}
 use Rattle.step.specs.declared.arrival.Taken.{Taken}
 use Rattle.step.specs.declared.run.Run.{Run}
 use Rattle.step.specs.Laws.Arrival.{stepped, taken-by}
-use Rattle.step.specs.Laws.Lost.{FourthBreak, SecondOdd, lost-so, so-lost}
 use Rattle.step.specs.OwnCount.{endsOdd, withoutMfi2}
 use Rattle.step.specs.Run.{endsPacket, inStepAt}
 

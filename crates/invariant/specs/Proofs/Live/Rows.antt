@@ -11,8 +11,8 @@ use Rattle.invariant.specs.Live.{LiveRow, packetHeard}
 use Rattle.packet.specs.Kinds.{frames, placeOf, startsEpoch, tagAfter, tagBack, tagBefore}
 use Rattle.packet.specs.Laws.Back.{after-mod, ends-starts, place-apart, place-end, place-stays}
 use Rattle.packet.specs.Laws.Distances.{place-back, place-below}
-use Rattle.packet.specs.Laws.Symbols.{length-with, row-is, symbol-other, symbol-same}
 use Rattle.packet.specs.Symbols.{symbolAt, symbolOf, withSymbol}
+use Rattle.packet.specs.Theorems.Symbols.{length-with, row-is, symbol-other, symbol-same}
 use Rattle.packet.specs.Theorems.Tags.{frames-some}
 use Rattle.step.specs.Laws.RunKept.{Further}
 use Rattle.step.specs.Run.{endsPacket, inStepAt}

@@ -14,8 +14,8 @@ use Rattle.invariant.specs.Live.{LiveRow, isHeard}
 use Rattle.invariant.specs.Proofs.Laws.Flags.{true-or-false}
 use Rattle.invariant.specs.Proofs.Live.Rows.{live-none, live-put}
 use Rattle.packet.specs.Kinds.{placeOf}
-use Rattle.packet.specs.Laws.Symbols.{length-with}
 use Rattle.packet.specs.Symbols.{withSymbol}
+use Rattle.packet.specs.Theorems.Symbols.{length-with}
 use Rattle.receiver.specs.Frame.{ownTag}
 use Rattle.rows.specs.declared.group.Group.{Group}
 use Rattle.rows.specs.declared.step.Step.{Step}

@@ -29,9 +29,9 @@ use Rattle.rows.specs.declared.group.Group.{Group}
 use Rattle.rows.specs.Group.{groupAt}
 use Rattle.rows.specs.Packets.{packetsAt}
 use Rattle.rows.specs.Port.{portAt}
-use Rattle.step.specs.Laws.FixedPackets.{own-fixed}
 use Rattle.step.specs.Arrival.{flagOf}
 use Rattle.step.specs.OwnCount.{ownNumber, ownRuling, rulingIn}
+use Rattle.step.specs.Theorems.FixedPackets.{own-fixed}
 use Rattle.store.specs.Frames.{placeIn}
 use Rattle.invariant.specs.Calls.{Receiver, ReceiverCall, receiverRun, startedWith}
 use Rattle.invariant.specs.Kept.Group.{Kept}

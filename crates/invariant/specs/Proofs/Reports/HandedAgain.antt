@@ -307,6 +307,7 @@ same-odd s r i h k row next =
     ∙ ap (λ (l : List ℕ). endsOdd (groupAt s .kind) l (portAt r i .step .next) h) (sym (port-gathering r i) ∙ row ∙ port-gathering s i)
     ∙ ap (λ (t : ℕ). endsOdd (groupAt s .kind) (getD (packetsAt s i) 0 []) t h) next
 
+-- A frame answered 11 lies beyond the window. Calls that leave its port alone leave the port's run, its gathered packet and that it has joined (`reported-still`), and each report brings the window an epoch nearer: so behind one of them the same frame lies inside it, and is taken as `keeps` says.
 pub again : (x : Receiver) → Kept (x .rows) → (i : ℕ) (failed : Bool) (h : ℕ) (payload : List ℕ) → frameAnswer (x .rows) i failed h (length payload) (length (x .store)) ≡ 11
     → (calls : List ReceiverCall) → Others i calls → Unstopped x calls → (reportsOf x calls ≡ [] → ⊥) → Stored (receiverRun x calls) i failed h payload
 again x k i failed h payload e calls others goes some =

@@ -68,6 +68,7 @@ successive-same k l d e n p q = rw (p, q) refl
 one-more : (kind e f n : ℕ) (rest : List ℕ) → rest ≡ successive kind f n → f ≡ epochAfter kind e → e ∷ rest ≡ successive kind e (suc n)
 one-more kind e f n rest p q = rw (p, q) refl
 
+-- By the calls: a frame leaves which epoch is reported next, and so does a fetch that gives none; one that gives a report gives that epoch, and the one after it is next.
 pub in-order : (x : Receiver) (calls : List ReceiverCall) → flagOf (groupAt (x .rows) .begun) ≡ true → Unstopped x calls
     → reportsOf x calls ≡ successive (groupAt (x .rows) .kind) (nextReport (groupAt (x .rows))) (length (reportsOf x calls))
 in-order x [] b u = refl

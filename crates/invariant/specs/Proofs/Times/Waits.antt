@@ -28,15 +28,15 @@ use Rattle.receiver.specs.Fetch.{dueIn, fetchRows, fits}
 use Rattle.receiver.specs.Laws.Fresh.{started-port}
 use Rattle.receiver.specs.Laws.Sizes.{ports-are, size-is, sizes-of}
 use Rattle.receiver.specs.Starting.{freshMember, groupWith, sizedAnswer, startAsAnswer, startAsRows, startRight, timeOf, timerMost, timesWithin}
+use Rattle.reply.specs.Reports.{Apart, Claim, Low, NoTimes}
+use Rattle.reply.specs.Theorems.Waiting.{claim-is, hold-exactly, hold-kept, hold-over, idle-at-once, is-claim, restore-exactly}
+use Rattle.reply.specs.Theorems.Zero.{zero-today}
 use Rattle.reply.specs.declared.members.Port.{Port}
 use Rattle.reply.specs.declared.waiting.Standing.{Standing}
 use Rattle.reply.specs.Laws.Claims.{keeps-elapsed, keeps-state, left-claim, left-idle, left-lost, with-rested, with-restoring, without-failed, without-kept}
-use Rattle.reply.specs.Laws.Keeping.{Apart, Low}
 use Rattle.reply.specs.Laws.Members.{candidate-not-idle, restoring-fail, restoring-left}
 use Rattle.reply.specs.Members.{failState, idleState, isIdle, isRestoring, okState, portAt}
 use Rattle.reply.specs.Theorems.States.{standing-is}
-use Rattle.reply.specs.Theorems.Waiting.{Claim, claim-is, hold-exactly, hold-kept, hold-over, idle-at-once, is-claim, restore-exactly}
-use Rattle.reply.specs.Theorems.Zero.{NoTimes, zero-today}
 use Rattle.reply.specs.Waiting.{chosenOf, hasClaim, keepsNumber, noStanding, standing, standingAt, standingBy, standingsOf, withClaim, withoutClaim}
 use Rattle.reply.specs.Zero.{statesOf}
 use Rattle.rows.specs.declared.group.Group.{Group}

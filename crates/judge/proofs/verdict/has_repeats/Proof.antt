@@ -1,60 +1,17 @@
-use native.Mathlib.Numerals.{add-one}
-use mathlib.Core.Path.{_≡_, refl}
-use Prim.Native.Nat.{_≤_, _-_}
-use native.Mathlib.Omega.{arith}
-use lib.ListN.{length}
-use Rattle.judge.specs.Verdict.{repeats}
+use mathlib.Core.Path.{sym}
+use Rattle.judge.specs.Theorems.Full.{full-repeats}
 use borrow.Author.Needs.{needs}
 use Rattle.judge.proofs.verdict.has_repeats.Statement.{statement}
 use Rattle.judge.proofs.verdict.has_repeats.Tie as tie
 
-abbrev Inv-loop : tie.InvT-loop
-Inv-loop n ports found₀ i₀ found i = (length ports ≡ 64) × (i ≤ n) × (found ≡ repeats ports i)
+returns : tie.Need-returns
+returns c = sym (full-repeats (c .before .args .ports) (c .before .args .n) (c .before .pre .1 (c .if1 .taken)))
 
-abbrev μ-loop : tie.MeasureT-loop
-μ-loop n ports found₀ i₀ found i = n - i
+has-pairs-requires : tie.Need-has-pairs-requires
+has-pairs-requires c κs = c .before .pre .0
 
-loop-holds : tie.Need-loop-holds Inv-loop μ-loop
-unfolding repeats
-loop-holds c = (omega arith, omega arith, refl)
-
-mul-port : tie.Need-mul-port Inv-loop μ-loop
-mul-port c = search needs
-
-array-copy-out-port : tie.Need-array-copy-out-port Inv-loop μ-loop
-array-copy-out-port c = search needs
-
-is-numbered-requires : tie.Need-is-numbered-requires Inv-loop μ-loop
-is-numbered-requires c κs = search needs
-
-is-taken-requires : tie.Need-is-taken-requires Inv-loop μ-loop
-is-taken-requires c κs = search needs
-
-add-i : tie.Need-add-i Inv-loop μ-loop
-add-i c = search needs
-
-loop-less : tie.Need-loop-less Inv-loop μ-loop
-loop-less c = search needs
-
-loop-again : tie.Need-loop-again Inv-loop μ-loop
-unfolding repeats
-loop-again c = (c .before .before .before .before .loop .inv .0, omega arith, rw (c .before .before .before .before .loop .inv .2, c .before .is-numbered .ensures, c .is-taken .ensures, add-one))
-
-returns : tie.Need-returns Inv-loop μ-loop
-returns c = let e : c .before .loop .i ≡ c .before .before .args .n = omega arith in rw e at (c .before .loop .inv .2)
+returns-2 : tie.Need-returns-2
+returns-2 c = c .has-pairs .ensures
 
 pub has-repeats-spec : {M : Type 1} → statement M
-has-repeats-spec =
-    tie.close
-    (tie.spec
-    Inv-loop
-    μ-loop
-    loop-holds
-    mul-port
-    array-copy-out-port
-    is-numbered-requires
-    is-taken-requires
-    add-i
-    loop-less
-    loop-again
-    returns)
+has-repeats-spec = tie.close (tie.spec returns has-pairs-requires returns-2)

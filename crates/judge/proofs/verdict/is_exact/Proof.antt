@@ -1,39 +1,19 @@
-use native.Mathlib.Numerals.{add-one}
-use mathlib.Core.Path.{_≡_, refl}
-use Prim.Native.Nat.{_≤_, _-_}
-use native.Mathlib.Omega.{arith}
+use mathlib.Core.Path.{sym}
 use Rattle.judge.specs.Tally.{exactTo}
+use Rattle.judge.specs.Theorems.Full.{full-exact}
 use borrow.Author.Needs.{needs}
 use Rattle.judge.proofs.verdict.is_exact.Statement.{statement}
 use Rattle.judge.proofs.verdict.is_exact.Tie as tie
 
-abbrev Inv-loop : tie.InvT-loop
-Inv-loop ports n limit all₀ number₀ all number = (number ≤ limit) × (all ≡ exactTo ports n number)
-
-abbrev μ-loop : tie.MeasureT-loop
-μ-loop ports n limit all₀ number₀ all number = limit - number
-
-loop-holds : tie.Need-loop-holds Inv-loop μ-loop
+returns : tie.Need-returns
 unfolding exactTo
-loop-holds c = (omega arith, refl)
+returns c = sym (full-exact (c .before .args .ports) (c .before .args .n) (c .before .pre .2 (c .if1 .taken)) (c .before .args .limit) (c .before .pre .1))
 
-is-taken-requires : tie.Need-is-taken-requires Inv-loop μ-loop
-is-taken-requires c κs = search needs
+are-taken-requires : tie.Need-are-taken-requires
+are-taken-requires c κs = c .before .pre .0
 
-add-number : tie.Need-add-number Inv-loop μ-loop
-add-number c = search needs
-
-loop-less : tie.Need-loop-less Inv-loop μ-loop
-loop-less c = search needs
-
-loop-again : tie.Need-loop-again Inv-loop μ-loop
-unfolding exactTo
-loop-again c = (omega arith, rw (c .before .before .loop .inv .1, c .is-taken .ensures, add-one))
-
-returns : tie.Need-returns Inv-loop μ-loop
-returns c = let e : c .before .loop .number ≡ c .before .before .args .limit = omega arith in rw e at (c .before .loop .inv .1)
+returns-2 : tie.Need-returns-2
+returns-2 c = c .are-taken .ensures
 
 pub is-exact-spec : {M : Type 1} → statement M
-is-exact-spec =
-    tie.close
-    (tie.spec Inv-loop μ-loop loop-holds is-taken-requires add-number loop-less loop-again returns)
+is-exact-spec = tie.close (tie.spec returns are-taken-requires returns-2)

@@ -1,5 +1,5 @@
 use Rattle.judge.proofs.Alone.{exact-alone, none-repeats}
-use Rattle.judge.proofs.Judging.{by-held, by-doubt, by-rest}
+use Rattle.judge.proofs.Judging.{by-held, by-doubt}
 use mathlib.Core.List.{[], _∷_}
 use borrow.Author.Needs.{needs}
 use Rattle.judge.proofs.verdict.lcas_alone.Statement.{statement}
@@ -11,34 +11,27 @@ tallied-alone-requires c κs = search needs
 is-eos-last-requires : tie.Need-is-eos-last-requires
 is-eos-last-requires c κs = search needs
 
-is-held-requires : tie.Need-is-held-requires
-is-held-requires c κs = search needs
+held-cause-requires : tie.Need-held-cause-requires
+held-cause-requires c κs = search needs
 
 returns : tie.Need-returns
-returns c = by-held (c .before .before .before .before .args .port ∷ []) 1 (c .before .before .before .tallied-alone .result) _ _ _ (c .before .before .before .tallied-alone .ensures) (none-repeats _) (c .before .before .is-eos-last .ensures) (c .before .is-held .ensures) (c .if1 .taken)
+returns c = by-held (c .before .before .before .before .args .port ∷ []) 1 (c .before .before .before .tallied-alone .result) _ _ _ (c .before .before .before .tallied-alone .ensures) (none-repeats _) (c .before .before .is-eos-last .ensures) (c .before .held-cause .ensures) (c .if1 .taken)
 
 has-zero-requires : tie.Need-has-zero-requires
 has-zero-requires c κs = search needs
 
+doubt-cause-requires : tie.Need-doubt-cause-requires
+doubt-cause-requires c κs = search needs
+
 returns-2 : tie.Need-returns-2
 returns-2 c =
-    let start = c .before .before .before .before .before .before .before .before in
-    let tallied-alone = c .before .before .before .before .before .before .before .tallied-alone in
-    let is-eos-last = c .before .before .before .before .before .before .is-eos-last in
-    let is-held = c .before .before .before .before .before .is-held in
-    let test1 = c .before .before .before .before .if1 in
-    by-doubt (start .args .port ∷ []) 1 (tallied-alone .result) _ _ _ (tallied-alone .ensures) (none-repeats _) (is-eos-last .ensures) (is-held .ensures) _ (exact-alone _ _ _ (tallied-alone .ensures) (c .before .before .before .has-zero .ensures)) (test1 .left) (c .if2 .taken)
-
-returns-3 : tie.Need-returns-3
-returns-3 c =
-    let start = c .before .before .before .before .before .before .before .before in
-    let tallied-alone = c .before .before .before .before .before .before .before .tallied-alone in
-    let is-eos-last = c .before .before .before .before .before .before .is-eos-last in
-    let is-held = c .before .before .before .before .before .is-held in
-    let test1 = c .before .before .before .before .if1 in
-    by-rest (start .args .port ∷ []) 1 (tallied-alone .result) _ _ _ (tallied-alone .ensures) (none-repeats _) (is-eos-last .ensures) (is-held .ensures) _ (exact-alone _ _ _ (tallied-alone .ensures) (c .before .before .before .has-zero .ensures)) (test1 .left) (c .if2 .left)
+    let start = c .before .before .before .before .before .before .before in
+    let tallied-alone = c .before .before .before .before .before .before .tallied-alone in
+    let is-eos-last = c .before .before .before .before .before .is-eos-last in
+    let held-cause = c .before .before .before .before .held-cause in
+    by-doubt (start .args .port ∷ []) 1 (tallied-alone .result) _ _ _ (tallied-alone .ensures) (none-repeats _) (is-eos-last .ensures) (held-cause .ensures) _ _ (exact-alone _ _ _ (tallied-alone .ensures) (c .before .before .has-zero .ensures)) (c .before .before .before .if1 .left) (c .doubt-cause .ensures)
 
 pub lcas-alone-spec : {M : Type 1} → statement M
 lcas-alone-spec =
     tie.close
-    (tie.spec tallied-alone-requires is-eos-last-requires is-held-requires returns has-zero-requires returns-2 returns-3)
+    (tie.spec tallied-alone-requires is-eos-last-requires held-cause-requires returns has-zero-requires doubt-cause-requires returns-2)

@@ -10,9 +10,9 @@ use Rattle.packet.specs.Symbols.{packetRow}
 use Rattle.packet.specs.Theorems.Fixed.{fixed-counted}
 use Rattle.packet.specs.Theorems.Tags.{epochs-fit, epochs-some}
 use Rattle.packet.specs.Words.{FIXED}
-use Rattle.step.specs.Laws.FixedPackets as Step
-use Rattle.step.specs.Laws.Sent.{SentWith}
 use Rattle.step.specs.OwnCount.{ownRuling}
+use Rattle.step.specs.Sent.{SentWith}
+use Rattle.step.specs.Theorems.FixedPackets as Step
 use Rattle.link.specs.FixedGroup.{FixedGroup, Numbered, fixedSent}
 use Rattle.link.specs.Proofs.Laws.Counts.{tag-epoch, tag-place}
 use Rattle.link.specs.Sending.{epochNumber, epochStart}

@@ -6,7 +6,6 @@ use native.Mathlib.Omega.{arith}
 use borrow.Author.Tests.{ne-eqb}
 use Rattle.counting.specs.Laws.Numbers.{count-le}
 use Rattle.counting.specs.Laws.Ranks.{rank, rank-lt}
-use Rattle.packet.specs.Clock.{by}
 use Rattle.sender.specs.declared.board.Board.{Board}
 use Rattle.sender.specs.Epochs.{rankIn}
 use Rattle.sender.specs.Laws.Carrying.{rank-active}
@@ -14,6 +13,7 @@ use Rattle.sender.specs.Laws.Sizes.{size-le}
 use Rattle.sender.specs.Numbering.{numberIn, slotsIn, stateIn}
 use Rattle.sender.specs.Ranks.{noRank, rankAt}
 use Rattle.sender.specs.Table.{isActive, sizeOf}
+use Rattle.packet.specs.Laws.Clock.{by}
 use Rattle.link.specs.History.{Allowed, History, hasRank, senderAt}
 use Rattle.link.specs.Proofs.Histories.Ruling.{rules}
 use Rattle.link.specs.Proofs.Histories.Tables.{board-at}

@@ -9,8 +9,8 @@ use Rattle.packet.specs.declared.reader.Reading.the-variants.{Packet}
 use Rattle.packet.specs.Kinds.{frames}
 use Rattle.packet.specs.Ruling.{rulingBy}
 use Rattle.packet.specs.Symbols.{packetRow}
-use Rattle.step.specs.Laws.Packets.{sent-even, sent-reads, sent-refused}
 use Rattle.step.specs.OwnCount.{oddPacket, ownRuling}
+use Rattle.step.specs.Theorems.Packets.{sent-even, sent-reads, sent-refused}
 use Rattle.link.specs.History.{Allowed, Handed, History, fieldsSent, packetSent, sendingOf}
 use Rattle.link.specs.Sending.{Client, Lawful, epochNumber}
 use Rattle.link.specs.Proofs.Histories.Packets.{packet-epoch, packet-is, packet-wrote, sent-counts}

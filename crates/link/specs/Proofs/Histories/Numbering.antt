@@ -5,9 +5,7 @@ use Prim.Native.Nat.{ℕ, _≤_, _<_}
 use lib.Dec.{eqb}
 use borrow.Author.Tests.{eq-eqb, eqb-true}
 use Rattle.counting.specs.Laws.Numbers.{count-ext}
-use Rattle.counting.specs.Laws.Ranks.{Apart}
-use Rattle.counting.specs.Laws.Tests.{One}
-use Rattle.counting.specs.Words.{count}
+use Rattle.counting.specs.Words.{Apart, One, count}
 use Rattle.ground.specs.Truth.{and-left, and-right, and-true}
 use Rattle.packet.specs.Words.{DNU, EOS, FIXED, NORM}
 use Rattle.sender.specs.Board.{highest, rowOf, wordOf}

@@ -5,9 +5,9 @@ use mathlib.Core.List.{List}
 use Prim.Native.Nat.{ℕ, _+_, _<_}
 use lib.ListN.{getD, length, length-replicate, replicate}
 use borrow.Author.Tests.{eq-eqb, lt-ltb}
+use Rattle.packet.specs.Theorems.Sent as laws
 use Rattle.packet.specs.declared.writer.Writing.the-variants as W
 use Rattle.packet.specs.Kinds.{firstTag, frames}
-use Rattle.packet.specs.Laws.Sent as laws
 use Rattle.packet.specs.Sent.{sentAnswer, sentBytes}
 use Rattle.sender.specs.declared.epochs.Sender.{Sender}
 use Rattle.sender.specs.declared.table.Answer.the-variants.{Done}
@@ -15,11 +15,11 @@ use Rattle.sender.specs.Epochs.{packetAnswer, packetBytes, packetFields}
 use Rattle.sender.specs.Outcomes.{written}
 use Rattle.sender.specs.Table.{sizeOf}
 use Rattle.sender.specs.Theorems.Packets.{packet-done, written-done}
-use Rattle.step.specs.Laws.Sent.{SentWith}
-use Rattle.link.specs.History.{Allowed, History, fieldsSent, packetSent, senderAt}
+use Rattle.step.specs.Sent.{SentWith}
+use Rattle.link.specs.History.{Allowed, History, callsTo, fieldsSent, packetSent, senderAt}
+use Rattle.link.specs.Proofs.Histories.Senders.{given-to, sender-in, sender-run, size-at}
 use Rattle.link.specs.Proofs.Laws.Counts.{tag-epoch, tag-place}
 use Rattle.link.specs.Sending.{epochNumber, epochStart}
-use Rattle.link.specs.Proofs.Histories.Senders.{callsTo, given-to, sender-in, sender-run, size-at}
 
 -- what a sender writes whose packet is not refused
 module _ (s : Sender) (slot : ℕ) (h4 : List ℕ) (below : slot < sizeOf (s .table .count)) (room : length h4 ≡ frames (s .table .kind)) (begun : s .begun ≡ true) where

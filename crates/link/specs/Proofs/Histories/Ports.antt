@@ -4,12 +4,10 @@ use mathlib.Core.Logic.{_≢_}
 use mathlib.Core.Bool.{true, cond, true≢false, _&&_}
 use Prim.Native.Nat.{ℕ, _≤_, _<_}
 use lib.Dec.{eqb, ltb}
-use Rattle.counting.specs.Laws.Ranks.{Apart}
-use Rattle.counting.specs.Laws.Tests.{One}
-use Rattle.counting.specs.Words.{count}
 use Rattle.ground.specs.Truth.{and-left, or-left}
 use Rattle.packet.specs.Words.{DNU, EOS, IDLE}
 use Rattle.sender.specs.Ranks.{noRank}
+use Rattle.counting.specs.Words.{Apart, One, count}
 use Rattle.link.specs.Sending.{Pairing, Reached}
 use Rattle.link.specs.Proofs.Histories.Numbering.{Numbered, numberedWord}
 use Rattle.link.specs.Proofs.Histories.Reaching.{AllReach, count-paired}

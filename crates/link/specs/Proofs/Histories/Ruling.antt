@@ -9,12 +9,12 @@ use Rattle.counting.specs.Laws.Ranks.{rank}
 use Rattle.counting.specs.Words.{count}
 use Rattle.ground.specs.Truth.{and-true}
 use Rattle.packet.specs.Words.{EOS, NORM}
+use Rattle.sender.specs.Epochs.{onTable, packetFields, rankIn, senderRun}
+use Rattle.sender.specs.Theorems.Epochs.{Shows, rules-next}
 use Rattle.sender.specs.declared.board.Board.{Board}
-use Rattle.sender.specs.Epochs.{packetFields, rankIn, senderRun}
 use Rattle.sender.specs.Laws.Carrying.{board-size}
 use Rattle.sender.specs.Ranks.{carriersIn, carries, noRank, rankAt, rankOf, rowAt}
 use Rattle.sender.specs.Table.{sizeOf}
-use Rattle.sender.specs.Theorems.Epochs.{Shows, onTable, rules-next}
 use Rattle.link.specs.History.{Allowed, History, numberSent, senderAt, wordSent, xAt}
 use Rattle.link.specs.Proofs.Histories.Senders.{left, sender-at-sound, size-at}
 

@@ -3,9 +3,9 @@ use mathlib.Core.Path.{_≡_, sym, ap, subst, _∙_}
 use mathlib.Core.List.{List}
 use Prim.Native.Nat.{ℕ, _<_}
 use lib.ListN.{replicate}
+use Rattle.packet.specs.Theorems.Sent.{sent-as}
 use Rattle.packet.specs.declared.reader.Reading.the-variants.{Packet}
 use Rattle.packet.specs.Kinds.{frames}
-use Rattle.packet.specs.Laws.Sent.{sent-as}
 use Rattle.packet.specs.Symbols.{packetRow}
 use Rattle.receiver.specs.declared.seeing.Carried.{Carried}
 use Rattle.receiver.specs.Seen.{carriedBy}

@@ -11,30 +11,23 @@ use Rattle.ground.specs.Truth.{and-true, le-or-lt}
 use Rattle.packet.specs.Kinds.{epochAfter}
 use Rattle.packet.specs.Theorems.Tags.{epoch-from, epoch-on}
 use Rattle.sender.specs.Commands.{freshOf, startOf}
+use Rattle.sender.specs.Epochs.{SenderCall, beginOf, freshSender, onTable, senderAfter, senderOutcomeOf, senderRun, startEpochOf, startedEpoch, startedSender}
+use Rattle.sender.specs.SenderRuns.{AllGiven}
+use Rattle.sender.specs.Theorems.Epochs.{SoundSender, sender-sound}
 use Rattle.sender.specs.declared.epochs.Sender.{Sender}
 use Rattle.sender.specs.declared.epochs.SenderOutcome.{SenderOutcome}
 use Rattle.sender.specs.declared.table.Answer.the-variants.{Done, Field}
 use Rattle.sender.specs.declared.table.Table.{Table}
 use Rattle.sender.specs.Calls.{Call}
-use Rattle.sender.specs.Epochs.{SenderCall, beginOf, freshSender, senderOutcomeOf, senderRun, startEpochOf, startedEpoch, startedSender}
 use Rattle.sender.specs.Epochs.SenderCall.{OnTable, StartEpoch}
 use Rattle.sender.specs.Laws.Kept.{group-call}
 use Rattle.sender.specs.Laws.Runs.{sender-append}
 use Rattle.sender.specs.Laws.Sizes.{size-large, size-small}
 use Rattle.sender.specs.Table.{sizeOf}
-use Rattle.sender.specs.Theorems.Epochs.{SoundSender, onTable, sender-sound, senderAfter}
-use Rattle.sender.specs.Theorems.Packets.{AllGiven}
-use Rattle.link.specs.History.{Allowed, History, senderAt, startedOn}
+use Rattle.link.specs.History.{Allowed, History, callsBefore, callsTo, senderAt, startedOn}
 use Rattle.link.specs.Sending.{epochNumber}
 
 -- all calls up to and with the start of the i-th epoch
-
-abbrev callsBefore : History → ℕ → List SenderCall
-callsBefore h i = onTable (h .before i) ++ (StartEpoch (h .gid i) (h .mst i) (h .ack i) ∷ [])
-
-abbrev pub callsTo : History → ℕ → List SenderCall
-callsTo h zero = callsBefore h zero
-callsTo h (suc i) = callsTo h i ++ callsBefore h (suc i)
 
 started-run : (h : History) (i : ℕ) (s : Sender) → startedOn h i s ≡ senderRun s (callsBefore h i)
 started-run h i s = sym (sender-append s (onTable (h .before i)) (StartEpoch (h .gid i) (h .mst i) (h .ack i) ∷ []))

@@ -3,22 +3,21 @@ use mathlib.Core.Path.{_≡_, refl, ap, _∙_}
 use mathlib.Core.List.{List, [], _∷_}
 use Prim.Native.Nat.{ℕ, zero, suc, _<_}
 use lib.ListN.{replicate}
+use Rattle.packet.specs.Theorems.Sent.{sent-as}
 use Rattle.packet.specs.declared.reader.Reading.the-variants.{Packet}
 use Rattle.packet.specs.Kinds.{frames}
-use Rattle.packet.specs.Laws.Sent.{sent-as}
 use Rattle.packet.specs.Ruling.{readRow}
 use Rattle.packet.specs.Symbols.{packetRow}
+use Rattle.sender.specs.Epochs.{beginOf, onTable, packetFields, senderOutcomeOf, senderRun, startedSender}
 use Rattle.sender.specs.declared.board.Board.{Board}
 use Rattle.sender.specs.declared.board.Row.{Row}
 use Rattle.sender.specs.declared.epochs.Sender.{Sender}
 use Rattle.sender.specs.Board.{boardOf, highest, rowOf, wordOf}
 use Rattle.sender.specs.Calls.{Call, run}
-use Rattle.sender.specs.Epochs.{beginOf, packetFields, senderOutcomeOf, senderRun, startedSender}
 use Rattle.sender.specs.Epochs.SenderCall.{OnTable}
 use Rattle.sender.specs.Laws.Carrying.{board-row, row-number}
 use Rattle.sender.specs.Numbering.{numberIn, slotsIn, stateIn}
 use Rattle.sender.specs.Ranks.{rowAt}
-use Rattle.sender.specs.Theorems.Epochs.{onTable}
 use Rattle.link.specs.History.{Allowed, History, fieldsSent, numberSent, packetSent, senderAt, startedOn, wordSent}
 use Rattle.link.specs.Proofs.Histories.Packets.{packet-is, packet-wrote}
 use Rattle.link.specs.Proofs.Histories.Senders.{sender-in, started-is}

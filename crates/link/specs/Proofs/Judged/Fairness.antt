@@ -6,14 +6,14 @@ use mathlib.Core.List.{List, _∷_, _++_}
 use Prim.Native.Nat.{ℕ, _+_, _-_, _/_, _%_, _≤_, _<_}
 use lib.ListN.{getD}
 use Rattle.packet.specs.Changes.{keptPart}
+use Rattle.packet.specs.Kinds.{firstTag, frames, placeOf, startsEpoch, tagOf}
+use Rattle.packet.specs.Theorems.Tags.{first-starts}
 use Rattle.packet.specs.declared.ruling.Ruling.{Ruling}
-use Rattle.packet.specs.Kinds.{firstTag, frames, placeOf, startsEpoch}
 use Rattle.packet.specs.Laws.Epochs.{place-lt, position-is}
 use Rattle.packet.specs.Symbols.{packetRow}
-use Rattle.packet.specs.Theorems.Tags.{first-starts, tagOf}
-use Rattle.step.specs.Laws.Packets.{good-even}
-use Rattle.step.specs.Laws.Sent.{KeptAs, SentWith}
 use Rattle.step.specs.OwnCount.{oddPacket}
+use Rattle.step.specs.Sent.{KeptAs, SentWith}
+use Rattle.step.specs.Theorems.Packets.{good-even}
 use Rattle.link.specs.Proofs.Laws.Counts.{kept-counts, tag-place}
 use Rattle.link.specs.Link.{Arrived, AssumedOver, Damaged, Link, roadOf, sentTo}
 use Rattle.link.specs.Moments.{Unready}

@@ -9,8 +9,8 @@ use Rattle.judge.specs.declared.seen.Seen.{Seen}
 use Rattle.judge.specs.Seen.{refusedSeen, seenAt}
 use Rattle.packet.specs.Kinds.{frames}
 use Rattle.packet.specs.Laws.Epochs.{epoch-in, place-in}
-use Rattle.packet.specs.Laws.Symbols.{row-ext}
 use Rattle.packet.specs.Symbols.{packetRow}
+use Rattle.packet.specs.Theorems.Symbols.{row-ext}
 use Rattle.packet.specs.Theorems.Tags.{frames-some}
 use Rattle.packet.specs.declared.ruling.Ruling.{Ruling}
 use Rattle.step.specs.OwnCount.{ownRuling}

@@ -4,11 +4,11 @@ use mathlib.Core.List.{List}
 use Prim.Native.Nat.{ℕ, _+_, _<_}
 use lib.ListN.{getD}
 use Rattle.packet.specs.Changes.{keptPart}
-use Rattle.packet.specs.Kinds.{epochOf, firstTag, frames, placeOf}
+use Rattle.packet.specs.Kinds.{epochOf, firstTag, frames, placeOf, tagOf}
 use Rattle.packet.specs.Laws.Changes.{counts-kept}
 use Rattle.packet.specs.Symbols.{symbolOf}
-use Rattle.packet.specs.Theorems.Tags.{epoch-each, place-each, tagOf}
-use Rattle.step.specs.Laws.Sent.{SentWith}
+use Rattle.packet.specs.Theorems.Tags.{epoch-each, place-each}
+use Rattle.step.specs.Sent.{SentWith}
 use Rattle.link.specs.Link.{BringsMfi2}
 use Rattle.link.specs.Sending.{epochNumber, epochStart}
 

@@ -6,8 +6,8 @@ use Prim.Native.Nat.{ℕ, zero, suc, _+_, _-_, _*_, _/_, _≤_, _<_}
 use native.Mathlib.Omega.{arith}
 use borrow.Author.Tests.{le-leb, lt-leb}
 use Rattle.ground.specs.Truth.{le-or-lt}
-use Rattle.step.specs.Laws.Run.{startFrom}
-use Rattle.step.specs.Laws.Sent.{SentWith}
+use Rattle.step.specs.Sent.{SentWith}
+use Rattle.step.specs.SentRuns.{startFrom}
 use Rattle.link.specs.Moments.{coming, reached, said, says, saysOne, saysThrough}
 use Rattle.link.specs.Road.{L, Road}
 use Rattle.link.specs.Proofs.Fair.{Fair}

@@ -9,9 +9,9 @@ use native.Mathlib.Omega.{arith}
 use lib.Dec.{eqb, leb, ltb}
 use borrow.Author.Tests.{eq-eqb, le-leb, le-ltb, lt-leb, lt-ltb, ne-eqb}
 use Rattle.ground.specs.Truth.{eq-or-ne, le-or-lt}
-use Rattle.packet.specs.Kinds.{distanceOf, endsEpoch, epochsIn, frames, startsEpoch, tags}
+use Rattle.packet.specs.Kinds.{distanceOf, endsEpoch, epochsIn, frames, startsEpoch, tagOf, tags}
 use Rattle.packet.specs.Laws.Epochs.{ends-else, ends-first, ends-last, first-in, frames-many, none-in, same-epoch}
-use Rattle.packet.specs.Theorems.Tags.{behind-far, distance-of, frames-two, starts-each, tagOf}
+use Rattle.packet.specs.Theorems.Tags.{behind-far, distance-of, frames-two, starts-each}
 use Rattle.receiver.specs.Frame.{marksBy, oddIn}
 use Rattle.rows.specs.declared.group.Group.{Group}
 use Rattle.rows.specs.declared.step.Step.{Step}
@@ -23,8 +23,8 @@ use Rattle.step.specs.declared.arrival.Taken.{Taken}
 use Rattle.step.specs.declared.run.Run.{Run}
 use Rattle.step.specs.Laws.Arrival.{inWindow, ranOn, stepped, taken-joins, taken-keeps, taken-waits}
 use Rattle.step.specs.Run.{inStepAt}
-use Rattle.store.specs.Laws.Marks.{Sixteen, mark-cut, mark-marked, sixteen-cut, sixteen-marked}
-use Rattle.store.specs.Marks.{cutFrom, markIn, markedAt}
+use Rattle.store.specs.Laws.Marks.{mark-cut, mark-marked, sixteen-cut, sixteen-marked}
+use Rattle.store.specs.Marks.{Sixteen, cutFrom, markIn, markedAt}
 use Rattle.link.specs.Road.{L, Road}
 use Rattle.link.specs.Proofs.Fair.{Fair, sizes-in}
 use Rattle.link.specs.Running.{Moment}

@@ -10,15 +10,15 @@ use lib.Dec.{leb}
 use lib.ListN.{length, replicate}
 use borrow.Author.Tests.{le-ltb, leb-true, lt-leb, lt-ltb, ne-eqb}
 use Rattle.ground.specs.Truth.{and-right, eq-or-ne, le-or-lt, or-cases}
-use Rattle.packet.specs.Kinds.{distanceOf, epochAfter, epochOf, firstTag, frames, placeOf, tagBefore, tags}
+use Rattle.packet.specs.Kinds.{distanceOf, epochAfter, epochOf, firstTag, frames, placeOf, tagBefore, tagOf, tags}
 use Rattle.packet.specs.Laws.Epochs.{frames-many, start-after-le, start-after-lt}
-use Rattle.packet.specs.Theorems.Tags.{behind-far, distance-of, epoch-after-lt, epoch-after-tag, frames-some, frames-two, tag-before, tagOf}
-use Rattle.phases.specs.Beginning.{begins, foremost, latest, ready}
+use Rattle.packet.specs.Theorems.Tags.{behind-far, distance-of, epoch-after-lt, epoch-after-tag, frames-some, frames-two, tag-before}
+use Rattle.phases.specs.Beginning.{Arc, begins, foremost, latest, ready}
 use Rattle.phases.specs.Laws.Cleared.{begun-group, begun-marks-at, begun-port, begun-step-at}
 use Rattle.phases.specs.Laws.Lengths.{length-begun}
 use Rattle.phases.specs.Passing.{groupTo}
 use Rattle.phases.specs.Settling.{begunOf, clearedStep, settledOf}
-use Rattle.phases.specs.Theorems.Arc.{Arc, complete, sound}
+use Rattle.phases.specs.Theorems.Arc.{complete, sound}
 use Rattle.phases.specs.Theorems.Settled.{settled-begins, settled-stays}
 use Rattle.receiver.specs.Frame.{oddIn, portRows, settledBy, storeBy, takenIn}
 use Rattle.receiver.specs.Laws.Frames.{frame-gathering, frame-group, frame-other, frame-step, frame-step-other, length-frame}
@@ -31,9 +31,9 @@ use Rattle.rows.specs.Port.{Port, portAt}
 use Rattle.rows.specs.Rows.{rowsFor}
 use Rattle.rows.specs.Step.{stepAt}
 use Rattle.step.specs.Arrival.{frameDropped, countsOn, flagOf, inStep, takenOf}
+use Rattle.step.specs.Sent.{SentWith}
 use Rattle.step.specs.declared.arrival.Taken.{Taken}
 use Rattle.step.specs.Laws.Arrival.{ranOn, stepped, taken-dropped, taken-counts}
-use Rattle.step.specs.Laws.Sent.{SentWith}
 use Rattle.step.specs.Run.{inStepAt}
 use Rattle.store.specs.Laws.Marks.{mark-none, sixteen-none}
 use Rattle.link.specs.Moments.{Foremost}

@@ -17,7 +17,7 @@ use Rattle.receiver.specs.Laws.Sizes.{Sizes}
 use Rattle.receiver.specs.Lengths.{outputFor}
 use Rattle.receiver.specs.Report.{framesInto}
 use Rattle.rows.specs.declared.group.Group.{Group}
-use Rattle.store.specs.Laws.Stands.{Stands}
+use Rattle.store.specs.Frames.{Stands}
 use Rattle.link.specs.Proofs.Contents.{frameAt, framesFrom}
 use Rattle.link.specs.Proofs.Laws.Lists.{drop-fill, tabulate-append, take-fill}
 use Rattle.link.specs.Road.{L, Road}

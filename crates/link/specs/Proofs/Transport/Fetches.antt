@@ -13,6 +13,7 @@ use Rattle.ground.specs.Drawn.{drawn-by}
 use Rattle.ground.specs.Table.{length-tabulate, tabulate, tabulate-suc}
 use Rattle.judge.specs.declared.order.Order.{Order}
 use Rattle.judge.specs.declared.seen.Seen.{Seen}
+use Rattle.judge.specs.Cause.{causeOf}
 use Rattle.judge.specs.Order.{orderOf}
 use Rattle.judge.specs.Theorems.Ranks.{active-le}
 use Rattle.judge.specs.Verdict.{HELD, doubtfulBy, fixedHeld, fixedVerdict, heldBy, judgeOf, lcasVerdict}
@@ -30,7 +31,7 @@ use Rattle.receiver.specs.Report.{framesInto, noSeen, outputBy, outputOf, repor
 use Rattle.rows.specs.declared.group.Group.{Group}
 use Rattle.rows.specs.Group.{groupAt}
 use Rattle.rows.specs.Rows.{rowsFor}
-use Rattle.store.specs.Laws.Stands.{Stands}
+use Rattle.store.specs.Frames.{Stands}
 use Rattle.link.specs.Proofs.Contents.{allSeenAfter, framesFrom, numberOf, reportAfter, seenAfter}
 use Rattle.link.specs.Road.{L, Road}
 use Rattle.link.specs.Proofs.Fair.{Fair, sizes-in}
@@ -157,10 +158,13 @@ module _ (r : Road) (fair : Fair r) where
       abbrev mark : ℕ
       mark = judgeOf (r .kind) seen (r .ports)
 
+      abbrev cause : ℕ
+      cause = causeOf (r .kind) seen (r .ports)
+
       abbrev order : Order
       order = orderOf seen (r .ports)
 
-      record-is : recordAt r m ≡ recordOf (reportBy g mark order)
+      record-is : recordAt r m ≡ recordOf (reportBy g mark cause order)
       unfolding fetchRecord reportIfDue reportOf
       record-is = rw (fits-now m lined, ports-are r fair m lined, due-now, seen-is, size-is (r .ports) few, lined .kind-is) refl
 

@@ -10,8 +10,6 @@ use lib.Dec.{leb, ltb}
 use lib.ListN.{getD, length}
 use borrow.Author.Tests.{le-ltb, lt-ltb}
 use Rattle.ground.specs.Truth.{eq-or-ne, le-or-lt}
-use Rattle.packet.specs.Kinds.{placeOf}
-use Rattle.packet.specs.Theorems.Tags.{frames-two, tag-before, tagOf}
 use Rattle.phases.specs.Passing.{passedOf}
 use Rattle.phases.specs.Settling.{settledOf}
 use Rattle.phases.specs.Theorems.Settled.{settled-gathers, settled-stays}
@@ -25,13 +23,14 @@ use Rattle.rows.specs.Port.{portAt}
 use Rattle.rows.specs.Rows.{rowsFor}
 use Rattle.rows.specs.Step.{stepAt}
 use Rattle.step.specs.Arrival.{flagOf}
+use Rattle.step.specs.SentRuns.{startFrom}
 use Rattle.step.specs.declared.arrival.Taken.{Taken}
-use Rattle.step.specs.Laws.Run.{startFrom}
-use Rattle.store.specs.Frames.{placeIn, storedAt}
-use Rattle.store.specs.Laws.Marks.{Sixteen}
-use Rattle.store.specs.Laws.Stands.{Stands, stands-kept, stands-put}
+use Rattle.store.specs.Frames.{Stands, placeIn, storedAt}
+use Rattle.store.specs.Laws.Stands.{stands-kept, stands-put}
 use Rattle.store.specs.Laws.Stored.{length-stored}
-use Rattle.store.specs.Marks.{markIn}
+use Rattle.store.specs.Marks.{Sixteen, markIn}
+use Rattle.packet.specs.Kinds.{placeOf, tagOf}
+use Rattle.packet.specs.Theorems.Tags.{frames-two, tag-before}
 use Rattle.link.specs.Road.{L, Road}
 use Rattle.link.specs.Proofs.Fair.{Fair}
 use Rattle.link.specs.Running.{Moment, framed}

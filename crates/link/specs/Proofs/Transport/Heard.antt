@@ -7,17 +7,18 @@ use native.Mathlib.Omega.{arith}
 use lib.Dec.{leb}
 use borrow.Author.Tests.{le-leb, le-ltb, lt-leb, lt-ltb}
 use Rattle.ground.specs.Truth.{le-or-lt}
-use Rattle.packet.specs.Kinds.{epochsIn, placeOf, tagBefore}
-use Rattle.packet.specs.Theorems.Tags.{frames-two, tagOf}
 use Rattle.rows.specs.declared.group.Group.{Group}
 use Rattle.rows.specs.declared.step.Step.{Step}
 use Rattle.step.specs.Arrival.{advanced, frameDropped, countsOn, joinedAt, joining, keeps, lost, runOf}
+use Rattle.step.specs.Sent.{SentWith}
+use Rattle.step.specs.SentRuns.{Stays, runAt, startFrom}
+use Rattle.step.specs.Theorems.Kept.{gained, kept}
+use Rattle.step.specs.Theorems.Run.{run-counted, run-goes, run-in-step, run-next, run-place, run-short, run-starts, start-from}
 use Rattle.step.specs.declared.run.Run.{Run}
 use Rattle.step.specs.Laws.Arrival.{ranOn}
-use Rattle.step.specs.Laws.Kept.{Stays, gained, kept}
-use Rattle.step.specs.Laws.Run.{run-counted, run-goes, run-in-step, run-next, run-place, run-short, run-starts, runAt, start-from, startFrom}
-use Rattle.step.specs.Laws.Sent.{SentWith}
 use Rattle.step.specs.Run.{inStepAt, noRun, runOn}
+use Rattle.packet.specs.Kinds.{epochsIn, placeOf, tagBefore, tagOf}
+use Rattle.packet.specs.Theorems.Tags.{frames-two}
 use Rattle.link.specs.Road.{L, Road}
 use Rattle.link.specs.Proofs.Fair.{Fair}
 use Rattle.link.specs.Proofs.Standing.{Heard, Stepped, heardRun}

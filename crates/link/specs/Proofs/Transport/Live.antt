@@ -8,16 +8,16 @@ use native.Mathlib.Nat.{mod-eq-of-lt}
 use native.Mathlib.Omega.{arith}
 use lib.ListN.{length}
 use Rattle.ground.specs.Truth.{eq-or-ne}
-use Rattle.packet.specs.Kinds.{epochOf, frames, placeOf}
+use Rattle.packet.specs.Kinds.{epochOf, frames, placeOf, tagOf}
 use Rattle.packet.specs.Laws.Epochs.{last-place, place-in, place-lt, places-apart, position-is}
-use Rattle.packet.specs.Laws.Symbols.{length-with, row-is, symbol-other, symbol-same}
 use Rattle.packet.specs.Symbols.{withSymbol}
-use Rattle.packet.specs.Theorems.Tags.{epoch-counted, frames-some, place-counted, tagOf}
+use Rattle.packet.specs.Theorems.Symbols.{length-with, row-is, symbol-other, symbol-same}
+use Rattle.packet.specs.Theorems.Tags.{epoch-counted, frames-some, place-counted}
 use Rattle.receiver.specs.Frame.{oddIn, ownTag}
 use Rattle.rows.specs.Port.{portAt}
 use Rattle.rows.specs.Step.{stepAt}
+use Rattle.step.specs.SentRuns.{startFrom}
 use Rattle.step.specs.declared.arrival.Taken.{Taken}
-use Rattle.step.specs.Laws.Run.{startFrom}
 use Rattle.step.specs.OwnCount.{endsOdd, oddPacket}
 use Rattle.step.specs.Run.{endsPacket}
 use Rattle.link.specs.Proofs.Contents.{numberOf, packetOf}

@@ -9,9 +9,9 @@ use lib.Dec.{leb}
 use lib.ListN.{getD, length}
 use borrow.Author.Tests.{lt-leb}
 use Rattle.ground.specs.Truth.{le-or-lt}
-use Rattle.packet.specs.Kinds.{firstTag, frames}
+use Rattle.packet.specs.Kinds.{firstTag, frames, tagOf}
 use Rattle.packet.specs.Laws.Epochs.{marks-enough}
-use Rattle.packet.specs.Theorems.Tags.{epoch-after-lt, first-after, frames-some, tagOf}
+use Rattle.packet.specs.Theorems.Tags.{epoch-after-lt, first-after, frames-some}
 use Rattle.phases.specs.Laws.Lengths.{length-passed}
 use Rattle.phases.specs.Laws.Passed.{passed-group, passed-marks-at, passed-of-port, passed-step-at}
 use Rattle.phases.specs.Passing.{passedGroup, passedOf, passedStep}
@@ -24,9 +24,9 @@ use Rattle.rows.specs.Packets.{marksAt, packetsAt}
 use Rattle.rows.specs.Port.{Port, portAt}
 use Rattle.rows.specs.Rows.{rowsFor}
 use Rattle.rows.specs.Step.{stepAt}
-use Rattle.store.specs.Frames.{packetIn}
+use Rattle.store.specs.Frames.{Stands, packetIn}
 use Rattle.store.specs.Laws.Marks.{mark-beyond, mark-passed, sixteen-passed}
-use Rattle.store.specs.Laws.Stands.{Stands, packet-stands, stands-moved}
+use Rattle.store.specs.Laws.Stands.{packet-stands, stands-moved}
 use Rattle.store.specs.Marks.{firstMark, markIn, passedMarks}
 use Rattle.link.specs.Proofs.Contents.{packetOf}
 use Rattle.link.specs.Road.{L, Road}

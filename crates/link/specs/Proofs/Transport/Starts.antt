@@ -8,9 +8,10 @@ use native.Mathlib.Omega.{arith}
 use lib.ListN.{length, length-append}
 use Rattle.ground.specs.Table.{length-tabulate}
 use Rattle.ground.specs.Truth.{le-or-lt}
-use Rattle.packet.specs.Clock.{by}
+use Rattle.packet.specs.Laws.Clock.{by}
 use Rattle.packet.specs.Theorems.Tags.{frames-some}
-use Rattle.step.specs.Laws.Run.{start-from, startFrom}
+use Rattle.step.specs.SentRuns.{startFrom}
+use Rattle.step.specs.Theorems.Run.{start-from}
 use Rattle.link.specs.Moments.{Beginning, NotAfter, Unready, coming, nextAt, reached}
 use Rattle.link.specs.Proofs.Contents.{reportAfter}
 use Rattle.link.specs.Proofs.Fair.{Fair}

@@ -16,8 +16,9 @@ use Rattle.packet.specs.Theorems.Tags.{frames-some}
 use Rattle.phases.specs.Beginning.{begins}
 use Rattle.receiver.specs.Laws.Sizes.{window-some}
 use Rattle.rows.specs.Group.{groupAt}
-use Rattle.step.specs.Laws.Run.{start-from, startFrom}
-use Rattle.step.specs.Laws.Sent.{SentWith}
+use Rattle.step.specs.Sent.{SentWith}
+use Rattle.step.specs.SentRuns.{startFrom}
+use Rattle.step.specs.Theorems.Run.{start-from}
 use Rattle.link.specs.Proofs.Laws.Lists.{append-apart}
 use Rattle.link.specs.Moments.{Beginning, NotAfter, Ready, Unready, coming, nextAt, reached}
 use Rattle.link.specs.Road.{L, Road}

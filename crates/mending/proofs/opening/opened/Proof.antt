@@ -1,5 +1,5 @@
 use Rattle.recording.specs.Opening.{openingIn}
-use Rattle.recording.specs.Laws.Lines.{handed-end, handed-malformed, handed-set, handed-unfinished}
+use Rattle.recording.specs.Theorems.Lines.{handed-end, handed-malformed, handed-set, handed-unfinished}
 use Rattle.mending.specs.Laws.Starts.{startOf}
 use mathlib.Core.Bool.{true}
 use borrow.Author.Needs.{needs}

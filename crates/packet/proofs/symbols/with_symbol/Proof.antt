@@ -1,9 +1,9 @@
 use mathlib.Core.Path.{refl}
 use native.Mathlib.Omega.{arith}
 use borrow.Author.Needs.{needs}
-use Rattle.packet.specs.Laws.Symbols.{with-parts, with-past}
 use Rattle.packet.proofs.symbols.with_symbol.Statement.{statement}
 use Rattle.packet.proofs.symbols.with_symbol.Tie as tie
+use Rattle.packet.specs.Theorems.Symbols.{with-parts, with-past}
 
 entry-at-requires : tie.Need-entry-at-requires
 entry-at-requires c κs = search needs

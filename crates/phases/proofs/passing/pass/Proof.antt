@@ -1,8 +1,8 @@
 use mathlib.Core.Path.{_∙_}
 use native.Mathlib.Omega.{arith}
-use Rattle.phases.specs.Laws.ByTable.{passed-with}
 use Rattle.phases.proofs.passing.pass.Statement.{statement}
 use Rattle.phases.proofs.passing.pass.Tie as tie
+use Rattle.phases.specs.Theorems.ByTable.{passed-with}
 
 share-table-requires : tie.Need-share-table-requires
 share-table-requires c κs = omega arith

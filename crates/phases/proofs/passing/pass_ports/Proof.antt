@@ -5,7 +5,7 @@ use native.Mathlib.Numerals.{add-one}
 use native.Mathlib.Omega.{arith}
 use borrow.Author.Needs.{needs}
 use Rattle.phases.specs.ByTable.{passedPortsWith}
-use Rattle.phases.specs.Laws.ByTable.{length-passed-ports-with}
+use Rattle.phases.specs.Theorems.ByTable.{length-passed-ports-with}
 use Rattle.phases.proofs.passing.pass_ports.Statement.{statement}
 use Rattle.phases.proofs.passing.pass_ports.Tie as tie
 

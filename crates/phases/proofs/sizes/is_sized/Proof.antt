@@ -3,8 +3,8 @@ use mathlib.Core.Bool.{Bool, true, false, cond, _||_}
 use Prim.Native.Nat.{ℕ}
 use lib.Dec.{eqb}
 use native.Mathlib.Omega.{arith}
-use Rattle.packet.specs.Clock.{by-kind, h4-numbers}
 use Rattle.packet.specs.Kinds.{fixedKind, vc12Kind}
+use Rattle.packet.specs.Laws.Clock.{by-kind, h4-numbers}
 use Rattle.packet.specs.Laws.Known.{known-else, vc12-known}
 use Rattle.phases.specs.Sizes.{sized, sizedAs}
 use Rattle.phases.proofs.sizes.is_sized.Statement.{statement}

@@ -6,8 +6,11 @@ use Rattle.receiver.proofs.fetching.report_oldest.Tie as tie
 see-and-pass-requires : tie.Need-see-and-pass-requires
 see-and-pass-requires c κs = search needs
 
-judge-requires : tie.Need-judge-requires
-judge-requires c κs = search needs
+cause-requires : tie.Need-cause-requires
+cause-requires c κs = search needs
+
+mark-requires : tie.Need-mark-requires
+mark-requires c κs = search needs
 
 ordered-requires : tie.Need-ordered-requires
 ordered-requires c κs = search needs
@@ -26,18 +29,20 @@ same-length-2 c = search needs
 
 returns : tie.Need-returns
 returns c =
-    let seen = c .before .before .before .before .before .before .before .before .see-and-pass in
-    let judge = c .before .before .before .before .before .before .judge in
+    let seen = c .before .before .before .before .before .before .before .before .before .see-and-pass in
+    let cause = c .before .before .before .before .before .before .before .cause in
+    let mark = c .before .before .before .before .before .before .mark in
     let ordered = c .before .before .before .before .before .ordered in
     let output-by = c .before .before .before .output-by in
-    given-is _ _ _ _ _ _ _ _ _ _ _ (seen .ensures .0) (judge .ensures) (ordered .ensures) (output-by .ensures) (seen .ensures .1) (c .report-by .ensures)
+    given-is _ _ _ _ _ _ _ _ _ _ _ _ (seen .ensures .0) (cause .ensures) (mark .ensures) (ordered .ensures) (output-by .ensures) (seen .ensures .1) (c .report-by .ensures)
 
 pub report-oldest-spec : {M : Type 1} → statement M
 report-oldest-spec =
     tie.close
     (tie.spec
     see-and-pass-requires
-    judge-requires
+    cause-requires
+    mark-requires
     ordered-requires
     output-by-requires
     report-by-requires

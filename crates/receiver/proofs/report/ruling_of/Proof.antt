@@ -1,9 +1,9 @@
 use mathlib.Core.Path.{_∙_}
 use native.Mathlib.Omega.{arith}
 use borrow.Author.Needs.{needs}
-use Rattle.step.specs.Laws.ByTable.{own-ruling-with}
 use Rattle.receiver.proofs.report.ruling_of.Statement.{statement}
 use Rattle.receiver.proofs.report.ruling_of.Tie as tie
+use Rattle.step.specs.Theorems.ByTable.{own-ruling-with}
 
 ruling-of-requires : tie.Need-ruling-of-requires
 ruling-of-requires c κs = search needs

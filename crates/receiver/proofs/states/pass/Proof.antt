@@ -1,6 +1,6 @@
 use mathlib.Core.Path.{refl, _∙_}
+use Rattle.phases.specs.Theorems.ByTable.{passed-with}
 use Rattle.receiver.specs.Report.{reportedOf}
-use Rattle.phases.specs.Laws.ByTable.{passed-with}
 use borrow.Author.Needs.{needs}
 use Rattle.receiver.proofs.states.pass.Statement.{statement}
 use Rattle.receiver.proofs.states.pass.Tie as tie

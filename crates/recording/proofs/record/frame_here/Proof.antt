@@ -2,10 +2,11 @@ use mathlib.Core.Bool.{false≢true}
 use mathlib.Core.Path.{sym, ap, _∙_}
 use Prim.Native.Nat.{ℕ, _+_, _≤_}
 use native.Mathlib.Omega.{arith}
-use Rattle.recording.specs.Laws.Here.{here-is, isFrame, piece-within}
 use Rattle.text.specs.Text.{TAB}
 use Rattle.recording.proofs.record.frame_here.Statement.{statement}
 use Rattle.recording.proofs.record.frame_here.Tie as tie
+use Rattle.recording.specs.Laws.Here.{here-is, piece-within}
+use Rattle.recording.specs.Record.{isFrame}
 
 returns : tie.Need-returns
 returns c = λ t. absurd (false≢true t)

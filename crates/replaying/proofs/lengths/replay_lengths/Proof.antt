@@ -1,7 +1,7 @@
 use mathlib.Core.Bool.{true}
 use native.Mathlib.Omega.{arith}
-use Rattle.recording.specs.Laws.Lines.{handed-end, handed-malformed, handed-set, handed-unfinished}
 use Rattle.recording.specs.Opening.{openingIn}
+use Rattle.recording.specs.Theorems.Lines.{handed-end, handed-malformed, handed-set, handed-unfinished}
 use Rattle.replaying.specs.Lengths.{lengthsOf}
 use Rattle.replaying.proofs.lengths.replay_lengths.Statement.{statement}
 use Rattle.replaying.proofs.lengths.replay_lengths.Tie as tie

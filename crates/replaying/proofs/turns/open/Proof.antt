@@ -1,8 +1,8 @@
 use mathlib.Core.Path.{refl}
 use lib.ListN.{length}
 use borrow.Author.Tests.{le-leb, lt-leb}
-use Rattle.recording.specs.Laws.Lines.{handed-end, handed-malformed, handed-set, handed-unfinished}
 use Rattle.recording.specs.Opening.{openingIn}
+use Rattle.recording.specs.Theorems.Lines.{handed-end, handed-malformed, handed-set, handed-unfinished}
 use Rattle.replaying.specs.Turn.{openRows, openSaid, openTurn}
 use native.Mathlib.Omega.{arith}
 use Rattle.replaying.proofs.turns.open.Statement.{statement}

@@ -1,8 +1,8 @@
 use mathlib.Core.List.{[], _∷_}
-use Rattle.reply.specs.Laws.Alone.{aloneLeaves, standing-alone}
 use borrow.Author.Needs.{needs}
 use Rattle.reply.proofs.waiting.standing_alone.Statement.{statement}
 use Rattle.reply.proofs.waiting.standing_alone.Tie as tie
+use Rattle.reply.specs.Theorems.Alone.{aloneLeaves, standing-alone}
 
 is-idle-requires : tie.Need-is-idle-requires
 is-idle-requires c κs = search needs

@@ -1,7 +1,7 @@
 use mathlib.Core.Path.{refl}
 use native.Mathlib.Omega.{arith}
-use Rattle.step.specs.Laws.Run.{count-fits}
 use Rattle.step.specs.Run.{furtherRun}
+use Rattle.step.specs.Theorems.Run.{count-fits}
 use borrow.Author.Needs.{needs}
 use Rattle.step.proofs.run.further.Statement.{statement}
 use Rattle.step.proofs.run.further.Tie as tie

@@ -1,6 +1,6 @@
 use mathlib.Core.Path.{refl, sym, _∙_}
-use Rattle.step.specs.Laws.Run.{few-breaks}
 use Rattle.step.specs.Run.{stayedRun}
+use Rattle.step.specs.Theorems.Run.{few-breaks}
 use borrow.Author.Needs.{needs}
 use Rattle.step.proofs.run.stays.Statement.{statement}
 use Rattle.step.proofs.run.stays.Tie as tie

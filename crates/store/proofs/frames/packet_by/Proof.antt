@@ -1,6 +1,6 @@
 -- The invariant: the symbols of the first k frames are read.
 use Rattle.packet.specs.Kinds.{frames}
-use Rattle.packet.specs.Laws.Symbols.{entry-in, row-is}
+use Rattle.packet.specs.Theorems.Symbols.{entry-in, row-is}
 use mathlib.Core.Path.{_≡_, refl}
 use Prim.Native.Nat.{_≤_, _-_}
 use native.Mathlib.Omega.{arith}

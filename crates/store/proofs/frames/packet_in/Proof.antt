@@ -1,7 +1,7 @@
 use borrow.Author.Needs.{needs}
 use borrow.Author.Tests.{ne-eqb}
 use mathlib.Core.Path.{_∙_}
-use Rattle.packet.specs.Laws.Symbols.{h4-row}
+use Rattle.packet.specs.Theorems.Symbols.{h4-row}
 use Rattle.store.specs.Frames.{h4At, packetIn, placeIn}
 use Rattle.store.proofs.frames.packet_in.Statement.{statement}
 use Rattle.store.proofs.frames.packet_in.Tie as tie

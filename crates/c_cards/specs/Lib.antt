@@ -1,0 +1,11 @@
+pub mod CardCalls
+pub mod Cards
+pub mod Changes
+pub mod Going
+pub mod Laws
+pub mod Listening
+pub mod Opened
+pub mod Orders
+pub mod Plans
+pub mod Runs
+pub mod Theorems

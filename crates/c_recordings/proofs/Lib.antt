@@ -1,0 +1,2 @@
+pub mod LengthsTold
+pub mod Replaying

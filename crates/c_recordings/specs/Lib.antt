@@ -1,0 +1,4 @@
+pub mod Mends
+pub mod Opened
+pub mod Replays
+pub mod Theorems

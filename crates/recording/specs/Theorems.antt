@@ -1,0 +1,2 @@
+-- What is proved of a recording's lines.
+pub mod Lines

@@ -1,0 +1,2 @@
+-- What is proved of texts.
+pub mod Decimal
