@@ -45,6 +45,12 @@ module _ (h w : ℕ) (even : Even h w) where
       (λ (s : ((h ≡ 4) × (w ≡ 32)) ⊎ ((h ≡ 8) × (w ≡ 16))). ⊎-elim (λ (t : (h ≡ 4) × (w ≡ 32)). rw (t .0, t .1) (refl, refl, omega arith, omega arith, omega arith)) (λ (t : (h ≡ 8) × (w ≡ 16)). rw (t .0, t .1) (refl, refl, omega arith, omega arith, omega arith)) s)
       even
 
+  pub even-few : h ≤ 8
+  even-few =
+      ⊎-elim (λ (s : (h ≡ 2) × (w ≡ 64)). omega (arith, s .0))
+      (λ (s : ((h ≡ 4) × (w ≡ 32)) ⊎ ((h ≡ 8) × (w ≡ 16))). ⊎-elim (λ (t : (h ≡ 4) × (w ≡ 32)). omega (arith, t .0)) (λ (t : (h ≡ 8) × (w ≡ 16)). omega (arith, t .0)) s)
+      even
+
 -- a run of bytes is all columns of n lines
 pub lines-run : (X place j n size : ℕ) (t d out : List ℕ) → 0 < X → size ≡ n * X → out ≡ fillAt (place + j * X) size (λ i. getD t (0 + i) 0) d
     → out ≡ drawn (area X place j n 0 X) (lineByte X X place j 0 t) d

@@ -6,8 +6,7 @@ use Prim.Native.Nat.{ℕ, zero, suc, _+_, _-_, _*_, _/_, _%_, _≤_, _<_}
 use native.Mathlib.Nat.{not-suc-le-zero, mod-lt, div-add-mod', div-lt-iff-lt-mul}
 use native.Mathlib.Omega.{arith}
 use lib.Arith.{digits-div, digits-mod}
-use lib.ListN.{length, getD, take, drop, length-drop}
-use lib.Seq.{take-all, getD-drop}
+use lib.ListN.{length, getD}
 use Rattle.ground.specs.Drawn.{fillAt, fillAt-all, length-fillAt, getD-fillAt, getD-before, getD-after}
 use Rattle.ground.specs.Table.{tabulate, tabulate-ext, tabulate-self, getD-tabulate}
 use Rattle.ground.specs.Truth.{le-or-lt}
@@ -15,6 +14,7 @@ use Rattle.payload.specs.Inner.Block.{Rows, turned}
 use Rattle.payload.specs.Inner.Deal.{Dealt}
 use Rattle.payload.specs.Inner.Front.{Front}
 use Rattle.payload.specs.Joining.{rankedByte, startedByte}
+use Rattle.payload.specs.Laws.Shifts.{getD-rest, storeFrom}
 use Rattle.payload.specs.Order.{groupByte, groupFrame}
 
 pub front-none : (place end : ℕ) (f : ℕ → ℕ) (d : List ℕ) → Front place 0 end f d d
@@ -187,17 +187,10 @@ over-all {place} {d} {mid} x n p m g out two pos long h e agree =
         ∙ sym (ap₂ m (ap (λ (k : ℕ). k % x) whole ∙ digits-mod (n + i / x) r) (ap (λ (k : ℕ). k / x) whole ∙ digits-div (n + i / x) r))
 
 -- what is lent of a store from a place on
-module _ (n : ℕ) (store : List ℕ) where
-  rest : take (length store - n) (drop n store) ≡ drop n store
-  rest = take-all (length store - n) (drop n store) (omega (arith, length-drop n store))
-
-  pub length-rest : length (take (length store - n) (drop n store)) ≡ length store - n
-  length-rest = ap length rest ∙ length-drop n store
-
-  pub started-rest : (starts : List ℕ) (r i : ℕ) → startedByte starts (take (length store - n) (drop n store)) r i ≡ startedByte starts store r (n + i)
-  started-rest starts r i =
-      let e : n + (getD starts r 0 + i) ≡ getD starts r 0 + (n + i) = omega arith in
-      ap (λ (l : List ℕ). getD l (getD starts r 0 + i) 0) rest ∙ getD-drop n store (getD starts r 0 + i) 0 ∙ ap (λ (k : ℕ). getD store k 0) e
+pub started-rest : (n : ℕ) (store starts : List ℕ) (r i : ℕ) → startedByte starts (storeFrom n store) r i ≡ startedByte starts store r (n + i)
+started-rest n store starts r i =
+    let e : n + (getD starts r 0 + i) ≡ getD starts r 0 + (n + i) = omega arith in
+    getD-rest n store (getD starts r 0 + i) ∙ ap (λ (k : ℕ). getD store k 0) e
 
 -- where members that lie one after the other start
 abbrev pub startsOf : ℕ → List ℕ

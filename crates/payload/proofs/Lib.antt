@@ -6,3 +6,4 @@ pub mod Evens
 pub mod Frames
 pub mod Fronts
 pub mod Shuffles
+pub mod Starts

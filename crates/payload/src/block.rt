@@ -6,6 +6,7 @@ ghost use mathlib.Core.Path.{_≡_};
 ghost use Prim.Native.Nat.{ℕ, _+_, _-_, _*_, _≤_, _<_, min};
 ghost use lib.ListN.{length, getD};
 ghost use Rattle.ground.specs.Drawn.{drawn, fillAt};
+ghost use Rattle.ground.specs.Table.{tabulate};
 ghost use Rattle.payload.specs.Inner.Area.{area};
 ghost use Rattle.payload.specs.Inner.Block.{Rows, Sizes, lineByte, rowByte};
 ghost use Rattle.payload.specs.Joining.{rankedByte, startedByte};
@@ -36,6 +37,21 @@ pub(crate) fn read_ranked(
         copy::by_bytes(members, (r + l) * p + j, w, l * w, q);
         l += 1;
     }
+}
+
+// The starts of up to eight members in an array of their own: nothing that is stored in the output can change them, so the compiler reads them once. Behind the
+// last one it is repeated: so there are always eight rows to be read, and none is asked for.
+pub(crate) fn few_of(x: usize, starts: &[usize]) -> [usize; 8]
+    requires { ⌜ (1 ≤ x) × (x ≤ length (now starts)) ⌝ }
+    ensures { λ s. ⌜ s ≡ tabulate 8 (λ r. getD (now (starts .entry)) (min r (x - 1)) 0) ⌝ }
+{
+    let mut own = [0; 8];
+    let mut r = 0;
+    while r < 8 {
+        own[r] = starts[start(r, x, 1)];
+        r += 1;
+    }
+    own
 }
 
 // The bytes of some members that start anywhere, a row of each.

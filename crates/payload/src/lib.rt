@@ -67,17 +67,17 @@ pub fn spread_one(x: usize, p: usize, r: usize, frame: &[u8], member: &mut [u8])
 pub fn join_from(
     x: usize,
     p: usize,
-    starts: [usize; 64],
+    starts: &[usize; 64],
     store: &[u8],
     place: usize,
     out: &mut [u8],
 ) -> Answer
-    ensures { λ r. ⌜ (r ≡ fromAnswer x p starts (length (now (store .entry))) place (length (now (out .entry))))
-        × (now (out .exit) ≡ joinedFrom x p starts (now (store .entry)) place (now (out .entry))) ⌝ }
+    ensures { λ r. ⌜ (r ≡ fromAnswer x p (now (starts .entry)) (length (now (store .entry))) place (length (now (out .entry))))
+        × (now (out .exit) ≡ joinedFrom x p (now (starts .entry)) (now (store .entry)) place (now (out .entry))) ⌝ }
 {
-    match answer::from(x, p, &starts, store.len(), place, out.len()) {
+    match answer::from(x, p, starts, store.len(), place, out.len()) {
         Answer::Done => {
-            work::join_from(x, p, &starts, store, place, out);
+            work::join_from(x, p, starts, store, place, out);
             Answer::Done
         }
         Answer::Range => Answer::Range,

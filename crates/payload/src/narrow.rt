@@ -62,11 +62,12 @@ pub(crate) fn join_from(
     requires { ⌜ Even x w × (w ≤ p) × (x ≤ length (now starts)) × ((r : ℕ) → r < x → getD (now starts) r 0 + p ≤ length (now store)) × (place + x * p ≤ length (now out)) ⌝ }
     ensures { λ _. ⌜ now (out .exit) ≡ fillAt place (x * p) (groupByte x (startedByte (now (starts .entry)) (now (store .entry)))) (now (out .entry)) ⌝ }
 {
+    let own = block::few_of(x, starts);
     let mut c = 0;
     while c < p {
         let j = block::start(c, p, w);
         let mut q = [0; 128];
-        block::read_started(x, w, starts, store, 0, j, &mut q);
+        block::read_started(x, w, &own, store, 0, j, &mut q);
         lay(x, w, q, place, j, out);
         c += w;
     }

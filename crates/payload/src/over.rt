@@ -95,11 +95,12 @@ fn lines(x: usize, p: usize, n: usize, starts: &[usize], store: &[u8], place: us
     requires { ⌜ (3 ≤ x) × (x ≤ 8) × (16 ≤ n) × (n + 2 ≤ p) × (x ≤ length (now starts)) × ((r : ℕ) → r < x → getD (now starts) r 0 + p ≤ length (now store)) × (place + x * p ≤ length (now out)) ⌝ }
     ensures { λ _. ⌜ Front place (n * x) (place + x * p) (groupByte x (startedByte (now (starts .entry)) (now (store .entry)))) (now (out .entry)) (now (out .exit)) ⌝ }
 {
+    let own = block::few_of(x, starts);
     let mut c = 0;
     while c < n {
         let j = block::start(c, n, 16);
         let mut q = [0; 128];
-        block::read_started(x, 16, starts, store, 0, j, &mut q);
+        block::read_started(8, 16, &own, store, 0, j, &mut q);
         lay(q, x, place + j * x, out);
         c += 16;
     }

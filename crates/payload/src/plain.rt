@@ -5,8 +5,8 @@ ghost use lib.ListN.{length, getD};
 ghost use Rattle.ground.specs.Drawn.{drawn, fillAt};
 ghost use Rattle.ground.specs.Table.{tabulate};
 ghost use Rattle.payload.specs.Inner.Area.{area};
-ghost use Rattle.payload.specs.Order.{groupByte, groupFrame, memberFrame};
-ghost use Rattle.payload.specs.Joining.{rankedByte, startedByte};
+ghost use Rattle.payload.specs.Order.{groupByte, memberFrame};
+ghost use Rattle.payload.specs.Joining.{startedByte};
 ghost use Rattle.payload.specs.Spreading.{allMembers};
 
 // A member out of its group frame: byte j is the frame's byte j X + r.
@@ -57,18 +57,6 @@ pub(crate) fn join_from(
     while r < x {
         let start = starts[r];
         column(x, p, r, store, start, place, out);
-        r += 1;
-    }
-}
-
-// Members one after the other, into a frame.
-pub(crate) fn join(x: usize, p: usize, members: &[u8], frame: &mut [u8])
-    requires { ⌜ (length (now members) ≡ x * p) × (length (now frame) ≡ x * p) ⌝ }
-    ensures { λ _. ⌜ now (frame .exit) ≡ groupFrame x p (rankedByte p (now (members .entry))) ⌝ }
-{
-    let mut r = 0;
-    while r < x {
-        column(x, p, r, members, r * p, 0, frame);
         r += 1;
     }
 }

@@ -9,6 +9,8 @@ ghost use mathlib.Core.Path.{_≡_};
 ghost use Prim.Native.Nat.{ℕ, _+_, _*_, _≤_, _<_};
 ghost use lib.ListN.{length, getD};
 ghost use Rattle.ground.specs.Drawn.{fillAt};
+ghost use Rattle.ground.specs.Table.{tabulate};
+ghost use Rattle.payload.specs.Answers.{PAYLOAD-MOST};
 ghost use Rattle.payload.specs.Inner.Block.{Sizes};
 ghost use Rattle.payload.specs.Joining.{rankedByte, startedByte};
 ghost use Rattle.payload.specs.Order.{groupByte, groupFrame};
@@ -22,8 +24,23 @@ fn rows(x: usize) -> usize
     if x < 16 { 8 } else { 16 }
 }
 
+// Where members start that lie one after the other.
+fn all_starts(p: usize) -> [usize; 64]
+    requires { ⌜ p ≤ PAYLOAD-MOST ⌝ }
+    ensures { λ s. ⌜ s ≡ tabulate 64 (λ r. r * p) ⌝ }
+{
+    let mut starts = [0; 64];
+    let mut r = 0;
+    while r < 64 {
+        starts[r] = r * p;
+        r += 1;
+    }
+    starts
+}
+
+// The last choice is a call that a report's joining has too: so the compiler takes it into neither, and a report's code stays small.
 pub(crate) fn join(x: usize, p: usize, members: &[u8], frame: &mut [u8])
-    requires { ⌜ (length (now members) ≡ x * p) × (length (now frame) ≡ x * p) ⌝ }
+    requires { ⌜ (x ≤ 64) × (p ≤ PAYLOAD-MOST) × (length (now members) ≡ x * p) × (length (now frame) ≡ x * p) ⌝ }
     ensures { λ _. ⌜ now (frame .exit) ≡ groupFrame x p (rankedByte p (now (members .entry))) ⌝ }
 {
     if x == 1 {
@@ -39,7 +56,8 @@ pub(crate) fn join(x: usize, p: usize, members: &[u8], frame: &mut [u8])
     } else if (8 <= x) & (16 <= p) {
         block::join(rows(x), 16, x, p, members, frame);
     } else {
-        plain::join(x, p, members, frame);
+        let starts = all_starts(p);
+        join_from(x, p, &starts, members, 0, frame);
     }
 }
 

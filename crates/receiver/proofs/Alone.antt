@@ -1,12 +1,19 @@
--- The frame of a member alone, and the states of a port alone.
+-- A frame out of the rings, the frame of a member alone, and the states of a port alone.
 use mathlib.Core.Path.{_≡_, refl, _∙_, sym, ap, ap₂}
+use mathlib.Core.Bool.{true, false, _&&_}
 use mathlib.Core.List.{List, [], _∷_}
-use Prim.Native.Nat.{ℕ, _*_}
+use Prim.Native.Nat.{ℕ, _+_, _*_, _≤_}
 use native.Mathlib.Omega.{arith}
-use lib.ListN.{getD, length-replicate, replicate, set}
-use Rattle.counting.specs.Each.{done-none, done-more, getD-each}
+use lib.Dec.{leb}
+use lib.ListN.{getD, length, length-replicate, replicate, take, drop}
+use borrow.Author.Tests.{leb-true}
+use Rattle.counting.specs.Each.{getD-each}
+use Rattle.ground.specs.Truth.{and-left, and-right}
 use Rattle.judge.specs.declared.order.Order.{Order}
+use Rattle.payload.specs.Answers.{PAYLOAD-MOST}
 use Rattle.payload.specs.Joining.{joinedFrom}
+use Rattle.payload.specs.Laws.Shifts.{storeFrom}
+use Rattle.payload.specs.Laying.{laid}
 use Rattle.phases.specs.Passing.{groupTo}
 use Rattle.reply.specs.Theorems.Alone.{ack-first, leaves-first}
 use Rattle.reply.specs.declared.members.Port.{Port}
@@ -18,21 +25,30 @@ use Rattle.rows.specs.declared.group.Group.{Group}
 use Rattle.rows.specs.Group.{putGroup}
 use Rattle.rows.specs.Member.{memberAt, putMember}
 use Rattle.store.specs.Frames.{placeIn}
-use Rattle.receiver.specs.Report.{frameInto, noPort, replyPort, replyPorts, startsOf, statePut, statesPut, statesWorkedOut, withState}
+use Rattle.receiver.specs.Laws.Rings.{frame-alone, frame-none, frame-shifted, ringsOf}
+use Rattle.receiver.specs.Report.{frameInto, noPort, replyPort, replyPorts, statePut, statesPut, statesWorkedOut, withState}
 
--- it has one start
-alone-start : (g : Group) (order : List ℕ) (k : ℕ) → set (replicate 64 0) 0 (placeIn g (getD order 0 0) k) ≡ startsOf g order 1 k
-unfolding startsOf
-alone-start g order k =
-    done-more (placeIn g (getD order 0 0) k) (done-none (λ r. placeIn g (getD order r 0) k) (replicate 64 0)) refl .is
+pub frame-by : (g : Group) (o : Order) (k : ℕ) (store out : List ℕ) (shift : ℕ) (rings new : List ℕ) → shift ≡ placeIn g 0 k → rings ≡ ringsOf g (o .ports) (o .x)
+    → shift ≤ length store → new ≡ joinedFrom (o .x) (g .payload) rings (storeFrom shift store) (k * (o .x * g .payload)) out → new ≡ frameInto g o store k out
+frame-by g o k store out shift rings new far are in-it e =
+    e ∙ ap₂ (λ (r : List ℕ) (s : ℕ). joinedFrom (o .x) (g .payload) r (storeFrom s store) (k * (o .x * g .payload)) out) are far
+    ∙ frame-shifted g o k store out (omega (arith, far, in-it))
 
-pub alone-frame : (g : Group) (o : Order) (store out : List ℕ) (k : ℕ) → o .x ≡ 1
-    → joinedFrom 1 (g .payload) (set (replicate 64 0) 0 (placeIn g (getD (o .ports) 0 0) k)) store (k * g .payload) out ≡ frameInto g o store k out
-unfolding frameInto
-alone-frame g o store out k e =
-    let m : g .payload ≡ 1 * g .payload = omega arith in
-    ap₂ (λ (s : List ℕ) (p : ℕ). joinedFrom 1 (g .payload) s store (k * p) out) (alone-start g (o .ports) k) m
-    ∙ ap (λ (x : ℕ). joinedFrom x (g .payload) (startsOf g (o .ports) x k) store (k * (x * g .payload)) out) (sym e)
+module _ (g : Group) (o : Order) (k : ℕ) (store out : List ℕ) (one : o .x ≡ 1) (start : ℕ) (is : start ≡ placeIn g (getD (o .ports) 0 0) k) where
+  pub alone-run : (n : ℕ) (new : List ℕ) → n ≡ g .payload → ((leb 1 (g .payload) && leb (g .payload) PAYLOAD-MOST) && leb (start + g .payload) (length store)) ≡ true
+      → new ≡ laid (k * g .payload) (take n (drop start store)) out → new ≡ frameInto g o store k out
+  alone-run n new all fits e =
+      let sizes = and-left (leb 1 (g .payload) && leb (g .payload) PAYLOAD-MOST) (leb (start + g .payload) (length store)) fits in
+      let least = leb-true 1 (g .payload) (and-left (leb 1 (g .payload)) (leb (g .payload) PAYLOAD-MOST) sizes) in
+      let most = leb-true (g .payload) PAYLOAD-MOST (and-right (leb 1 (g .payload)) (leb (g .payload) PAYLOAD-MOST) sizes) in
+      let in-it = run-in fits in
+      e ∙ ap₂ (λ (m s : ℕ). laid (k * g .payload) (take m (drop s store)) out) all is ∙ frame-alone g o k store out one least most (omega (arith, is, in-it))
+    where
+      run-in : ((leb 1 (g .payload) && leb (g .payload) PAYLOAD-MOST) && leb (start + g .payload) (length store)) ≡ true → start + g .payload ≤ length store
+      run-in h = leb-true (start + g .payload) (length store) (and-right (leb 1 (g .payload) && leb (g .payload) PAYLOAD-MOST) (leb (start + g .payload) (length store)) h)
+
+  pub alone-short : ((leb 1 (g .payload) && leb (g .payload) PAYLOAD-MOST) && leb (start + g .payload) (length store)) ≡ false → out ≡ frameInto g o store k out
+  alone-short fails = frame-none g o k store out one (rw is at fails)
 
 -- what is worked out of a port alone
 module _ (g : Group) (s : List (List ℕ)) where

@@ -5,6 +5,7 @@ pub mod Answers
 pub mod Fresh
 pub mod Frames
 pub mod Passed
+pub mod Rings
 pub mod Seen
 pub mod Told
 pub mod Bytes

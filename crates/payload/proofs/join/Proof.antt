@@ -15,7 +15,7 @@ join-requires : tie.Need-join-requires
 join-requires c κs =
     let a = c .before .before .before .before .before .before .args in
     let f = whole-fits (a .x) (a .p) (length (a .members .now)) (length (a .frame .now)) (sym (c .before .before .before .whole .ensures) ∙ c .before .enum-told .given .1) in
-    (f .from-is, f .to-is)
+    (f .size .ranks, f .size .most, f .from-is, f .to-is)
 
 enum-told-2 : tie.Need-enum-told-2
 enum-told-2 c = omega arith

@@ -6,17 +6,11 @@ use Rattle.payload.specs.Laws.Fits.{from-fits}
 use Rattle.payload.proofs.join_from.Statement.{statement}
 use Rattle.payload.proofs.join_from.Tie as tie
 
-slice-aggregate-from : tie.Need-slice-aggregate-from
-slice-aggregate-from c = omega arith
-
 from-requires : tie.Need-from-requires
 from-requires c κs = omega arith
 
 enum-told : tie.Need-enum-told
 enum-told c = omega arith
-
-slice-aggregate-join-from : tie.Need-slice-aggregate-join-from
-slice-aggregate-join-from c = omega arith
 
 join-from-requires : tie.Need-join-from-requires
 join-from-requires c κs =
@@ -24,7 +18,7 @@ join-from-requires c κs =
     let at-from = at-enum-told .before .before in
     let at-start = at-from .before .before .before .before in
     let a = at-start .args in
-    let f = from-fits (a .x) (a .p) (a .t3) (length (a .store .now)) (a .place) (length (a .out .now)) (sym (at-from .from .ensures) ∙ at-enum-told .enum-told .given .1) in
+    let f = from-fits (a .x) (a .p) (a .starts .now) (length (a .store .now)) (a .place) (length (a .out .now)) (sym (at-from .from .ensures) ∙ at-enum-told .enum-told .given .1) in
     (omega arith, f .members-in, f .frame-in)
 
 enum-told-2 : tie.Need-enum-told-2
@@ -49,10 +43,8 @@ pub join-from-spec : {M : Type 1} → statement M
 join-from-spec =
     tie.close
     (tie.spec
-    slice-aggregate-from
     from-requires
     enum-told
-    slice-aggregate-join-from
     join-from-requires
     enum-told-2
     enum-told-3

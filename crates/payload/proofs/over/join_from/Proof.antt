@@ -1,10 +1,11 @@
 -- `join_from` meets its contract: a front of all lines but two, and those two behind it (`over-all`).
 use Prim.Native.Nat.{ℕ, _<_, _≤_, _-_}
 use native.Mathlib.Omega.{arith}
-use lib.ListN.{length, take, drop}
+use lib.ListN.{length}
 use Rattle.payload.specs.Joining.{startedByte}
+use Rattle.payload.specs.Laws.Shifts.{length-rest, storeFrom}
 use Rattle.payload.proofs.Blocks.{BlockIn, block-in}
-use Rattle.payload.proofs.Fronts.{over-all, length-rest, started-rest}
+use Rattle.payload.proofs.Fronts.{over-all, started-rest}
 use borrow.Author.Needs.{needs}
 use Rattle.payload.proofs.over.join_from.Statement.{statement}
 use Rattle.payload.proofs.over.join_from.Tie as tie
@@ -54,7 +55,7 @@ returns c =
     let h = c .before .before .before .before .before .before .before .before .before .before .before .before .pre in
     let n : ℕ = a .p - 2 in
     let pos : 0 < a .x = omega (arith, h .0) in
-    over-all (a .x) n (a .p) (startedByte (a .starts .now) (a .store .now)) (startedByte (a .starts .now) (take (length (a .store .now) - n) (drop n (a .store .now)))) _ (omega (arith, h .2)) pos (h .5)
+    over-all (a .x) n (a .p) (startedByte (a .starts .now) (a .store .now)) (startedByte (a .starts .now) (storeFrom n (a .store .now))) _ (omega (arith, h .2)) pos (h .5)
     (c .before .before .before .before .before .before .before .most-lines .ensures) (c .before .before .join-from .ensures) (λ r i. started-rest n (a .store .now) (a .starts .now) r i)
 
 pub join-from-spec : {M : Type 1} → statement M

@@ -1,53 +1,32 @@
-use mathlib.Core.Path.{_≡_, refl, ap, _∙_}
-use Prim.Native.Nat.{_≤_, _-_}
-use native.Mathlib.Numerals.{add-one}
-use native.Mathlib.Omega.{arith}
-use lib.ListN.{length}
 use borrow.Author.Needs.{needs}
-use Rattle.receiver.specs.Report.{framesInto}
-use Rattle.receiver.specs.Laws.Lengths.{length-frames-into}
 use Rattle.receiver.proofs.joining.frames_into.Statement.{statement}
 use Rattle.receiver.proofs.joining.frames_into.Tie as tie
 
-abbrev Inv-loop : tie.InvT-loop
-Inv-loop group order store count out₀ k₀ out k = (k ≤ count) × (out ≡ framesInto group order store k out₀)
+frames-alone-requires : tie.Need-frames-alone-requires
+frames-alone-requires c κs = search needs
 
-abbrev μ-loop : tie.MeasureT-loop
-μ-loop group order store count out₀ k₀ out k = count - k
+frames-joined-requires : tie.Need-frames-joined-requires
+frames-joined-requires c κs = search needs
 
-loop-holds : tie.Need-loop-holds Inv-loop μ-loop
-unfolding framesInto
-loop-holds c = (omega arith, refl)
+same-length : tie.Need-same-length
+same-length c = search needs
 
-frame-into-requires : tie.Need-frame-into-requires Inv-loop μ-loop
-frame-into-requires c κs = search needs
+returns : tie.Need-returns
+returns c = search needs
 
-add-k : tie.Need-add-k Inv-loop μ-loop
-add-k c = search needs
+same-length-2 : tie.Need-same-length-2
+same-length-2 c = search needs
 
-loop-less : tie.Need-loop-less Inv-loop μ-loop
-loop-less c = search needs
-
-loop-again : tie.Need-loop-again Inv-loop μ-loop
-unfolding framesInto
-loop-again c = (omega arith, rw (add-one, ← c .before .before .before .before .before .loop .inv .1) (c .before .before .frame-into .ensures))
-
-same-length : tie.Need-same-length Inv-loop μ-loop
-same-length c = ap length (c .before .loop .inv .1) ∙ length-frames-into _ _ _ _ _
-
-returns : tie.Need-returns Inv-loop μ-loop
-returns c = let e : c .before .loop .k ≡ c .before .before .before .before .args .count = omega arith in rw e at (c .before .loop .inv .1)
+returns-2 : tie.Need-returns-2
+returns-2 c = search needs
 
 pub frames-into-spec : {M : Type 1} → statement M
 frames-into-spec =
     tie.close
     (tie.spec
-    Inv-loop
-    μ-loop
-    loop-holds
-    frame-into-requires
-    add-k
-    loop-less
-    loop-again
+    frames-alone-requires
+    frames-joined-requires
     same-length
-    returns)
+    returns
+    same-length-2
+    returns-2)
