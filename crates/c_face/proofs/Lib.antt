@@ -6,6 +6,7 @@ pub mod Pieces
 pub mod Planning
 pub mod Replaying
 pub mod SenderCalls
+pub mod Settings
 pub mod Showing
 pub mod Telling
 pub mod Tells

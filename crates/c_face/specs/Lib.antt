@@ -16,4 +16,5 @@ pub mod Receivers
 pub mod Replays
 pub mod Runs
 pub mod Senders
+pub mod Settings
 pub mod Theorems

@@ -13,6 +13,7 @@ use Rattle.c_face.specs.Orders.{kindAnswerOn, kindStateOn, orderAnswerOn
 use Rattle.c_face.specs.Packets.{readAnswerC, readFieldsC, readFixedAnswerC, readFixedFieldsC, readVc12AnswerC, readVc12FieldsC}
 use Rattle.c_face.specs.Plans.{lentAnswer, lentBytes}
 use Rattle.c_face.specs.Senders.{callAnswerC, callStateC, packetAnswerC, packetBytesC, payloadAnswerC, payloadBytesC, sends, startAnswerC, startStateC}
+use Rattle.c_face.specs.Settings.{senderSettings}
 use Rattle.c_face.specs.CardCalls.{slotsOf}
 use Rattle.c_face.specs.Runs.{runsAnswerC, runsBytesC, runsWrittenC, wholeAnswerC, wholeBytesC, wholeWrittenC}
 use Rattle.c_face.specs.Replays.{beginAnswerC, beginStateC, bytesOf as bytesOf-Replays, lineIn, outLengthC, replayOf, storeLengthC, turnAnswerC, turnAtC, turnOutC, turnRowsC, turnSaidC, turnStateC, turnStoreC, turnWantsC, turnWrittenC}
@@ -24,7 +25,7 @@ unfolding mendingOpen ordersOpen spokenOpen pathsOpen boardByte boardBytesOf ran
     startStateOn appliedAnswerC appliedBytesC changesByte changesBytesOf changesFrom comparedAnswerC comparedBytesC listFrom spokenAnswerC
     spokenBytesC writtenC byteAt bytesOf rowsIn senderOf slotsIn mendedLengthC notesLengthC kindAnswerOn kindStateOn orderAnswerOn orderAnswersOn
     orderStateOn readAnswerC readFieldsC readFixedAnswerC readFixedFieldsC readVc12AnswerC readVc12FieldsC lentAnswer lentBytes callAnswerC callStateC
-    packetAnswerC packetBytesC payloadAnswerC payloadBytesC sends startAnswerC startStateC slotsOf runsAnswerC runsBytesC runsWrittenC wholeAnswerC
+    packetAnswerC packetBytesC payloadAnswerC payloadBytesC sends startAnswerC startStateC senderSettings slotsOf runsAnswerC runsBytesC runsWrittenC wholeAnswerC
     wholeBytesC wholeWrittenC lineIn replayOf bytesOf-Replays storeLengthC outLengthC beginAnswerC beginStateC turnAnswerC turnStateC turnAtC
     turnRowsC turnStoreC turnOutC turnWrittenC turnWantsC turnSaidC goingAnswer goingChanges goingTold changesAnswerC changesBytesC changesToldC
     changesAnswerOn changesBytesOn changesToldOn

@@ -12,4 +12,5 @@ mod plans;
 mod receivers;
 mod replays;
 mod runs;
+mod seeing;
 mod senders;
