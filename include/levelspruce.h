@@ -118,6 +118,10 @@ extern "C" {
 #define LEVELSPRUCE_REPORT_BYTES 8  /* the record of a report */
 #define LEVELSPRUCE_PORT_BYTES 8    /* what is shown of a port */
 #define LEVELSPRUCE_REPLY_BYTES 2   /* a reply */
+#define LEVELSPRUCE_SEEN_BYTES 10   /* the packet that rules a port */
+#define LEVELSPRUCE_HEARD_BYTES 4   /* what the far end says back */
+#define LEVELSPRUCE_SETTINGS 4      /* a receiver's settings: numbers, not bytes */
+#define LEVELSPRUCE_SENDER_SETTINGS_BYTES 5 /* a sender's settings */
 #define LEVELSPRUCE_PLAN_BYTES 65   /* a plan of which paths to join */
 #define LEVELSPRUCE_REPLAY_BYTES 17 /* how far a recording has been replayed */
 #define LEVELSPRUCE_REPLAY_ROOM 1160 /* what one turn of a replay prints, at most */
@@ -186,6 +190,13 @@ extern "C" {
 #define LEVELSPRUCE_RANKS_X 3
 #define LEVELSPRUCE_RANKS_EACH 4
 #define LEVELSPRUCE_RANK_NONE 255
+
+/* The bytes of a sender's settings. */
+#define LEVELSPRUCE_SENDER_SETTING_KIND 0
+#define LEVELSPRUCE_SENDER_SETTING_SLOTS 1
+#define LEVELSPRUCE_SENDER_SETTING_NEXT 2   /* the next epoch to start */
+#define LEVELSPRUCE_SENDER_SETTING_WAIT 3   /* 1 while a wait is open */
+#define LEVELSPRUCE_SENDER_SETTING_RS_ACK 4 /* the bit that it remembers */
 
 /*
  * The version of the library that is linked, as LEVELSPRUCE_VERSION has that
@@ -633,6 +644,22 @@ uint8_t levelspruce_sender_board_going(const uint8_t *state,
 LEVELSPRUCE_MUST_USE
 uint8_t levelspruce_sender_ranks(const uint8_t *state, size_t state_length,
                                  uint8_t *ranks, size_t ranks_length);
+
+/*
+ * Reads a sender's settings: the kind of its packets, its slots, the number of
+ * the next epoch to start, 1 while a wait is open, and the RS-Ack that it
+ * remembers.
+ *
+ *   settings   LEVELSPRUCE_SENDER_SETTINGS_BYTES bytes, by the
+ *              LEVELSPRUCE_SENDER_SETTING_ places
+ *
+ * Answers, the first that fits:
+ *   9  state_length or settings_length is wrong
+ *   0  all of settings is written
+ */
+LEVELSPRUCE_MUST_USE
+uint8_t levelspruce_sender_settings(const uint8_t *state, size_t state_length,
+                                    uint8_t *settings, size_t settings_length);
 
 /*
  * Two circuits on one card: two groups, 0 and 1, share the card's slots. A slot
@@ -1187,6 +1214,36 @@ uint8_t levelspruce_board_speak_whole(const uint8_t *board, size_t board_length,
 #define LEVELSPRUCE_REPLY_MST 0
 #define LEVELSPRUCE_REPLY_RS_ACK 1
 
+/* The bytes of what is seen of a port: the packet that rules the oldest epoch
+ * not yet reported, which is that of the epoch before. Where it is not whole,
+ * all but HERE are 0; where its answer is not 0, EPOCH to RS_ACK are 0. Of a
+ * fixed group GID, MST and RS_ACK are 0. */
+#define LEVELSPRUCE_SEEN_WHOLE 0  /* 1 where all frames of the packet came */
+#define LEVELSPRUCE_SEEN_ANSWER 1 /* 0, 5, 6 or 7, as of levelspruce_packet_read */
+#define LEVELSPRUCE_SEEN_OTHER 2  /* 1 where it carries another MFI2 than the receiver's own count; the packet is then judged as one with 5; 0 of VC-12, whose step rule has the count */
+#define LEVELSPRUCE_SEEN_EPOCH 3  /* the epoch that it carries */
+#define LEVELSPRUCE_SEEN_WORD 4
+#define LEVELSPRUCE_SEEN_NUMBER 5
+#define LEVELSPRUCE_SEEN_GID 6
+#define LEVELSPRUCE_SEEN_MST 7
+#define LEVELSPRUCE_SEEN_RS_ACK 8
+#define LEVELSPRUCE_SEEN_HERE 9   /* 1 where the port's frames of the oldest epoch are all here */
+
+/* The bytes of what is heard. */
+#define LEVELSPRUCE_HEARD_SAID 0 /* 1, or 0 where no packet is whole and good; the others are 0 then */
+#define LEVELSPRUCE_HEARD_EPOCH 1
+#define LEVELSPRUCE_HEARD_MST 2
+#define LEVELSPRUCE_HEARD_RS_ACK 3
+
+/* What stands for a port that is not in step, among frames behind. */
+#define LEVELSPRUCE_BEHIND_NONE 65535
+
+/* A receiver's settings, by their places; all 0 of an empty group. */
+#define LEVELSPRUCE_SETTING_KIND 0
+#define LEVELSPRUCE_SETTING_PORTS 1
+#define LEVELSPRUCE_SETTING_PAYLOAD 2
+#define LEVELSPRUCE_SETTING_WINDOW 3
+
 /*
  * Starts a receiver of H4: no port has had a frame, all are IDLE, RS-Ack is 0.
  *
@@ -1382,6 +1439,94 @@ LEVELSPRUCE_MUST_USE
 uint8_t levelspruce_receiver_reply(const uint8_t (*state)[LEVELSPRUCE_ROW_BYTES],
                                    size_t state_length, uint8_t epoch,
                                    uint8_t *reply, size_t reply_length);
+
+/*
+ * Reads what the receiver saw: of every port the packet that rules the oldest
+ * epoch not yet reported. It is what a fetch judges that epoch by. Read before
+ * a fetch it says what the report will go by; read after a report it is the
+ * packets of the epoch just reported.
+ *
+ *   seen   as many as the group has ports, each LEVELSPRUCE_SEEN_BYTES bytes by
+ *          the LEVELSPRUCE_SEEN_ places; seen_length counts ports
+ *
+ * Answers, the first that fits:
+ *   9  state_length is wrong, or seen_length is not the group's count
+ *   0  all of seen is written
+ */
+LEVELSPRUCE_MUST_USE
+uint8_t levelspruce_receiver_seen(const uint8_t (*state)[LEVELSPRUCE_ROW_BYTES],
+                                  size_t state_length,
+                                  uint8_t (*seen)[LEVELSPRUCE_SEEN_BYTES],
+                                  size_t seen_length);
+
+/*
+ * Reads the way back: what the far end says in the epoch before the oldest one
+ * not yet reported. Read after each fetch that gave a report it is 1 and the
+ * epoch just reported, its MST and its RS-Ack, from the lowest port whose
+ * packet came whole and good; or four zeros where there is none. Hand it to
+ * levelspruce_sender_report, or levelspruce_card_report, of the sender that
+ * sends the other way. Reports come once and in order, so an RS-Ack from before
+ * a turn never comes after it. Of VC-12 the epoch is 0 to 31, and MST speaks of
+ * the numbers 8 * (epoch % 8) to that plus 7.
+ *
+ *   heard   LEVELSPRUCE_HEARD_BYTES bytes, by the LEVELSPRUCE_HEARD_ places
+ *
+ * Answers, the first that fits:
+ *   9  state_length or heard_length is wrong
+ *   0  all of heard is written
+ */
+LEVELSPRUCE_MUST_USE
+uint8_t levelspruce_receiver_heard(const uint8_t (*state)[LEVELSPRUCE_ROW_BYTES],
+                                   size_t state_length,
+                                   uint8_t *heard, size_t heard_length);
+
+/*
+ * Reads how many frames each port in step lies behind the foremost one now, 0
+ * to 4095, of VC-12 to 1023; LEVELSPRUCE_BEHIND_NONE of a port that is not in
+ * step. Where every port has had a frame and is in step or flagged failed, one
+ * is in step, and none lies more than window - 16 behind, of VC-12 window - 32,
+ * receiving has begun. Between the frames of one frame time a port that has
+ * not had its own is a frame further behind.
+ *
+ *   behind   a number for each port; behind_length counts them
+ *
+ * Answers, the first that fits:
+ *   9  state_length is wrong, or behind_length is not the group's count
+ *   0  all of behind is written
+ */
+LEVELSPRUCE_MUST_USE
+uint8_t levelspruce_receiver_behind(const uint8_t (*state)[LEVELSPRUCE_ROW_BYTES],
+                                    size_t state_length,
+                                    uint32_t *behind, size_t behind_length);
+
+/*
+ * Begins receiving anew: the state is as after one frame flagged failed on
+ * every port, in port order. Receiving stops, unreported epochs are dropped,
+ * every port is out of step; member states and RS-Ack stay. The store is read
+ * and not changed.
+ *
+ * Answers, the first that fits:
+ *   9  state_length or store_length is wrong
+ *   0  done
+ */
+LEVELSPRUCE_MUST_USE
+uint8_t levelspruce_receiver_anew(uint8_t (*state)[LEVELSPRUCE_ROW_BYTES],
+                                  size_t state_length,
+                                  const uint8_t *store, size_t store_length);
+
+/*
+ * Reads what the receiver was started with.
+ *
+ *   settings   LEVELSPRUCE_SETTINGS numbers, by the LEVELSPRUCE_SETTING_ places
+ *
+ * Answers, the first that fits:
+ *   9  state_length or settings_length is wrong
+ *   0  all of settings is written
+ */
+LEVELSPRUCE_MUST_USE
+uint8_t levelspruce_receiver_settings(const uint8_t (*state)[LEVELSPRUCE_ROW_BYTES],
+                                      size_t state_length,
+                                      uint32_t *settings, size_t settings_length);
 
 /*
  * Which paths to join. Candidates are numbered as they are handed over, from 0,

@@ -136,6 +136,37 @@ static int replay_at_edges(uint8_t *open_text, uint8_t *open_store, uint8_t *ope
     return held;
 }
 
+/* What is read out of a receiver and of a sender, and a beginning anew, with the lengths asked for and with others. */
+static int see_at_edges(uint8_t *open_state, uint8_t *open_out, uint8_t *open_store)
+{
+    enum { PORTS = 2, P = 4, W = 64, ROWS = 5 * PORTS + 1, STORE = PORTS * W * (P + 1) };
+    size_t less;
+    int at_end, held = 1;
+
+    for (at_end = 0; at_end < 8; at_end++)
+        for (less = 0; less < 2; less++) {
+            uint8_t *state = buffer_in(open_state, ROWS * LEVELSPRUCE_ROW_BYTES, at_end % 2);
+            uint8_t(*rows)[LEVELSPRUCE_ROW_BYTES] = (void *)state;
+            const uint8_t(*lent)[LEVELSPRUCE_ROW_BYTES] = (const uint8_t(*)[LEVELSPRUCE_ROW_BYTES])rows;
+            size_t ports = PORTS - less, four = 4 - less;
+            int out_end = at_end / 2 % 2;
+            uint8_t expected = less == 0 ? LEVELSPRUCE_ANSWER_DONE : LEVELSPRUCE_ANSWER_LENGTH;
+
+            held = held && levelspruce_receiver_start(PORTS, P, W, STORE, rows, ROWS) == LEVELSPRUCE_ANSWER_DONE
+                && levelspruce_receiver_seen(lent, ROWS, (void *)buffer_in(open_out, ports * LEVELSPRUCE_SEEN_BYTES, out_end), ports) == expected
+                && levelspruce_receiver_heard(lent, ROWS, buffer_in(open_out, four, out_end), four) == expected
+                && levelspruce_receiver_behind(lent, ROWS, (void *)buffer_in(open_out, 4 * ports, out_end), ports) == expected
+                && levelspruce_receiver_settings(lent, ROWS, (void *)buffer_in(open_out, 4 * four, out_end), four) == expected
+                && levelspruce_receiver_anew(rows, ROWS, buffer_in(open_store, STORE - less, at_end / 4), STORE - less) == expected;
+            state = buffer_in(open_state, LEVELSPRUCE_SENDER_BYTES, at_end % 2);
+            held = held && levelspruce_sender_start(PORTS, 0, state, LEVELSPRUCE_SENDER_BYTES) == LEVELSPRUCE_ANSWER_DONE
+                && levelspruce_sender_settings(state, LEVELSPRUCE_SENDER_BYTES, buffer_in(open_out, LEVELSPRUCE_SENDER_SETTINGS_BYTES - less, out_end),
+                                               LEVELSPRUCE_SENDER_SETTINGS_BYTES - less)
+                    == expected;
+        }
+    return held;
+}
+
 int main(void)
 {
     uint8_t *first, *second, *third;
@@ -150,6 +181,7 @@ int main(void)
         check("reading touches nothing beside its buffers", read_at_edges(first, second));
         check("mending touches nothing beside its buffers", mend_at_edges(first, second, third));
         check("a replay touches nothing beside its text, store and output", replay_at_edges(first, second, third));
+        check("reading out and beginning anew touch nothing beside their buffers", see_at_edges(first, second, third));
     }
     return tally();
 }

@@ -26,6 +26,16 @@ int main()
           levelspruce_receiver_start(1, 2, 16, LEVELSPRUCE_STORE_BYTES(1, 2, 16), receiver, LEVELSPRUCE_RECEIVER_ROWS(1)) == LEVELSPRUCE_ANSWER_DONE
               && levelspruce_receiver_ports(receiver, LEVELSPRUCE_RECEIVER_ROWS(1), ports, 1) == LEVELSPRUCE_ANSWER_DONE
               && ports[0][LEVELSPRUCE_PORT_STATE] == LEVELSPRUCE_PORT_IDLE);
+    uint8_t seen[1][LEVELSPRUCE_SEEN_BYTES], heard[LEVELSPRUCE_HEARD_BYTES], frames[LEVELSPRUCE_STORE_BYTES(1, 2, 16)] = { 0 };
+    uint32_t behind[1], settings[LEVELSPRUCE_SETTINGS];
+    check("a C++ program reads what a receiver saw, what it heard, how far behind its port is and its settings, and begins it anew",
+          levelspruce_receiver_seen(receiver, LEVELSPRUCE_RECEIVER_ROWS(1), seen, 1) == LEVELSPRUCE_ANSWER_DONE && seen[0][LEVELSPRUCE_SEEN_WHOLE] == 0
+              && levelspruce_receiver_heard(receiver, LEVELSPRUCE_RECEIVER_ROWS(1), heard, sizeof heard) == LEVELSPRUCE_ANSWER_DONE
+              && heard[LEVELSPRUCE_HEARD_SAID] == 0 && levelspruce_receiver_behind(receiver, LEVELSPRUCE_RECEIVER_ROWS(1), behind, 1) == LEVELSPRUCE_ANSWER_DONE
+              && behind[0] == LEVELSPRUCE_BEHIND_NONE
+              && levelspruce_receiver_settings(receiver, LEVELSPRUCE_RECEIVER_ROWS(1), settings, LEVELSPRUCE_SETTINGS) == LEVELSPRUCE_ANSWER_DONE
+              && settings[LEVELSPRUCE_SETTING_WINDOW] == 16
+              && levelspruce_receiver_anew(receiver, LEVELSPRUCE_RECEIVER_ROWS(1), frames, sizeof frames) == LEVELSPRUCE_ANSWER_DONE);
     const uint32_t times[1] = { LEVELSPRUCE_TIMER_MOST };
     check("a C++ program starts a receiver with times",
           levelspruce_receiver_start_as(LEVELSPRUCE_KIND_H4, 1, 2, 16, LEVELSPRUCE_STORE_BYTES(1, 2, 16), times, 1, nullptr, 0, receiver,

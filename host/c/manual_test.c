@@ -1,4 +1,4 @@
-/* What docs/MANUAL.md says of alarms, lost frames and the way back, each tried over the calls. */
+/* What docs/MANUAL.md and docs/SYMPTOMS.md say of alarms, lost frames, restarts and the way back, each tried over the calls. */
 #include <levelspruce.h>
 
 #include <string.h>
@@ -17,7 +17,9 @@ static uint8_t sender[LEVELSPRUCE_SENDER_BYTES];
 static uint8_t receiver[LEVELSPRUCE_RECEIVER_ROWS(SLOTS)][LEVELSPRUCE_ROW_BYTES];
 static uint8_t store[LEVELSPRUCE_STORE_BYTES(SLOTS, P, W)], out[LEVELSPRUCE_OUTPUT_BYTES(SLOTS, P)];
 static uint8_t sent[EPOCHS][LEVELSPRUCE_EPOCH_FRAMES * SLOTS * P];
-static uint8_t ports[SLOTS][LEVELSPRUCE_PORT_BYTES];
+static size_t carried[EPOCHS]; /* the bytes of each epoch */
+static long index_of[256]; /* the last epoch that has this number at the sender or by the receiver's count */
+static uint8_t ports[SLOTS][LEVELSPRUCE_PORT_BYTES], seen[SLOTS][LEVELSPRUCE_SEEN_BYTES];
 static const size_t rows = LEVELSPRUCE_RECEIVER_ROWS(SLOTS);
 
 /* What a run came to. */
@@ -25,38 +27,63 @@ static struct {
     int refused; /* answers that nobody expected */
     int marks[4];
     int sure_and_wrong;
-    int readable_alarms, all_alarms; /* reports after which alarm l is raised, by two rules */
+    int alarms, empty_alarms, port_alarms; /* reports for which alarm l is raised: by its rule, by it with nobody active, and by the ports' words */
+    int sure_alarms; /* those by its rule that are not held */
 } run;
+
+/* Where the sender restarts before an epoch, and the number of its first one then. */
+static long restart = -1, again;
 
 static void expect(int held)
 {
     run.refused += !held;
 }
 
-/* Alarm l, of readable ports alone or of all. Doubled: one that is not the highest of those with NORM or EOS has EOS. Lost:
- * every port is readable, some has NORM, and none EOS. */
-static int eos_alarm(int readable_alone)
+/* Alarm l by what is seen: of the ports whose packet is whole and good, with NORM or EOS, one below the highest has EOS; or there are
+ * some, none has EOS, and every port's packet is whole. 'empty' raises it where there are none, too. */
+static int eos_alarm(int empty)
 {
-    int port, highest = -1, eos = 0, eos_below = 0, norm = 0, all_readable = 1;
+    int port, highest = -1, eos = 0, eos_below = 0, active = 0, all_whole = 1;
 
     for (port = 0; port < SLOTS; port++) {
-        int counts = ports[port][LEVELSPRUCE_PORT_READABLE] || !readable_alone;
+        const uint8_t *s = seen[port];
+        int good = s[LEVELSPRUCE_SEEN_WHOLE] && s[LEVELSPRUCE_SEEN_ANSWER] == LEVELSPRUCE_ANSWER_DONE && !s[LEVELSPRUCE_SEEN_OTHER];
+
+        all_whole = all_whole && s[LEVELSPRUCE_SEEN_WHOLE];
+        if (good && (s[LEVELSPRUCE_SEEN_WORD] == LEVELSPRUCE_WORD_NORM || s[LEVELSPRUCE_SEEN_WORD] == LEVELSPRUCE_WORD_EOS)) {
+            active++;
+            if (s[LEVELSPRUCE_SEEN_NUMBER] > highest)
+                highest = s[LEVELSPRUCE_SEEN_NUMBER];
+        }
+    }
+    for (port = 0; port < SLOTS; port++)
+        if (seen[port][LEVELSPRUCE_SEEN_WORD] == LEVELSPRUCE_WORD_EOS && !seen[port][LEVELSPRUCE_SEEN_OTHER]) {
+            eos++;
+            eos_below += seen[port][LEVELSPRUCE_SEEN_NUMBER] != highest;
+        }
+    return eos_below > 0 || (eos == 0 && all_whole && (active > 0 || empty));
+}
+
+/* The same by the words that the ports show, which stay when a port goes dark. */
+static int port_alarm(void)
+{
+    int port, highest = -1, eos = 0, eos_below = 0, active = 0;
+
+    for (port = 0; port < SLOTS; port++) {
         int word = ports[port][LEVELSPRUCE_PORT_WORD], number = ports[port][LEVELSPRUCE_PORT_NUMBER];
 
-        all_readable = all_readable && ports[port][LEVELSPRUCE_PORT_READABLE];
-        if (counts && (word == LEVELSPRUCE_WORD_NORM || word == LEVELSPRUCE_WORD_EOS) && number > highest)
+        if ((word == LEVELSPRUCE_WORD_NORM || word == LEVELSPRUCE_WORD_EOS) && ++active && number > highest)
             highest = number;
     }
     for (port = 0; port < SLOTS; port++)
-        if (ports[port][LEVELSPRUCE_PORT_READABLE] || !readable_alone) {
-            norm += ports[port][LEVELSPRUCE_PORT_WORD] == LEVELSPRUCE_WORD_NORM;
-            eos += ports[port][LEVELSPRUCE_PORT_WORD] == LEVELSPRUCE_WORD_EOS;
-            eos_below += ports[port][LEVELSPRUCE_PORT_WORD] == LEVELSPRUCE_WORD_EOS && ports[port][LEVELSPRUCE_PORT_NUMBER] != highest;
+        if (ports[port][LEVELSPRUCE_PORT_WORD] == LEVELSPRUCE_WORD_EOS) {
+            eos++;
+            eos_below += ports[port][LEVELSPRUCE_PORT_NUMBER] != highest;
         }
-    return eos_below > 0 || (eos == 0 && norm > 0 && (all_readable || !readable_alone));
+    return eos_below > 0 || (eos == 0 && active > 0);
 }
 
-static void fetch_all(long epoch)
+static void fetch_all(void)
 {
     uint8_t report[LEVELSPRUCE_REPORT_BYTES];
 
@@ -64,16 +91,19 @@ static void fetch_all(long epoch)
         size_t bytes;
         long of;
 
+        expect(levelspruce_receiver_seen((const uint8_t(*)[LEVELSPRUCE_ROW_BYTES])receiver, rows, seen, SLOTS) == LEVELSPRUCE_ANSWER_DONE);
         expect(levelspruce_receiver_fetch(receiver, rows, store, sizeof store, out, sizeof out, report, sizeof report) == LEVELSPRUCE_ANSWER_DONE);
         if (report[LEVELSPRUCE_REPORT_MARK] == LEVELSPRUCE_MARK_NONE)
             return;
-        of = epoch - (epoch + 256 - report[LEVELSPRUCE_REPORT_EPOCH]) % 256;
+        of = index_of[report[LEVELSPRUCE_REPORT_EPOCH]];
         bytes = (size_t)LEVELSPRUCE_EPOCH_FRAMES * report[LEVELSPRUCE_REPORT_X] * P;
         run.marks[report[LEVELSPRUCE_REPORT_MARK]]++;
-        run.sure_and_wrong += report[LEVELSPRUCE_REPORT_MARK] == LEVELSPRUCE_MARK_SURE && memcmp(out, sent[of], bytes) != 0;
+        run.sure_and_wrong += report[LEVELSPRUCE_REPORT_MARK] == LEVELSPRUCE_MARK_SURE && (bytes != carried[of] || memcmp(out, sent[of], bytes) != 0);
         expect(levelspruce_receiver_ports((const uint8_t(*)[LEVELSPRUCE_ROW_BYTES])receiver, rows, ports, SLOTS) == LEVELSPRUCE_ANSWER_DONE);
-        run.readable_alarms += eos_alarm(1);
-        run.all_alarms += eos_alarm(0);
+        run.alarms += eos_alarm(0);
+        run.empty_alarms += eos_alarm(1);
+        run.port_alarms += port_alarm();
+        run.sure_alarms += eos_alarm(0) && report[LEVELSPRUCE_REPORT_MARK] != LEVELSPRUCE_MARK_HELD;
     }
 }
 
@@ -82,6 +112,16 @@ static void hand(int port, int failed, uint8_t h4, const uint8_t *payload)
     uint8_t answer = levelspruce_receiver_frame(receiver, rows, (uint32_t)port, (uint32_t)failed, h4, payload, P, store, sizeof store);
 
     expect(answer == LEVELSPRUCE_ANSWER_DONE || answer == LEVELSPRUCE_ANSWER_STEP || answer == LEVELSPRUCE_ANSWER_FAILED);
+}
+
+/* The sender starts with this number, every slot a member. */
+static void start_sender(uint32_t first)
+{
+    uint32_t slot;
+
+    expect(levelspruce_sender_start(SLOTS, first, sender, sizeof sender) == LEVELSPRUCE_ANSWER_DONE);
+    for (slot = 0; slot < SLOTS; slot++)
+        expect(levelspruce_sender_add(sender, sizeof sender, slot) == LEVELSPRUCE_ANSWER_DONE);
 }
 
 /* Both ends for all epochs, every slot a member, the reply handed to the sender at each start. */
@@ -93,24 +133,28 @@ static void run_both(happening *happens)
 
     memset(&run, 0, sizeof run);
     memset(ports, 0, sizeof ports);
-    expect(levelspruce_sender_start(SLOTS, 0, sender, sizeof sender) == LEVELSPRUCE_ANSWER_DONE);
+    start_sender(0);
     expect(levelspruce_receiver_start(SLOTS, P, W, sizeof store, receiver, rows) == LEVELSPRUCE_ANSWER_DONE);
-    for (slot = 0; slot < SLOTS; slot++)
-        expect(levelspruce_sender_add(sender, sizeof sender, slot) == LEVELSPRUCE_ANSWER_DONE);
     for (n = 0; n < FRAMES; n++) {
         long epoch = n / LEVELSPRUCE_EPOCH_FRAMES, k = n % LEVELSPRUCE_EPOCH_FRAMES;
         size_t bytes, i;
         uint8_t *frame;
 
         if (k == 0) {
-            expect(levelspruce_receiver_reply((const uint8_t(*)[LEVELSPRUCE_ROW_BYTES])receiver, rows, (uint8_t)epoch, reply, sizeof reply) == LEVELSPRUCE_ANSWER_DONE);
-            expect(levelspruce_sender_report(sender, sizeof sender, (uint32_t)epoch, reply[LEVELSPRUCE_REPLY_MST], reply[LEVELSPRUCE_REPLY_RS_ACK]) == LEVELSPRUCE_ANSWER_DONE);
+            uint32_t number = (uint32_t)(restart < 0 || epoch < restart ? epoch : again + epoch - restart) % 256;
+
+            if (epoch == restart)
+                start_sender((uint32_t)again);
+            index_of[epoch % 256] = index_of[number] = epoch;
+            expect(levelspruce_receiver_reply((const uint8_t(*)[LEVELSPRUCE_ROW_BYTES])receiver, rows, (uint8_t)number, reply, sizeof reply) == LEVELSPRUCE_ANSWER_DONE);
+            expect(levelspruce_sender_report(sender, sizeof sender, number, reply[LEVELSPRUCE_REPLY_MST], reply[LEVELSPRUCE_REPLY_RS_ACK]) == LEVELSPRUCE_ANSWER_DONE);
             expect(levelspruce_sender_start_epoch(sender, sizeof sender, (uint32_t)(epoch % 3 == 0), 0xFF, 0) == LEVELSPRUCE_ANSWER_DONE);
             expect(levelspruce_sender_ranks(sender, sizeof sender, ranks, sizeof ranks) == LEVELSPRUCE_ANSWER_DONE);
             for (slot = 0; slot < SLOTS; slot++)
                 expect(levelspruce_sender_packet(sender, sizeof sender, slot, h4[slot], sizeof h4[slot]) == LEVELSPRUCE_ANSWER_DONE);
         }
         bytes = (size_t)ranks[LEVELSPRUCE_RANKS_X] * P;
+        carried[epoch] = bytes * LEVELSPRUCE_EPOCH_FRAMES;
         frame = sent[epoch] + (size_t)k * bytes;
         for (i = 0; i < bytes; i++)
             frame[i] = (uint8_t)(n * 37 + (long)i * 11);
@@ -122,7 +166,7 @@ static void run_both(happening *happens)
                 hand((int)slot, 1, 0, member);
             if (what & BRING)
                 hand((int)slot, 0, h4[slot][k], member);
-            fetch_all(epoch);
+            fetch_all();
         }
     }
 }
@@ -208,6 +252,37 @@ static void check_lost_frames(void)
     check("at the last place it seldom gives two", twice > 0 && twice < 10);
 }
 
+/* One frame before the sender restarts every port is flagged, or not. */
+static int restarts(int port, long frame)
+{
+    (void)port;
+    return flagged_after && frame == restart * LEVELSPRUCE_EPOCH_FRAMES ? FLAG_AND_BRING : BRING;
+}
+
+/* How many epochs are sure and wrong where the sender restarts with this number before epoch 80; -1 where it is not as it should be. */
+static int wrong_after(long first, int flag)
+{
+    restart = 80;
+    again = first;
+    flagged_after = flag;
+    run_both(restarts);
+    restart = -1;
+    return run.refused > 0 || run.marks[LEVELSPRUCE_MARK_SURE] < 110 ? -1 : run.sure_and_wrong;
+}
+
+static void check_restarts(void)
+{
+    int one = 1, none = 1;
+    long first;
+
+    for (first = 0; first < 256; first += 5) {
+        one = one && wrong_after(first, 0) == 1;
+        none = none && wrong_after(first, 1) == 0;
+    }
+    check("a sender that restarts with no dark time gives one epoch that is sure and wrong, whatever its first number", one);
+    check("and none where every port is flagged before its first frame", none);
+}
+
 /* Ports whose packets have these words and the numbers 0, 1, 2, for so many epochs: whether the alarm is raised, and the
  * epochs are held. */
 static int cries(uint32_t first, uint32_t second, uint32_t third)
@@ -221,14 +296,16 @@ static int cries(uint32_t first, uint32_t second, uint32_t third)
     memset(&run, 0, sizeof run);
     expect(levelspruce_receiver_start(SLOTS, P, W, sizeof store, receiver, rows) == LEVELSPRUCE_ANSWER_DONE);
     memset(sent, 0, sizeof sent);
+    for (n = 0; n < 12; n++)
+        index_of[n] = n;
     for (n = 0; n < 12 * LEVELSPRUCE_EPOCH_FRAMES; n++)
         for (port = 0; port < SLOTS; port++) {
             expect(levelspruce_packet_write((uint32_t)(n / LEVELSPRUCE_EPOCH_FRAMES), words[port], 0, 0xFF, 0, port, 0, h4, sizeof h4) == LEVELSPRUCE_ANSWER_DONE);
             hand((int)port, 0, h4[n % LEVELSPRUCE_EPOCH_FRAMES], nothing);
-            fetch_all(n / LEVELSPRUCE_EPOCH_FRAMES);
+            fetch_all();
         }
     expect(run.marks[LEVELSPRUCE_MARK_HELD] + run.marks[LEVELSPRUCE_MARK_SURE] > 4);
-    return run.refused == 0 && run.readable_alarms > 4 && run.marks[LEVELSPRUCE_MARK_SURE] == 0;
+    return run.refused == 0 && run.alarms > 4 && run.sure_alarms == 0;
 }
 
 static void check_alarm_l(void)
@@ -236,12 +313,14 @@ static void check_alarm_l(void)
     enum { NORM = LEVELSPRUCE_WORD_NORM, EOS = LEVELSPRUCE_WORD_EOS, DNU = LEVELSPRUCE_WORD_DNU };
 
     run_both(nothing_happens);
-    check("alarm l is not raised where nothing happens", run.refused == 0 && run.readable_alarms == 0 && run.marks[LEVELSPRUCE_MARK_SURE] > 140);
+    printf("nothing happens\talarms\t%d\talarms where nobody is active too\t%d\n", run.alarms, run.empty_alarms);
+    check("alarm l is not raised where nothing happens", run.refused == 0 && run.alarms == 0 && run.marks[LEVELSPRUCE_MARK_SURE] > 140);
+    check("it would be before a member is active, by a rule that does not ask for one", run.empty_alarms > 2);
     run_both(eos_goes_dark);
-    printf("the port with EOS goes dark\tdoubtful epochs\t%d\talarms by readable ports\t%d\talarms by all ports\t%d\n",
-           run.marks[LEVELSPRUCE_MARK_DOUBTFUL], run.readable_alarms, run.all_alarms);
-    check("alarm l is not raised where the port with EOS goes dark", run.refused == 0 && run.readable_alarms == 0);
-    check("it would be, by a rule over all ports", run.all_alarms > 10 && run.marks[LEVELSPRUCE_MARK_DOUBTFUL] > 40);
+    printf("the port with EOS goes dark\tdoubtful epochs\t%d\talarms\t%d\talarms by the ports' words\t%d\n",
+           run.marks[LEVELSPRUCE_MARK_DOUBTFUL], run.alarms, run.port_alarms);
+    check("alarm l is not raised where the port with EOS goes dark", run.refused == 0 && run.alarms == 0);
+    check("it would be, by the words that ports show", run.port_alarms > 10 && run.marks[LEVELSPRUCE_MARK_DOUBTFUL] > 40);
     check("alarm l is raised where EOS is doubled", cries(NORM, EOS, EOS) && cries(EOS, NORM, EOS));
     check("alarm l is raised where EOS is lost", cries(NORM, NORM, NORM) && cries(NORM, NORM, DNU));
     check("alarm l is raised where EOS is not on the highest", cries(EOS, NORM, NORM));
@@ -305,6 +384,7 @@ int main(void)
     check_alarm_l();
     check_loss_of_multiframe();
     check_lost_frames();
+    check_restarts();
     check_older_packet();
     return tally();
 }

@@ -105,6 +105,11 @@ extern "C" {
     ) -> u8;
     fn levelspruce_receiver_ports(state: *const Row, state_length: usize, ports: *mut [u8; 8], ports_length: usize) -> u8;
     fn levelspruce_receiver_reply(state: *const Row, state_length: usize, epoch: u8, reply: *mut u8, reply_length: usize) -> u8;
+    fn levelspruce_receiver_seen(state: *const Row, state_length: usize, seen: *mut [u8; 10], seen_length: usize) -> u8;
+    fn levelspruce_receiver_heard(state: *const Row, state_length: usize, heard: *mut u8, heard_length: usize) -> u8;
+    fn levelspruce_receiver_behind(state: *const Row, state_length: usize, behind: *mut u32, behind_length: usize) -> u8;
+    fn levelspruce_receiver_anew(state: *mut Row, state_length: usize, store: *const u8, store_length: usize) -> u8;
+    fn levelspruce_receiver_settings(state: *const Row, state_length: usize, settings: *mut u32, settings_length: usize) -> u8;
 }
 
 pub fn packet_write(f: &Fields, h4: &mut [u8]) -> u8 {
@@ -361,6 +366,26 @@ pub fn receiver_ports(state: &[Row], ports: &mut [[u8; 8]]) -> u8 {
 
 pub fn receiver_reply(state: &[Row], epoch: u8, reply: &mut [u8]) -> u8 {
     unsafe { levelspruce_receiver_reply(state.as_ptr(), state.len(), epoch, reply.as_mut_ptr(), reply.len()) }
+}
+
+pub fn receiver_seen(state: &[Row], seen: &mut [[u8; 10]]) -> u8 {
+    unsafe { levelspruce_receiver_seen(state.as_ptr(), state.len(), seen.as_mut_ptr(), seen.len()) }
+}
+
+pub fn receiver_heard(state: &[Row], heard: &mut [u8]) -> u8 {
+    unsafe { levelspruce_receiver_heard(state.as_ptr(), state.len(), heard.as_mut_ptr(), heard.len()) }
+}
+
+pub fn receiver_behind(state: &[Row], behind: &mut [u32]) -> u8 {
+    unsafe { levelspruce_receiver_behind(state.as_ptr(), state.len(), behind.as_mut_ptr(), behind.len()) }
+}
+
+pub fn receiver_anew(state: &mut [Row], store: &[u8]) -> u8 {
+    unsafe { levelspruce_receiver_anew(state.as_mut_ptr(), state.len(), store.as_ptr(), store.len()) }
+}
+
+pub fn receiver_settings(state: &[Row], settings: &mut [u32]) -> u8 {
+    unsafe { levelspruce_receiver_settings(state.as_ptr(), state.len(), settings.as_mut_ptr(), settings.len()) }
 }
 
 pub fn mend_lengths(recording: &[u8], mended: &mut usize, notes: &mut usize) -> u8 {

@@ -1,10 +1,11 @@
 //! The archive's receiver against the reference on long made-up histories. After each call the answers, all rows of the
-//! state, the store, the output, the record, the ports and the reply are compared. On states that calls returned the
-//! reference is the plain form; where state bytes are damaged between calls it is the one on rows. All of it for groups with LCAS,
-//! for those of VC-12, and for those that are FIXED.
+//! state, the store, the output, the record, the ports and the reply are compared, and after every third what else is
+//! read out. On states that calls returned the reference is the plain form; where state bytes are damaged between calls
+//! it is the one on rows. All of it for groups with LCAS, for those of VC-12, and for those that are FIXED.
 
 mod damage;
 mod host;
+mod read;
 mod states;
 
 use crate::card::{self, Start};
@@ -12,6 +13,7 @@ use crate::count::{Count, Test};
 use crate::path::Frame;
 use crate::random::Random;
 use host::Host;
+use reference::receiver::read::anew as rows_anew;
 use reference::receiver::rows::{self, rows_for, Row, ROWS_A_PORT};
 use reference::receiver::{clock, Receiver, Report, Shown, DOUBTFUL, HELD, KIND_FIXED, KIND_H4, KIND_VC12, PAYLOAD_VC12, STATE_FAIL, STATE_OK, SURE};
 
@@ -59,6 +61,9 @@ struct Seen {
     restoring: u64,
     fell: u64,
     restored: u64,
+    /// Receiving begun anew, and what was read out.
+    anews: u64,
+    read: read::Read,
 }
 
 impl Seen {
@@ -98,6 +103,11 @@ type Given = (u8, Vec<u8>, Vec<[u8; 8]>, Vec<u8>, Option<(&'static str, usize)>)
 
 /// Stores above this are looked at now and then only.
 const SMALL: usize = 1 << 14;
+
+/// Numbers for what is read out and begun anew, so that the histories are the same with it and without.
+fn aside(calls: u64) -> Random {
+    Random::new((calls + 1).wrapping_mul(0x9E37_79B9_7F4A_7C15))
+}
 
 fn record(report: Report) -> Vec<u8> {
     let mut bytes = vec![report.mark, report.epoch, report.x as u8, report.cause];
@@ -153,7 +163,8 @@ impl Both {
     }
 
     /// What both give after a call: ports and reply are read out, and all that is lent is compared.
-    fn both(&mut self, random: &mut Random, calls: u64, answers: [u8; 2], records: [Vec<u8>; 2]) -> [Given; 2] {
+    fn both(&mut self, random: &mut Random, seen: &mut Seen, answers: [u8; 2], records: [Vec<u8>; 2]) -> [Given; 2] {
+        let calls = seen.calls;
         let any = random.next() as u8;
         let epoch = random.one_of(&[0, 0, 1, 7, 8, 32, 255, any]);
         let (expected_ports, expected_reply) = match &self.reference {
@@ -183,6 +194,9 @@ impl Both {
             Some(("store at", first_difference(&self.stores[0], &self.stores[1])))
         } else if self.outputs[0] != self.outputs[1] {
             Some(("output at", first_difference(&self.outputs[0], &self.outputs[1])))
+        } else if calls % 3 == 0 {
+            let plain = if let Reference::Plain(plain) = &self.reference { Some(plain) } else { None };
+            read::difference(&mut aside(calls), plain, &self.rows[0], &self.rows[1], self.ports, &mut seen.read)
         } else {
             None
         };
@@ -204,7 +218,7 @@ impl Both {
         let failed = if *flagged { random.one_of(&[1, 2, 256, u32::MAX]) } else { 0 };
         let by_card = card::receiver_frame(&mut self.rows[1][..rows], port as u32, failed, *h4, payload, b);
         seen.calls += 1;
-        let [reference, card] = self.both(random, seen.calls, [answer, by_card], [vec![], vec![]]);
+        let [reference, card] = self.both(random, seen, [answer, by_card], [vec![], vec![]]);
         let input = ("frame", (self.ports, self.payload, self.window), port, flagged, h4, payload.len(), rows, store, (before.0, given));
         test.case(answer, &reference, &card, &input);
         let group = &self.rows[0][0];
@@ -249,13 +263,27 @@ impl Both {
         seen.calls += 1;
         seen.marks[usize::from(report.mark)] += 1;
         seen.causes[usize::from(report.cause)] += 1;
-        let [reference, card] = self.both(random, seen.calls, [answer, card_answer], [by_reference, by_card]);
+        let [reference, card] = self.both(random, seen, [answer, card_answer], [by_reference, by_card]);
         seen.turns += u64::from(ack != self.rows[0][0][11]);
         if report != Report::NONE {
             members.iter().zip(self.rows[0].iter().skip(2).step_by(ROWS_A_PORT)).for_each(|(was, is)| seen.waits(was, is));
         }
         test.case(answer, &reference, &card, &("fetch", (self.ports, self.payload, self.window), rows, store, out, record_length));
         report
+    }
+
+    /// Receiving begun anew.
+    fn anew(&mut self, test: &mut Test, random: &mut Random, seen: &mut Seen) {
+        let store = self.stores[0].len() - usize::from(random.below(8) == 0);
+        let answer = match &mut self.reference {
+            Reference::Plain(plain) => plain.anew(&self.stores[0][..store]),
+            Reference::Rows => rows_anew(&mut self.rows[0], &self.stores[0][..store]),
+        };
+        let by_card = card::receiver_anew(&mut self.rows[1], &self.stores[1][..store]);
+        seen.calls += 1;
+        seen.anews += u64::from(answer == 0);
+        let [reference, card] = self.both(random, seen, [answer, by_card], [vec![], vec![]]);
+        test.case(answer, &reference, &card, &("anew", (self.ports, self.payload, self.window), store));
     }
 
     /// All that is due. From states that no call wrote this can go on for ever.
@@ -303,6 +331,9 @@ fn history(tests: &mut Tests, random: &mut Random, seen: &mut Seen, kind: u32, d
     let (fetches, full_fetches) = (random.one_of(&[1, 4, 20, 1000]), random.one_of(&[2, 3, 60]));
     // one frame in so many finds state bytes damaged before it, and one goes on from what the state says
     let (damages, follows) = (random.one_of(&[40, 400, 2000]), random.one_of(&[2, 50, 2000]));
+    // in one host of eight receiving is begun anew now and then
+    let mut aside = aside(seen.calls);
+    let anews = aside.one_of(&[500, 0, 0, 0, 0, 0, 0, 0]);
     let end = seen.calls + calls * if wide { 4 } else { 1 } * if of_vc12 { 2 } else { 1 };
     while seen.calls < end {
         host.frame_time(random);
@@ -340,6 +371,9 @@ fn history(tests: &mut Tests, random: &mut Random, seen: &mut Seen, kind: u32, d
                 host.switch(random, port);
             }
         }
+        if anews > 0 && aside.below(anews) == 0 {
+            both.anew(&mut tests.frames, &mut aside, seen);
+        }
         if random.below(fetches) == 0 {
             both.fetch_all(&mut tests.fetches, random, seen);
         }
@@ -359,6 +393,9 @@ pub fn compare(count: &mut Count, hosts: u64) {
     let events = [seen.begins, seen.stops, seen.joins_later, seen.turns].iter().all(|times| *times > 100) && seen.old_marks > 5;
     let steps = seen.breaks.iter().chain([&seen.odd_packets, &seen.fourth_breaks, &seen.second_odd_packets]).all(|times| *times > 100);
     let waits = [seen.held_off, seen.restoring, seen.fell, seen.restored].iter().all(|times| *times > 20);
+    let read = &seen.read;
+    let reads = [read.whole, read.refused, read.other, read.heard, read.silent, read.behind].iter().all(|times| *times > 100) && seen.anews > 20;
+    count.note("all that is read of a receiver beside its ports comes to pass there", reads);
     count.note("all that can happen to a receiver happens there", events && steps && waits && seen.marks.iter().all(|times| *times > 200) && seen.causes.iter().all(|times| *times > 20));
 
     let mut seen = Seen::default();

@@ -255,6 +255,49 @@ static void read_out(struct lent *l, struct program *g)
     stands(state, 0, "reading out changed the state");
 }
 
+/* What it saw, what the far end says, how far ports lie behind, and its settings. */
+static void read_more(struct lent *l, struct program *g)
+{
+    static const struct kept nothing;
+    struct block state = lend_state(l, g), result = lend(RESULT, nothing, about(g, l->ports) * LEVELSPRUCE_SEEN_BYTES);
+    const uint8_t (*rows)[16] = (const uint8_t (*)[16])rows_of(state);
+    uint8_t answer = levelspruce_receiver_seen(rows, state.length / 16, (uint8_t (*)[LEVELSPRUCE_SEEN_BYTES])result.bytes, result.length / LEVELSPRUCE_SEEN_BYTES);
+
+    if (answer != 0 && answer != 9)
+        fail("an answer that what was seen does not have");
+    stands(result, answer == 0 ? result.length : 0, "refused packets were written");
+    result = lend(RESULT, nothing, about(g, LEVELSPRUCE_HEARD_BYTES));
+    answer = levelspruce_receiver_heard(rows, state.length / 16, result.bytes, result.length);
+    if (answer != 0 && answer != 9)
+        fail("an answer that what was heard does not have");
+    stands(result, answer == 0 ? result.length : 0, "what was heard was written and refused");
+    if (answer == 0 && (result.bytes[0] > 1 || result.bytes[3] > 1 || (result.bytes[0] == 0 && (result.bytes[1] | result.bytes[2] | result.bytes[3]))))
+        fail("something is heard that cannot be");
+    result = lend(RESULT, nothing, about(g, l->ports) * sizeof(uint32_t));
+    answer = levelspruce_receiver_behind(rows, state.length / 16, (uint32_t *)(void *)result.bytes, result.length / sizeof(uint32_t));
+    if (answer != 0 && answer != 9)
+        fail("an answer that frames behind do not have");
+    stands(result, answer == 0 ? result.length : 0, "refused frames behind were written");
+    result = lend(RESULT, nothing, about(g, LEVELSPRUCE_SETTINGS) * sizeof(uint32_t));
+    answer = levelspruce_receiver_settings(rows, state.length / 16, (uint32_t *)(void *)result.bytes, result.length / sizeof(uint32_t));
+    if (answer != 0 && answer != 9)
+        fail("an answer that settings do not have");
+    stands(result, answer == 0 ? result.length : 0, "refused settings were written");
+    stands(state, 0, "reading changed the state");
+}
+
+static void begin_anew(struct lent *l, struct program *g)
+{
+    struct block state = lend_state(l, g), store = lend(STORE, l->store, about(g, l->store.length));
+    uint8_t answer = levelspruce_receiver_anew(rows_of(state), state.length / 16, store.bytes, store.length);
+
+    if (answer != 0 && answer != 9)
+        fail("an answer that a beginning anew does not have");
+    stands(store, 0, "a beginning anew changed the store");
+    stands(state, answer == 0 ? state.length : 0, "a refused beginning anew changed the state");
+    put_back(l->state, state);
+}
+
 /* Some bytes of the state become any. */
 static void damage(struct lent *l, struct program *g)
 {
@@ -334,8 +377,8 @@ int LLVMFuzzerTestOneInput(const uint8_t *data, size_t size)
         case 1: { uint32_t port = number_of(&g), failed = byte_of(&g) < 16; frame(&l, &g, port, failed, (uint8_t)byte_of(&g)); break; }
         case 2: frames(&l, &g); break;
         case 3: fetch(&l, &g); break;
-        case 4: read_out(&l, &g); break;
-        case 5: { uint32_t which = byte_of(&g); if (which < 128) damage(&l, &g); else if (which < 240) start(&l, &g, 1); else if (which < 248) packets(&g); else packets_vc12(&g); break; }
+        case 4: if (byte_of(&g) < 128) read_out(&l, &g); else read_more(&l, &g); break;
+        case 5: { uint32_t which = byte_of(&g); if (which < 128) damage(&l, &g); else if (which < 224) start(&l, &g, 1); else if (which < 240) begin_anew(&l, &g); else if (which < 248) packets(&g); else packets_vc12(&g); break; }
         case 6: { uint32_t port = byte_of(&g) % LEVELSPRUCE_PORTS_MOST; l.tag[port] = number_of(&g) % 4096; break; }
         default: fetch(&l, &g); fetch(&l, &g); break;
         }

@@ -66,7 +66,7 @@ pub fn check(program: &Program, count: &mut Count) {
     count.note("wrong choices get one clear line and status 2", held == WRONG.len());
 
     let (status, help) = said(program, &["--help"]);
-    let named = ["--slots", "--payload", "--window", "--delays", "--first", "--seed", "--epochs", "--damage", "--fail", "--hold-off", "--restore", "--fixed", "--vc12", "--numbers", "--file", "--out", "--each", "--quiet"];
+    let named = ["--slots", "--payload", "--window", "--delays", "--first", "--seed", "--epochs", "--damage", "--fail", "--hold-off", "--restore", "--fixed", "--vc12", "--numbers", "--file", "--out", "--behind", "--each", "--quiet"];
     count.note("--help names the choices", status == Some(0) && named.iter().all(|n| help.contains(n)));
 
     let (status, text) = said(program, &[]);
@@ -106,6 +106,8 @@ pub fn check(program: &Program, count: &mut Count) {
     let numbered = text.lines().filter(|l| l.starts_with("told\t") || l.starts_with("start\t")).filter_map(|l| l.split('\t').nth(2)?.parse::<u64>().ok());
     let numbered: Vec<u64> = numbered.collect();
     count.note("epochs are counted in one way", numbered.len() > 8 && numbered.iter().all(|e| *e < 160) && text.contains("told\tepoch\t"));
+
+    measured(program, count);
 
     let (status, quiet) = said(program, &["--quiet"]);
     count.note("--quiet prints the end alone", status == Some(0) && text.ends_with(&quiet) && quiet.lines().count() < 20);
@@ -156,6 +158,22 @@ pub fn check(program: &Program, count: &mut Count) {
 
     let (_, unheard) = said(program, &["--slots", "2", "--back", "8000", "--lapse", "3", "--epochs", "40", "--remove", "9:0,9:1"]);
     count.note("a wait that nobody answers lapses, and the line says so", unheard.contains("wait\tclosed\tby lapse\n") && unheard.contains("remove\tslot\t1\tanswer\t0\n"));
+}
+
+/// How far ports lie behind the foremost: by their delays, also where these are too far apart, and by another foremost when that one fails.
+fn measured(program: &Program, count: &mut Count) {
+    let told = |choices: &[&str]| -> Vec<(u64, u64)> {
+        let (_, text) = said(program, choices);
+        let behind = text.lines().filter(|l| l.starts_with("port\t") && l.contains("\tbehind\t")).map(|l| l.split('\t').collect::<Vec<_>>());
+        behind.map(|l| (l[1].parse().expect("a port"), l[3].parse().expect("frames"))).collect()
+    };
+    count.note("--behind says how many frames each port lies behind the foremost", told(&["--delays", "0,33,7", "--behind"]) == [(0, 0), (2, 7), (1, 33)]);
+    count.note("and without it nobody does", told(&["--delays", "0,33,7"]).is_empty());
+    count.note("of ports and not of slots", told(&["--delays", "0,33,7", "--ports", "2,1,0", "--behind"]) == [(2, 0), (0, 7), (1, 33)]);
+    count.note("of VC-12 too", told(&["--vc12", "--delays", "0,32", "--behind"]) == [(0, 0), (1, 32)]);
+    count.note("where delays are too far apart for receiving to begin too", told(&["--delays", "0,49", "--behind"]) == [(0, 0), (1, 49)]);
+    let failed = told(&["--delays", "0,33,7", "--fail", "0:400-500", "--behind"]);
+    count.note("and again where the foremost one fails, and where it is back", failed == [(0, 0), (2, 7), (1, 33), (1, 26), (2, 0), (0, 0), (1, 33), (2, 7)]);
 }
 
 /// Groups of VC-12: members come and go, every packet of some epochs has a bit changed, and a port fails and comes back.

@@ -12,7 +12,7 @@ enum { FRAME_MOST = 1000000000, EPOCH_MOST = FRAME_MOST / LEVELSPRUCE_EPOCH_FRAM
 enum choice {
     SLOTS, PAYLOAD, WINDOW, PORTS, DELAYS, FIRST, NUMBERS, FIXED, VC12, BACK, NUMBER,
     ADD, REMOVE, DAMAGE, FAIL, HOLD_OFF, RESTORE, LAPSE, LATE, AT_ONCE, SEED, EPOCHS,
-    FILE_IN, FILE_OUT, RECORD, HEADS, DOUBTFUL, EACH, QUIET, HELP, VERSION, CHOICES
+    FILE_IN, FILE_OUT, RECORD, HEADS, DOUBTFUL, BEHIND, EACH, QUIET, HELP, VERSION, CHOICES
 };
 
 /* Those up to EPOCHS shape the link, so that with one of them the default run's shape is not taken. */
@@ -24,7 +24,7 @@ static const struct {
     { "--numbers", 1 }, { "--fixed", 0 }, { "--vc12", 0 }, { "--back", 1 }, { "--number", 1 }, { "--add", 1 }, { "--remove", 1 }, { "--damage", 1 }, { "--fail", 1 },
     { "--hold-off", 1 }, { "--restore", 1 }, { "--lapse", 1 }, { "--late", 1 }, { "--at-once", 0 }, { "--seed", 1 },
     { "--epochs", 1 }, { "--file", 1 }, { "--out", 1 }, { "--record", 1 }, { "--record-heads", 1 },
-    { "--doubtful", 0 }, { "--each", 0 }, { "--quiet", 0 }, { "--help", 0 }, { "--version", 0 }
+    { "--doubtful", 0 }, { "--behind", 0 }, { "--each", 0 }, { "--quiet", 0 }, { "--help", 0 }, { "--version", 0 }
 };
 
 /* The word given with each choice, or NULL. */
@@ -365,6 +365,7 @@ int choices_read(struct choices *c, int count, char **words)
     c->fixed = g.word[FIXED] != NULL;
     c->vc12 = g.word[VC12] != NULL;
     shape_kind(c);
+    c->behind = g.word[BEHIND] != NULL;
     c->each = g.word[EACH] != NULL;
     c->quiet = g.word[QUIET] != NULL;
     c->help = g.word[HELP] != NULL;

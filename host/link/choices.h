@@ -43,7 +43,7 @@ struct choices {
     int whole_file; /* more epochs, until the file is sent */
     uint64_t carried; /* the bytes that so many epochs carry at most */
     const char *file, *out, *record, *heads;
-    int at_once, doubtful, each, quiet, help, version;
+    int at_once, doubtful, behind, each, quiet, help, version;
 };
 
 /* Reads the command line's words. 0, or -1 where one is wrong: then a line on standard error says which. */

@@ -202,7 +202,7 @@ static void start_epoch(struct link *l, uint64_t epoch)
 
 static void receive(struct link *l, uint64_t time)
 {
-    uint8_t ports[LINES_MOST][LEVELSPRUCE_PORT_BYTES], fields[LEVELSPRUCE_FIELDS_BYTES], reply[LEVELSPRUCE_REPLY_BYTES];
+    uint8_t ports[LINES_MOST][LEVELSPRUCE_PORT_BYTES], heard[LEVELSPRUCE_HEARD_BYTES], reply[LEVELSPRUCE_REPLY_BYTES];
     uint32_t port;
     uint64_t epoch;
 
@@ -213,8 +213,8 @@ static void receive(struct link *l, uint64_t time)
         receiving_reply(&l->receiving, 0, reply);
         says_ports(&l->says, (const uint8_t(*)[LEVELSPRUCE_PORT_BYTES])ports, reply[LEVELSPRUCE_REPLY_RS_ACK], time);
     }
-    while (back_next(&l->back, time, fields, &epoch))
-        sending_told(&l->sending, epoch, fields, &l->says);
+    while (back_next(&l->back, time, heard, &epoch))
+        sending_told(&l->sending, epoch, heard, &l->says);
 }
 
 /* Whether another epoch is to be sent. A file that no member carries for long is given up. */
@@ -251,6 +251,15 @@ static void tell_progress(const struct link *l, uint64_t epoch)
         says_progress(&l->says, "epoch", epoch, l->choices.epochs);
 }
 
+/* Told while every line brings its frames: behind the last one sent, the slower ones catch up. */
+static void tell_behind(struct link *l)
+{
+    uint32_t behind[LINES_MOST];
+
+    receiving_behind(&l->receiving, behind);
+    says_behind(&l->says, behind);
+}
+
 static void run(struct link *l)
 {
     const uint32_t frames = l->choices.frames;
@@ -263,6 +272,8 @@ static void run(struct link *l)
         }
         sending_frame(&l->sending, time, &l->client, l->lines);
         receive(l, time);
+        if (l->choices.behind)
+            tell_behind(l);
     }
     /* what is still on its way; lines that the receiver no longer takes from are left */
     for (last = time + DELAY_MOST + LEVELSPRUCE_WINDOW_MOST; time < last && !all_empty(l); time++)

@@ -151,6 +151,11 @@ void receiving_ports(const struct receiving *r, uint8_t (*ports)[LEVELSPRUCE_POR
     must(levelspruce_receiver_ports((const uint8_t(*)[LEVELSPRUCE_ROW_BYTES])r->state, r->rows, ports, r->ports), "levelspruce_receiver_ports");
 }
 
+void receiving_behind(const struct receiving *r, uint32_t *behind)
+{
+    must(levelspruce_receiver_behind((const uint8_t(*)[LEVELSPRUCE_ROW_BYTES])r->state, r->rows, behind, r->ports), "levelspruce_receiver_behind");
+}
+
 int receiving_has_begun(const struct receiving *r)
 {
     uint8_t ports[LINES_MOST][LEVELSPRUCE_PORT_BYTES];

@@ -45,6 +45,9 @@ int receiving_fetch(struct receiving *r, struct report *report);
 
 void receiving_ports(const struct receiving *r, uint8_t (*ports)[LEVELSPRUCE_PORT_BYTES]);
 
+/* How many frames each port in step lies behind the foremost. */
+void receiving_behind(const struct receiving *r, uint32_t *behind);
+
 /* Whether receiving has begun: some port is readable. */
 int receiving_has_begun(const struct receiving *r);
 

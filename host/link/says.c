@@ -66,6 +66,7 @@ void says_link(struct says *s, const struct choices *c)
         s->going[LEVELSPRUCE_BOARD_ROWS + 2 * slot] = LEVELSPRUCE_WORD_IDLE;
         s->going[LEVELSPRUCE_BOARD_ROWS + 2 * slot + 1] = idle;
         s->ports[slot][LEVELSPRUCE_PORT_NUMBER] = idle;
+        s->behind[slot] = LEVELSPRUCE_BEHIND_NONE;
     }
     if (s->quiet)
         return;
@@ -188,6 +189,17 @@ void says_ports(struct says *s, const uint8_t (*ports)[LEVELSPRUCE_PORT_BYTES], 
         printf("reply\tRS-Ack\t%d\n", rs_ack);
     memcpy(s->ports, ports, s->slots * sizeof s->ports[0]);
     s->rs_ack = rs_ack;
+}
+
+void says_behind(struct says *s, const uint32_t *behind)
+{
+    uint32_t i;
+
+    for (i = 0; i < s->slots; i++) {
+        if (behind[i] != s->behind[i] && behind[i] != LEVELSPRUCE_BEHIND_NONE && talks(s))
+            printf("port\t%" PRIu32 "\tbehind\t%" PRIu32 "\n", i, behind[i]);
+        s->behind[i] = behind[i];
+    }
 }
 
 void says_report(struct says *s, uint64_t epoch, uint8_t mark, uint8_t cause, size_t bytes, int right)

@@ -25,6 +25,7 @@ struct says {
     uint32_t x;
     uint8_t ports[LINES_MOST][LEVELSPRUCE_PORT_BYTES];
     uint8_t rs_ack;
+    uint32_t behind[LINES_MOST];
 };
 
 /* Ends the program where a call is refused that cannot be. */
@@ -49,6 +50,9 @@ void says_told(struct says *s, uint64_t epoch, uint32_t mst, uint32_t rs_ack);
 
 /* What the receiver's ports and its reply have that they had not when this was last called. */
 void says_ports(struct says *s, const uint8_t (*ports)[LEVELSPRUCE_PORT_BYTES], uint8_t rs_ack, uint64_t time);
+
+/* How many frames each port in step lies behind the foremost, of those of which it is another than when this was last called. */
+void says_behind(struct says *s, const uint32_t *behind);
 
 /* The report of an epoch, and why it is held or doubtful. Those that say the same stand in one line, which is printed before the next other one. */
 void says_report(struct says *s, uint64_t epoch, uint8_t mark, uint8_t cause, size_t bytes, int right);

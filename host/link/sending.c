@@ -163,10 +163,10 @@ void sending_frame(struct sending *s, uint64_t n, struct client *client, struct 
     }
 }
 
-void sending_told(struct sending *s, uint64_t epoch, const uint8_t *fields, struct says *says)
+void sending_told(struct sending *s, uint64_t epoch, const uint8_t *heard, struct says *says)
 {
     uint8_t before[LEVELSPRUCE_BOARD_BYTES], after[LEVELSPRUCE_BOARD_BYTES];
-    uint32_t number = fields[LEVELSPRUCE_FIELD_EPOCH], mst = fields[LEVELSPRUCE_FIELD_MST], rs_ack = fields[LEVELSPRUCE_FIELD_RS_ACK];
+    uint32_t number = heard[LEVELSPRUCE_HEARD_EPOCH], mst = heard[LEVELSPRUCE_HEARD_MST], rs_ack = heard[LEVELSPRUCE_HEARD_RS_ACK];
 
     read_board(s, before);
     must(levelspruce_sender_report(s->state, sizeof s->state, number, mst, rs_ack), "levelspruce_sender_report");

@@ -41,8 +41,8 @@ void sending_start_epoch(struct sending *s, uint64_t epoch, const struct client 
 /* Sends frame n of each slot on its line. */
 void sending_frame(struct sending *s, uint64_t n, struct client *client, struct line *lines);
 
-/* The far end's packet of that epoch said this. */
-void sending_told(struct sending *s, uint64_t epoch, const uint8_t *fields, struct says *says);
+/* This was heard of that epoch of the far end's. */
+void sending_told(struct sending *s, uint64_t epoch, const uint8_t *heard, struct says *says);
 
 /* What an epoch carried, or NULL where that is long past. */
 const struct carried *sending_carried(const struct sending *s, uint64_t epoch);

@@ -1,6 +1,7 @@
 //! The receiver: step, beginning, window, reports, member states and reply.
 
 pub mod fast;
+pub mod read;
 pub mod rows;
 mod vc12;
 

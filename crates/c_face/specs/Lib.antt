@@ -6,5 +6,6 @@ pub mod Packets
 pub mod Payloads
 pub mod Receivers
 pub mod Senders
+pub mod Settings
 pub mod Sharing
 pub mod Theorems

@@ -6,9 +6,10 @@ use Rattle.c_face.specs.Boards.{boardByte, boardBytesOf, rankByte, ranks
 use Rattle.c_face.specs.Keeping.{byteAt, bytesOf, rowsIn, senderOf, slotsIn}
 use Rattle.c_face.specs.Packets.{readAnswerC, readFieldsC, readFixedAnswerC, readFixedFieldsC, readVc12AnswerC, readVc12FieldsC}
 use Rattle.c_face.specs.Senders.{callAnswerC, callStateC, packetAnswerC, packetBytesC, payloadAnswerC, payloadBytesC, sends, startAnswerC, startStateC}
+use Rattle.c_face.specs.Settings.{senderSettings}
 
 unfoldable pub cFaceOpen : ℕ
 unfolding receiverOpen senderOpen boardByte boardBytesOf rankByte ranksBytesOf shownAnswerC shownBytes byteAt bytesOf rowsIn senderOf slotsIn
     readAnswerC readFieldsC readFixedAnswerC readFixedFieldsC readVc12AnswerC readVc12FieldsC callAnswerC callStateC packetAnswerC packetBytesC
-    payloadAnswerC payloadBytesC sends startAnswerC startStateC
+    payloadAnswerC payloadBytesC sends startAnswerC startStateC senderSettings
 cFaceOpen = 0

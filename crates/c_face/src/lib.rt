@@ -5,5 +5,6 @@ pub mod keeping;
 mod packets;
 mod payloads;
 mod receivers;
+mod seeing;
 pub mod senders;
 pub mod sharing;

@@ -21,6 +21,7 @@ pub mod Replying
 pub mod Reports
 pub mod Rows
 pub mod Runs
+pub mod Seeing
 pub mod Senders
 pub mod Sessions
 pub mod Settling

@@ -11,6 +11,7 @@ pub mod Paths
 pub mod Payloads
 pub mod Receivers
 pub mod Replays
+pub mod Seeing
 pub mod Senders
 pub mod Spoken
 pub mod Tables
@@ -28,6 +29,7 @@ use Paths as paths
 use Payloads as payload
 use Receivers as receiver
 use Replays as replay
+use Seeing as seeing
 use Senders as state
 use Spoken as spoken
 use Tables as table
@@ -89,6 +91,7 @@ entries =
     ∷ row "console::feed" console.feed console.feed-copes
     ∷ row "console::finish" console.finish console.finish-copes
     ∷ row "console::reply_to" console.reply console.reply-copes
+    ∷ row "step::reading_of" packet.readingOf packet.readingOf-copes
     ∷ row "step::decide" receiver.decide receiver.decide-copes
     ∷ row "receiver::start" receiver.start receiver.start-copes
     ∷ row "receiver::start_as" receiver.startAs receiver.startAs-copes
@@ -96,6 +99,11 @@ entries =
     ∷ row "receiver::fetch" receiver.fetch receiver.fetch-copes
     ∷ row "receiver::ports" receiver.ports receiver.ports-copes
     ∷ row "receiver::reply" receiver.reply receiver.reply-copes
+    ∷ row "receiver::seen" seeing.seen seeing.seen-copes
+    ∷ row "receiver::heard" seeing.heard seeing.heard-copes
+    ∷ row "receiver::behind" seeing.behind seeing.behind-copes
+    ∷ row "receiver::anew" seeing.anew seeing.anew-copes
+    ∷ row "receiver::settings" seeing.settings seeing.settings-copes
     ∷ row "replaying::turn" replay.turn replay.turn-copes
     ∷ row "replaying::replay_lengths" replay.lengths replay.lengths-copes
     ∷ row "mending::mend_lengths" mending.lengths mending.lengths-copes
@@ -122,6 +130,7 @@ entries =
     ∷ row "levelspruce_sender_board" state.shown state.shown-copes
     ∷ row "levelspruce_sender_board_going" state.outgoing state.outgoing-copes
     ∷ row "levelspruce_sender_ranks" state.ranked state.ranked-copes
+    ∷ row "levelspruce_sender_settings" seeing.senderSettings seeing.senderSettings-copes
     ∷ row "levelspruce_card_start" cardState.start cardState.start-copes
     ∷ row "levelspruce_card_start_as" cardState.startAs cardState.startAs-copes
     ∷ row "levelspruce_card_claim" cardState.claim cardState.claim-copes
@@ -156,4 +165,9 @@ entries =
     ∷ row "levelspruce_receiver_fetch" receiver.fetch receiver.fetch-copes
     ∷ row "levelspruce_receiver_ports" receiver.ports receiver.ports-copes
     ∷ row "levelspruce_receiver_reply" receiver.reply receiver.reply-copes
+    ∷ row "levelspruce_receiver_seen" seeing.seen seeing.seen-copes
+    ∷ row "levelspruce_receiver_heard" seeing.heard seeing.heard-copes
+    ∷ row "levelspruce_receiver_behind" seeing.behind seeing.behind-copes
+    ∷ row "levelspruce_receiver_anew" seeing.anew seeing.anew-copes
+    ∷ row "levelspruce_receiver_settings" seeing.settings seeing.settings-copes
     ∷ []

@@ -114,7 +114,7 @@ impl Receiver {
 }
 
 /// Whether the number of rows fits the group in them. Any number fits an empty group.
-fn fit(receiver: &Receiver, rows: &[Row]) -> bool {
+pub(super) fn fit(receiver: &Receiver, rows: &[Row]) -> bool {
     receiver.ports.is_empty() || rows.len() == rows_for(receiver.ports.len())
 }
 

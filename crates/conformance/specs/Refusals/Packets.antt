@@ -16,10 +16,12 @@ use Rattle.packet.specs.Crc.{crcOf}
 use Rattle.packet.specs.Fixed.{readFixedAnswer, readFixedNibbles, writeFixedAnswer, writeFixedBytes}
 use Rattle.packet.specs.Layout.{carriedIn, fieldsOf, highsOf}
 use Rattle.packet.specs.Reading.{readAnswer, readNibbles, readingNumber}
+use Rattle.packet.specs.Ruling.{readRow}
 use Rattle.packet.specs.Sent.{sentAnswer, sentBytes}
 use Rattle.packet.specs.Vc12.{lowestOf, readVc12Answer, readVc12Bits, readVc12Row, rowBits, vc12Divisor, vc12Fields, vc12Fits, writeVc12Answer, writeVc12Bytes}
 use Rattle.packet.specs.Words.{assigned}
 use Rattle.packet.specs.Writing.{fitting, writeAnswer, writeBytes, writingNumber}
+use Rattle.step.specs.Carried.{readingIn}
 use Rattle.conformance.specs.Entries.{Call, Copes, If, Refusal, Unless, answers-alone, behind, copes, stateless}
 
 -- 'FIXED 0, ADD 1, NORM 2, EOS 3, IDLE 5, DNU 15. All others are unassigned.'
@@ -222,6 +224,25 @@ readFixedSixteen nibbles = stateless (readFixedRefusals nibbles) (readingNumber 
 pub readFixedSixteen-copes : (x : List ℕ) → Copes (readFixedSixteen x)
 unfolding readFixedNibbles
 readFixedSixteen-copes nibbles = copes _ (λ w. rw w, λ w. rw w (refl, refl, refl))
+
+readNibbles-copes : (nibbles : List ℕ) → Copes (stateless (readRefusals nibbles) (readingNumber (readNibbles nibbles)) [] [])
+unfolding readNibbles carriedIn fieldsOf assigned
+readNibbles-copes nibbles =
+    copes _ (λ c. (λ f. rw (c, f) (refl, refl, refl), λ f. (λ a. rw (c, f, rw f at a), λ a. rw (c, f, rw f at a) (refl, refl, refl))), λ c. rw c (refl, refl, refl))
+
+-- by its kind, of which 1 is VC-12 and 2 FIXED
+abbrev pub readingOf : ℕ × List ℕ → Call
+readingOf (kind, row) =
+    stateless (if kind == 2 then readFixedRefusals row else if kind == 1 then bitsRefusals (rowBits row) else readRefusals row) (readingNumber (readingIn kind row)) [] []
+
+pub readingOf-copes : (x : ℕ × List ℕ) → Copes (readingOf x)
+unfolding readingIn readRow
+readingOf-copes (kind, row) = go (kind == 2) (kind == 1) refl refl
+  where
+    go : (fixed vc12 : Bool) → (kind == 2) ≡ fixed → (kind == 1) ≡ vc12 → Copes (readingOf (kind, row))
+    go true vc12 e f = rw e (readFixedSixteen-copes row)
+    go false true e f = rw (e, f) (readVc12Entries-copes row)
+    go false false e f = rw (e, f) (readNibbles-copes row)
 
 abbrev pub readFixed : Bytes → Call
 readFixed h4 = stateless (Unless 9 (length h4 == 16) ∷ readFixedRefusals (highsOf h4)) (readingNumber (readFixedAnswer h4)) [] []

@@ -115,7 +115,7 @@ startEpoch-copes (state, gid, mst, «rs_ack») = call-copes state (areBytes gid 
 
 -- The board, the board going out and the ranks: 9 unless both lengths are right.
 
-shows : (n : ℕ) (state new out : List ℕ)
+pub shows : (n : ℕ) (state new out : List ℕ)
     → Copes (stateless (Unless 9 (isWhole state && length out == n) ∷ []) (shownAnswerC n state out) (out ∷ []) (shownBytes n state new out ∷ []))
 unfolding shownAnswerC shownBytes
 shows n state new out = copes _ (λ l. rw l, λ l. rw l (refl, refl, refl))
