@@ -2,7 +2,7 @@
 use mathlib.Core.Path.{_≡_, refl, _∙_, sym, ap}
 use mathlib.Core.Bool.{Bool}
 use mathlib.Core.List.{List}
-use Prim.Native.Nat.{ℕ, _+_, _≤_, _<_}
+use Prim.Native.Nat.{ℕ, _≤_, _<_}
 use lib.ListN.{drop, getD, length}
 use borrow.Author.Tests.{eq-eqb, le-leb, lt-leb, ne-eqb}
 use Rattle.ground.specs.Drawn.{fillAt, fillAt-all}
@@ -12,7 +12,7 @@ use Rattle.replaying.specs.declared.replay.Replay.{Replay}
 use Rattle.replaying.specs.declared.turns.Replayed.{Replayed}
 use Rattle.replaying.specs.Lengths.{lengthsOf}
 use Rattle.replaying.specs.Replay.{beginning}
-use Rattle.replaying.specs.Turn.{turnOf, turnOut, turnRows, turnSaid, turnStore}
+use Rattle.replaying.specs.Turn.{placed, turnOf, turnOut, turnRows, turnSaid, turnStore}
 use Rattle.c_recordings.specs.Replays.{beginAnswerC, beginStateC, bytesOf, lastC, lengthsAnswerC, outLengthC, replayOf, storeLengthC, turnAnswerC, turnAtC, turnC, turnOutC, turnRowsC, turnSaidC, turnStateC, turnStoreC, turnWantsC, turnWrittenC}
 
 -- a state written whole
@@ -69,15 +69,16 @@ module _ (state text : List ℕ) (at last : ℕ) (rows : List (List ℕ)) (store
   -- the crate's own turn, and what it left
   module _ (l : length state ≡ 17) (h : at ≤ length text) (r : Replay) (ended : Bool) (er : r ≡ replayOf state) (ee : ended ≡ lastC last) (t : Replayed)
       (rows' : List (List ℕ)) (store' out' said' : List ℕ)
-      (own : (t ≡ turnOf r (drop at text) ended rows store out (length said))
+      (own : (t ≡ placed at (turnOf r (drop at text) ended rows store out (length said)))
       × (rows' ≡ turnRows r (drop at text) ended rows store out (length said))
       × (store' ≡ turnStore r (drop at text) ended rows store out (length said))
       × (out' ≡ turnOut r rows store out (length said))
       × (said' ≡ turnSaid r (drop at text) ended rows store out said)) where
-    e : t ≡ turnC state text at last rows store out (length said)
+    e : t ≡ placed at (turnC state text at last rows store out (length said))
     e = rw (er, ee) at (own .0)
 
     answer-is : t .answer ≡ turnC state text at last rows store out (length said) .answer
+    unfolding placed
     answer-is = ap (λ (x : Replayed). x .answer) e
 
     pub turn-refused : (t .answer ≡ 0 → ⊥) → Left (t .answer) state at rows' store' out' said' written wants
@@ -88,9 +89,9 @@ module _ (state text : List ℕ) (at last : ℕ) (rows : List (List ℕ)) (store
         (answer-is, refl, refl, rw (er, ee) at (own .1), rw (er, ee) at (own .2), rw er at (own .3), rw (er, ee) at (own .4), refl, refl)
 
     pub turn-done : (wanted : ℕ) (after : List ℕ) → t .answer ≡ 0 → after ≡ bytesOf (t .replay) → wanted ≡ oneIf (t .wants)
-        → Left 0 after (at + t .used) rows' store' out' said' (t .written) wanted
-    unfolding turnAnswerC turnStateC turnAtC turnRowsC turnStoreC turnOutC turnSaidC turnWrittenC turnWantsC
+        → Left 0 after (t .used) rows' store' out' said' (t .written) wanted
+    unfolding placed turnAnswerC turnStateC turnAtC turnRowsC turnStoreC turnOutC turnSaidC turnWrittenC turnWantsC
     turn-done wanted after z a w =
         let y : turnC state text at last rows store out (length said) .answer ≡ 0 = sym answer-is ∙ z in
         rw (eq-eqb (length state) 17 l, le-leb at (length text) h, y)
-        (refl, a ∙ ap (λ (x : Replayed). bytesOf (x .replay)) e, ap (λ (x : Replayed). at + x .used) e, rw (er, ee) at (own .1), rw (er, ee) at (own .2), rw er at (own .3), rw (er, ee) at (own .4), ap (λ (x : Replayed). x .written) e, w ∙ ap (λ (x : Replayed). oneIf (x .wants)) e)
+        (refl, a ∙ ap (λ (x : Replayed). bytesOf (x .replay)) e, ap (λ (x : Replayed). x .used) e, rw (er, ee) at (own .1), rw (er, ee) at (own .2), rw er at (own .3), rw (er, ee) at (own .4), ap (λ (x : Replayed). x .written) e, w ∙ ap (λ (x : Replayed). oneIf (x .wants)) e)

@@ -3,12 +3,10 @@
 use crate::keeping;
 use replaying::Phase;
 use replaying::Replay;
-use replaying::Replayed;
 ghost use mathlib.Core.Path.{_≡_};
 ghost use Prim.Native.Nat.{_≤_};
-ghost use lib.ListN.{drop, length};
+ghost use lib.ListN.{length};
 ghost use Rattle.c_recordings.specs.Replays.{beginAnswerC, beginStateC, bytesOf, fourOf, lastC, lengthsAnswerC, lineIn, outLengthC, phaseCode, phaseOf, replayBytes, replayOf, storeLengthC, turnAnswerC, turnAtC, turnOutC, turnRowsC, turnSaidC, turnStateC, turnStoreC, turnWantsC, turnWrittenC, twoOf};
-ghost use Rattle.replaying.specs.Turn.{turnOf, turnOut, turnRows, turnSaid, turnStore};
 
 // A replay's state.
 const REPLAY_BYTES: usize = 17;
@@ -156,27 +154,6 @@ fn is_last(last: u32) -> bool
     !(last == 0)
 }
 
-// A turn on a text from a place on.
-fn turn_at(
-    replay: Replay,
-    text: &[u8],
-    at: usize,
-    last: bool,
-    rows: &mut [[u8; 16]],
-    store: &mut [u8],
-    out: &mut [u8],
-    said: &mut [u8],
-) -> Replayed
-    requires { ⌜ at ≤ length (now text) ⌝ }
-    ensures { λ r. ⌜ (r ≡ turnOf replay (drop at (now (text .entry))) last (now (rows .entry)) (now (store .entry)) (now (out .entry)) (length (now (said .entry))))
-        × (now (rows .exit) ≡ turnRows replay (drop at (now (text .entry))) last (now (rows .entry)) (now (store .entry)) (now (out .entry)) (length (now (said .entry))))
-        × (now (store .exit) ≡ turnStore replay (drop at (now (text .entry))) last (now (rows .entry)) (now (store .entry)) (now (out .entry)) (length (now (said .entry))))
-        × (now (out .exit) ≡ turnOut replay (now (rows .entry)) (now (store .entry)) (now (out .entry)) (length (now (said .entry))))
-        × (now (said .exit) ≡ turnSaid replay (drop at (now (text .entry))) last (now (rows .entry)) (now (store .entry)) (now (out .entry)) (now (said .entry))) ⌝ }
-{
-    replaying::turn(replay, &text[at..], last, rows, store, out, said)
-}
-
 #[no_mangle]
 pub extern "C" fn levelspruce_replay_turn(
     state: &mut [u8],
@@ -209,13 +186,13 @@ pub extern "C" fn levelspruce_replay_turn(
     }
     let replay = replay_of(state);
     let ended = is_last(last);
-    let turn = turn_at(replay, text, from, ended, rows, store, out, said);
+    let turn = replaying::turn(replay, text, from, ended, rows, store, out, said);
     if turn.answer != 0 {
         return turn.answer;
     }
     let after = turn.replay;
     put_replay(after, state);
-    *at = from + turn.used;
+    *at = turn.used;
     *written = turn.written;
     *wants = ground::one_if(turn.wants);
     0

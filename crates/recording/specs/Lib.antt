@@ -1,4 +1,5 @@
 pub mod Theorems
+pub mod Later
 pub mod Laws
 pub mod Line
 pub mod Opened

@@ -15,9 +15,10 @@ const ROWS_MOST: usize = 321;
 // 'a store above 65,536 bytes in the program' is 4. No other length is lent: `run_file` asks for STORE.
 const STORE_BYTES: usize = 65536;
 
+// at: the place of the text to which it has come.
 struct Done {
     replay: Replay,
-    used: usize,
+    at: usize,
     goes_on: bool,
 }
 
@@ -27,26 +28,27 @@ fn at_most(n: usize, most: usize) -> usize
     if n < most { n } else { most }
 }
 
-// One turn on a text, and what it prints. Where that cannot be written there is nobody to go on for.
+// One turn on a text from a place on, and what it prints. Where that cannot be written there is nobody to go on for.
 // Each function below gives the replay that it is handed, carried on by turns alone.
 fn take_turn(
     replay: Replay,
     text: &[u8],
+    at: usize,
     last: bool,
     rows: &mut [[u8; 16]],
     store: &mut [u8],
     out: &mut [u8],
     said: &mut [u8],
 ) -> Done
-    ensures { λ r. ⌜ (r .used ≤ length (now (text .entry))) × Carried replay (r .replay) ⌝ }
+    ensures { λ r. ⌜ (r .at ≤ length (now (text .entry))) × Carried replay (r .replay) ⌝ }
 {
-    let turn = replaying::turn(replay, text, last, rows, store, out, said);
+    let turn = replaying::turn(replay, text, at, last, rows, store, out, said);
     let after = turn.replay;
     let written = at_most(turn.written, said.len());
     let wrote = io::write_all(STDOUT_FILENO, &said[..written]);
     Done {
         replay: after,
-        used: at_most(turn.used, text.len()),
+        at: at_most(turn.used, text.len()),
         goes_on: wrote & !turn.wants,
     }
 }
@@ -61,7 +63,7 @@ fn run_text(
     store: &mut [u8],
     out: &mut [u8],
 ) -> Done
-    ensures { λ r. ⌜ (r .used ≤ length (now (text .entry))) × Carried replay (r .replay) ⌝ }
+    ensures { λ r. ⌜ (r .at ≤ length (now (text .entry))) × Carried replay (r .replay) ⌝ }
 {
     let mut said = io::buffer();
     let mut now = replay;
@@ -69,16 +71,16 @@ fn run_text(
     let mut goes_on = true;
     let mut turns = u64::MAX;
     while goes_on & (turns > 0) {
-        let turn = take_turn(now, &text[at..], last, rows, store, out, &mut said);
+        let turn = take_turn(now, text, at, last, rows, store, out, &mut said);
         let next = turn.replay;
         now = next;
-        at += turn.used;
+        at = turn.at;
         goes_on = turn.goes_on;
         turns -= 1;
     }
     Done {
         replay: now,
-        used: at,
+        at,
         goes_on,
     }
 }
@@ -137,7 +139,7 @@ fn run_some(
     let last = got == 0;
     let done = run_front(replay, buffer, end, last, rows, store, out);
     let after = done.replay;
-    let used = at_most(done.used, end);
+    let used = at_most(done.at, end);
     Part {
         replay: after,
         kept: keep_rest(buffer, used, end),

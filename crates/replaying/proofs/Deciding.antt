@@ -1,30 +1,42 @@
 -- The ways out of a turn.
 use mathlib.Core.Path.{_≡_, refl, sym, ap, _∙_}
-use mathlib.Core.Bool.{Bool, cond, _&&_}
+use mathlib.Core.Bool.{Bool, true, false, cond, _&&_}
 use mathlib.Core.List.{List, [], _∷_}
 use Prim.Native.Nat.{ℕ, _+_, _*_, _≤_, _<_}
 use native.Mathlib.Omega.{arith}
-use lib.ListN.{length, replicate, length-replicate, drop-of-length-le, take}
+use lib.ListN.{drop, length, length-drop, replicate, length-replicate, drop-of-length-le, take}
 use lib.Seq.{slice, take-length}
+use lib.Dec.{ltb}
+use borrow.Author.Tests.{le-ltb, lt-ltb}
+use Rattle.text.specs.Laws.Parted.{index-le}
 use Rattle.bytes.specs.Bytes.{indexOf}
 use Rattle.replaying.specs.declared.replay.Phase.{Phase}
 use Rattle.replaying.specs.declared.replay.Replay.{Replay}
 use Rattle.replaying.specs.declared.turns.Replayed.{Replayed}
-use Rattle.replaying.specs.Turn.{payloadAt, turnBy, turnOf, turnOut, turnOutBy, turnRows, turnRowsBy, turnSaid, turnSaidBy, turnStore, turnStoreBy}
+use Rattle.replaying.specs.Turn.{payloadAt, placed, turnBy, turnOf, turnOut, turnOutBy, turnRows, turnRowsBy, turnSaid, turnSaidBy, turnStore, turnStoreBy}
 use Rattle.text.specs.Text.{LINE-END}
 use Rattle.text.specs.Fields.{areDigits, bytesIn, bytesOf, isHex}
 
--- the first line end of a whole text
-pub end-is : (text : List ℕ) (end : ℕ) → end ≡ 0 + indexOf LINE-END (slice 0 (length text) text) → end ≡ indexOf LINE-END text
-end-is text end e =
-    let z : 0 + indexOf LINE-END text ≡ indexOf LINE-END text = omega arith in
-    rw (take-length, z) at e
+-- the first line end of a text from a place on
+module _ (text : List ℕ) (at end : ℕ) (e : end ≡ at + indexOf LINE-END (slice at (length text) text)) where
+  pub end-is : end ≡ at + indexOf LINE-END (drop at text)
+  end-is = rw take-length at e
+
+  pub end-there : end < length text → ltb (indexOf LINE-END (drop at text)) (length (drop at text)) ≡ true
+  end-there h = let s = end-is in let n = length-drop at text in lt-ltb (indexOf LINE-END (drop at text)) (length (drop at text)) (omega arith)
+
+  pub end-none : length text ≤ end → ltb (indexOf LINE-END (drop at text)) (length (drop at text)) ≡ false
+  end-none h = let s = end-is in let n = length-drop at text in le-ltb (indexOf LINE-END (drop at text)) (length (drop at text)) (omega arith)
+
+  -- where there is none, it is the rest's end
+  pub end-all : length text ≤ end → end ≡ at + length (drop at text)
+  end-all h = let s = end-is in let n = length-drop at text in let m = index-le LINE-END (drop at text) in omega arith
 
 -- by the phase
 module _ (r : Replay) (p : Phase) (e : r .phase ≡ p) (text : List ℕ) (last : Bool) (rows : List (List ℕ)) (store out : List ℕ) where
-  pub turn-is : (said : ℕ) (x : Replayed) → x ≡ turnBy p r text last rows store out said → x ≡ turnOf r text last rows store out said
+  pub turn-is : (at said : ℕ) (x : Replayed) → x ≡ placed at (turnBy p r text last rows store out said) → x ≡ placed at (turnOf r text last rows store out said)
   unfolding turnOf
-  turn-is said x h = h ∙ ap (λ (q : Phase). turnBy q r text last rows store out said) (sym e)
+  turn-is at said x h = h ∙ ap (λ (q : Phase). placed at (turnBy q r text last rows store out said)) (sym e)
 
   pub rows-is : (said : ℕ) (x : List (List ℕ)) → x ≡ turnRowsBy p r text last rows store out said → x ≡ turnRows r text last rows store out said
   unfolding turnRows

@@ -3,6 +3,7 @@ pub mod Carrying
 pub mod Due
 pub mod Lengths
 pub mod Lent
+pub mod Placed
 pub mod Starts
 pub mod Texts
 pub mod Used

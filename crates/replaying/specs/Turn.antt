@@ -47,6 +47,10 @@ refusedTurn r = record { replay = r; answer = 9; used = 0; written = 0; wants = 
 abbrev pub waitingTurn : Replay → Replayed
 waitingTurn r = turned r 0 0 true
 
+-- on a text from a place on: a turn on the rest alone, which has come so much further in the text
+unfoldable pub placed : (at : ℕ) (t : Replayed) → Replayed
+placed at t = record { replay = t .replay; answer = t .answer; used = at + t .used; written = t .written; wants = t .wants }
+
 -- a line refused: it 'is printed with its line number'
 unfoldable pub answeredTurn : (r : Replay) (phase : Phase) (number used : ℕ) → Replayed
 answeredTurn r phase number used = turned (within r phase (nextLine (r .line)) 0) used (length (answerText number (nextLine (r .line)))) false

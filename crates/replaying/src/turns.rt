@@ -10,18 +10,19 @@ use recording::Record;
 use recording::Settings;
 use rows::group;
 ghost use mathlib.Core.Path.{_≡_};
-ghost use Prim.Native.Nat.{_+_, _*_, _≤_};
-ghost use lib.ListN.{length, replicate};
+ghost use Prim.Native.Nat.{_+_, _-_, _*_, _≤_};
+ghost use lib.ListN.{drop, length, replicate};
 ghost use lib.Seq.{slice};
+ghost use Rattle.recording.specs.Later.{later};
 ghost use Rattle.replaying.specs.Laws.Lent.{Lent};
 ghost use Rattle.replaying.specs.Laws.Starts.{Small};
 ghost use Rattle.replaying.specs.Output.{ROOM};
-ghost use Rattle.replaying.specs.Turn.{answeredSaid, answeredTurn, endedTurn, fetchOutBy, fetchRecordBy, fetchRowsBy, fetchedSaid, fetchedTurn, framedTurn, framedRows, framedStore, isLent, isOpen, openRows, openSaid, openTurn, openWithRows, openWithSaid, openWithTurn, payloadAt, readRows, readSaid, readStore, readTurn, recordNow, refusedTurn, reportOut, reportRows, reportSaid, reportTurn, reportedTurn, readOnTurn, rowsStarted, skipTurn, skippedTo, startable, startedTurn, storeBy, turnOf, turnOut, turnRows, turnSaid, turnStore, waitingTurn};
+ghost use Rattle.replaying.specs.Turn.{answeredSaid, answeredTurn, endedTurn, fetchOutBy, fetchRecordBy, fetchRowsBy, fetchedSaid, fetchedTurn, framedTurn, framedRows, framedStore, isLent, isOpen, openRows, openSaid, openTurn, openWithRows, openWithSaid, openWithTurn, payloadAt, placed, readRows, readSaid, readStore, readTurn, recordNow, refusedTurn, reportOut, reportRows, reportSaid, reportTurn, reportedTurn, readOnTurn, rowsStarted, skipTurn, skippedTo, startable, startedTurn, storeBy, turnOf, turnOut, turnRows, turnSaid, turnStore, waitingTurn};
 ghost use Rattle.rows.specs.Rows.{rowsFor};
 ghost use Rattle.text.specs.Fields.{bytesIn};
 
-// What a turn has done. answer: 0, or 9 where what is lent is too short, and then nothing is done. wants: nothing more can be done without more
-// of the text.
+// What a turn has done. answer: 0, or 9 where what is lent is too short, and then nothing is done. used: how many bytes of the text are used
+// now, the place to which it has come. wants: nothing more can be done without more of the text.
 pub struct Replayed {
     pub replay: Replay,
     pub answer: u8,
@@ -39,25 +40,25 @@ const ROWS_MOST: usize = 321;
 // The longest payload.
 const SIZE_MOST: u16 = 2340;
 
-fn refused(replay: Replay) -> Replayed
-    ensures { λ r. ⌜ r ≡ refusedTurn replay ⌝ }
+fn refused(replay: Replay, at: usize) -> Replayed
+    ensures { λ r. ⌜ r ≡ placed at (refusedTurn replay) ⌝ }
 {
     Replayed {
         replay,
         answer: 9,
-        used: 0,
+        used: at,
         written: 0,
         wants: true,
     }
 }
 
-fn waiting(replay: Replay) -> Replayed
-    ensures { λ r. ⌜ r ≡ waitingTurn replay ⌝ }
+fn waiting(replay: Replay, at: usize) -> Replayed
+    ensures { λ r. ⌜ r ≡ placed at (waitingTurn replay) ⌝ }
 {
     Replayed {
         replay,
         answer: 0,
-        used: 0,
+        used: at,
         written: 0,
         wants: true,
     }
@@ -140,51 +141,53 @@ fn open_as(replay: Replay, settings: Settings, next: usize, rows: &mut [[u8; 16]
 fn open_with(
     replay: Replay,
     settings: Settings,
+    at: usize,
     next: usize,
     rows: &mut [[u8; 16]],
     store: usize,
     said: &mut [u8],
 ) -> Replayed
-    requires { ⌜ (ROOM ≤ length (now said)) × (321 ≤ length (now rows)) ⌝ }
-    ensures { λ r. ⌜ (r ≡ openWithTurn replay settings next store)
+    requires { ⌜ (ROOM ≤ length (now said)) × (321 ≤ length (now rows)) × (at ≤ next) ⌝ }
+    ensures { λ r. ⌜ (r ≡ placed at (openWithTurn replay settings (next - at) store))
         × (now (rows .exit) ≡ openWithRows settings store (now (rows .entry)))
         × (now (said .exit) ≡ openWithSaid replay settings store (now (said .entry))) ⌝ }
 {
     if is_startable(settings, store) {
         return open_as(replay, settings, next, rows);
     }
-    answered(replay, Phase::Ended, 4, 0, said)
+    answered(replay, Phase::Ended, 4, at, said)
 }
 
 // The first line.
 fn open(
     replay: Replay,
     text: &[u8],
+    at: usize,
     last: bool,
     rows: &mut [[u8; 16]],
     store: usize,
     said: &mut [u8],
 ) -> Replayed
-    ensures { λ r. ⌜ (r ≡ openTurn replay (now (text .entry)) last (length (now (rows .entry))) store (length (now (said .entry))))
-        × (now (rows .exit) ≡ openRows (now (text .entry)) last (now (rows .entry)) store (length (now (said .entry))))
-        × (now (said .exit) ≡ openSaid replay (now (text .entry)) last (length (now (rows .entry))) store (now (said .entry))) ⌝ }
+    ensures { λ r. ⌜ (r ≡ placed at (openTurn replay (drop at (now (text .entry))) last (length (now (rows .entry))) store (length (now (said .entry)))))
+        × (now (rows .exit) ≡ openRows (drop at (now (text .entry))) last (now (rows .entry)) store (length (now (said .entry))))
+        × (now (said .exit) ≡ openSaid replay (drop at (now (text .entry))) last (length (now (rows .entry))) store (now (said .entry))) ⌝ }
 {
     if said.len() < REPLAY_ROOM {
-        return refused(replay);
+        return refused(replay, at);
     }
     if rows.len() < ROWS_MOST {
-        return refused(replay);
+        return refused(replay, at);
     }
-    let first = recording::opening_at(text, 0, last);
+    let first = recording::opening_at(text, at, last);
     let line = first.line;
     match line {
         FirstLine::Settings => {
             let settings = first.settings;
-            open_with(replay, settings, first.next, rows, store, said)
+            open_with(replay, settings, at, first.next, rows, store, said)
         }
-        FirstLine::Malformed => answered(replay, Phase::Ended, 13, 0, said),
-        FirstLine::Unfinished => waiting(replay),
-        FirstLine::End => waiting(replay),
+        FirstLine::Malformed => answered(replay, Phase::Ended, 13, at, said),
+        FirstLine::Unfinished => waiting(replay, at),
+        FirstLine::End => waiting(replay, at),
     }
 }
 
@@ -205,17 +208,18 @@ fn store_by(phase: Phase, store: &mut [u8])
 fn open_all(
     replay: Replay,
     text: &[u8],
+    at: usize,
     last: bool,
     rows: &mut [[u8; 16]],
     store: &mut [u8],
     said: &mut [u8],
 ) -> Replayed
-    ensures { λ r. ⌜ (r ≡ openTurn replay (now (text .entry)) last (length (now (rows .entry))) (length (now (store .entry))) (length (now (said .entry))))
-        × (now (rows .exit) ≡ openRows (now (text .entry)) last (now (rows .entry)) (length (now (store .entry))) (length (now (said .entry))))
-        × (now (store .exit) ≡ storeBy (openTurn replay (now (text .entry)) last (length (now (rows .entry))) (length (now (store .entry))) (length (now (said .entry))) .replay .phase) (now (store .entry)))
-        × (now (said .exit) ≡ openSaid replay (now (text .entry)) last (length (now (rows .entry))) (length (now (store .entry))) (now (said .entry))) ⌝ }
+    ensures { λ r. ⌜ (r ≡ placed at (openTurn replay (drop at (now (text .entry))) last (length (now (rows .entry))) (length (now (store .entry))) (length (now (said .entry)))))
+        × (now (rows .exit) ≡ openRows (drop at (now (text .entry))) last (now (rows .entry)) (length (now (store .entry))) (length (now (said .entry))))
+        × (now (store .exit) ≡ storeBy (openTurn replay (drop at (now (text .entry))) last (length (now (rows .entry))) (length (now (store .entry))) (length (now (said .entry))) .replay .phase) (now (store .entry)))
+        × (now (said .exit) ≡ openSaid replay (drop at (now (text .entry))) last (length (now (rows .entry))) (length (now (store .entry))) (now (said .entry))) ⌝ }
 {
-    let done = open(replay, text, last, rows, store.len(), said);
+    let done = open(replay, text, at, last, rows, store.len(), said);
     let after = done.replay;
     let phase = after.phase;
     store_by(phase, store);
@@ -249,13 +253,13 @@ fn is_open(found: Record) -> bool
     }
 }
 
-// The record at the beginning of a text; the last line may lack its end.
-fn record_now(text: &[u8], last: bool, ports: u8, size: u16) -> Record
-    ensures { λ r. ⌜ r ≡ recordNow ports size last (now (text .entry)) ⌝ }
+// The record at a place of a text; the last line may lack its end.
+fn record_now(text: &[u8], at: usize, last: bool, ports: u8, size: u16) -> Record
+    ensures { λ r. ⌜ r ≡ later at (recordNow ports size last (drop at (now (text .entry)))) ⌝ }
 {
-    let found = recording::record_at(text, 0, ports as u32, size as u32);
+    let found = recording::record_at(text, at, ports as u32, size as u32);
     if is_open(found) & last {
-        return recording::last_record(text, 0, ports as u32, size as u32);
+        return recording::last_record(text, at, ports as u32, size as u32);
     }
     found
 }
@@ -379,40 +383,48 @@ fn framed(replay: Replay, next: usize) -> Replayed
     }
 }
 
+// The end of a text, or the place where that lies behind it.
+fn end_behind(text: &[u8], at: usize) -> usize
+    ensures { λ r. ⌜ r ≡ at + length (drop at (now (text .entry))) ⌝ }
+{
+    if text.len() < at { at } else { text.len() }
+}
+
 // A line.
 fn read(
     replay: Replay,
     text: &[u8],
+    at: usize,
     last: bool,
     rows: &mut [[u8; 16]],
     store: &mut [u8],
     out: usize,
     said: &mut [u8],
 ) -> Replayed
-    ensures { λ r. ⌜ (r ≡ readTurn replay (now (text .entry)) last (length (now (rows .entry))) (length (now (store .entry))) out (length (now (said .entry))))
-        × (now (rows .exit) ≡ readRows replay (now (text .entry)) last (now (rows .entry)) (now (store .entry)) out (length (now (said .entry))))
-        × (now (store .exit) ≡ readStore replay (now (text .entry)) last (now (rows .entry)) (now (store .entry)) out (length (now (said .entry))))
-        × (now (said .exit) ≡ readSaid replay (now (text .entry)) last (length (now (rows .entry))) (length (now (store .entry))) out (now (said .entry))) ⌝ }
+    ensures { λ r. ⌜ (r ≡ placed at (readTurn replay (drop at (now (text .entry))) last (length (now (rows .entry))) (length (now (store .entry))) out (length (now (said .entry)))))
+        × (now (rows .exit) ≡ readRows replay (drop at (now (text .entry))) last (now (rows .entry)) (now (store .entry)) out (length (now (said .entry))))
+        × (now (store .exit) ≡ readStore replay (drop at (now (text .entry))) last (now (rows .entry)) (now (store .entry)) out (length (now (said .entry))))
+        × (now (said .exit) ≡ readSaid replay (drop at (now (text .entry))) last (length (now (rows .entry))) (length (now (store .entry))) out (now (said .entry))) ⌝ }
 {
     if !is_lent(replay, rows.len(), store.len(), out, said.len()) {
-        return refused(replay);
+        return refused(replay, at);
     }
-    let found = record_now(text, last, replay.ports, replay.size);
+    let found = record_now(text, at, last, replay.ports, replay.size);
     match found {
         Record::Frame(port, h4, flag, place, next) => {
             take_frame(replay, text, port, h4, flag, place, rows, store);
             framed(replay, next)
         }
         Record::Malformed(next) => answered(replay, Phase::Reading, 13, next, said),
-        Record::Long => answered(replay, Phase::Skipping, 13, text.len(), said),
-        Record::Unfinished => waiting(replay),
-        Record::End => waiting(replay),
+        Record::Long => answered(replay, Phase::Skipping, 13, end_behind(text, at), said),
+        Record::Unfinished => waiting(replay, at),
+        Record::End => waiting(replay, at),
     }
 }
 
 // No report is due: the next line may come.
-fn read_on(replay: Replay) -> Replayed
-    ensures { λ r. ⌜ r ≡ readOnTurn replay ⌝ }
+fn read_on(replay: Replay, at: usize) -> Replayed
+    ensures { λ r. ⌜ r ≡ placed at (readOnTurn replay) ⌝ }
 {
     Replayed {
         replay: Replay {
@@ -425,15 +437,15 @@ fn read_on(replay: Replay) -> Replayed
             window: replay.window,
         },
         answer: 0,
-        used: 0,
+        used: at,
         written: 0,
         wants: false,
     }
 }
 
-fn reported(replay: Replay, written: usize) -> Replayed
+fn reported(replay: Replay, at: usize, written: usize) -> Replayed
     requires { ⌜ 1 ≤ replay .left ⌝ }
-    ensures { λ r. ⌜ r ≡ reportedTurn replay written ⌝ }
+    ensures { λ r. ⌜ r ≡ placed at (reportedTurn replay written) ⌝ }
 {
     Replayed {
         replay: Replay {
@@ -446,7 +458,7 @@ fn reported(replay: Replay, written: usize) -> Replayed
             window: replay.window,
         },
         answer: 0,
-        used: 0,
+        used: at,
         written,
         wants: false,
     }
@@ -469,13 +481,14 @@ fn fetch(replay: Replay, rows: &mut [[u8; 16]], store: &[u8], out: &mut [u8]) ->
 // A fetch, and its report with the states that it changed.
 fn report_now(
     replay: Replay,
+    at: usize,
     rows: &mut [[u8; 16]],
     store: &[u8],
     out: &mut [u8],
     said: &mut [u8],
 ) -> Replayed
     requires { ⌜ Lent replay (length (now rows)) (length (now store)) (length (now out)) (length (now said)) × (1 ≤ replay .left) ⌝ }
-    ensures { λ r. ⌜ (r ≡ fetchedTurn replay (now (rows .entry)) (now (store .entry)) (now (out .entry)))
+    ensures { λ r. ⌜ (r ≡ placed at (fetchedTurn replay (now (rows .entry)) (now (store .entry)) (now (out .entry))))
         × (now (rows .exit) ≡ fetchRowsBy replay (now (rows .entry)) (now (store .entry)) (now (out .entry)))
         × (now (out .exit) ≡ fetchOutBy replay (now (rows .entry)) (now (store .entry)) (now (out .entry)))
         × (now (said .exit) ≡ fetchedSaid replay (now (rows .entry)) (now (store .entry)) (now (out .entry)) (now (said .entry))) ⌝ }
@@ -483,44 +496,45 @@ fn report_now(
     let before = changes::states_in(replay.kind, rows);
     let given = fetch(replay, rows, store, out);
     if given[0] == 0 {
-        return read_on(replay);
+        return read_on(replay, at);
     }
     let after = changes::states_in(replay.kind, rows);
     let written = changes::put_report(given, replay.line, before, after, replay.ports, said);
-    reported(replay, written)
+    reported(replay, at, written)
 }
 
 // A report, if one is due. Most frames make none due, and the states are then not looked at.
 fn report(
     replay: Replay,
+    at: usize,
     rows: &mut [[u8; 16]],
     store: &[u8],
     out: &mut [u8],
     said: &mut [u8],
 ) -> Replayed
-    ensures { λ r. ⌜ (r ≡ reportTurn replay (now (rows .entry)) (now (store .entry)) (now (out .entry)) (length (now (said .entry))))
+    ensures { λ r. ⌜ (r ≡ placed at (reportTurn replay (now (rows .entry)) (now (store .entry)) (now (out .entry)) (length (now (said .entry)))))
         × (now (rows .exit) ≡ reportRows replay (now (rows .entry)) (now (store .entry)) (now (out .entry)) (length (now (said .entry))))
         × (now (out .exit) ≡ reportOut replay (now (rows .entry)) (now (store .entry)) (now (out .entry)) (length (now (said .entry))))
         × (now (said .exit) ≡ reportSaid replay (now (rows .entry)) (now (store .entry)) (now (out .entry)) (now (said .entry))) ⌝ }
 {
     if !is_lent(replay, rows.len(), store.len(), out.len(), said.len()) {
-        return refused(replay);
+        return refused(replay, at);
     }
     if replay.left == 0 {
-        return read_on(replay);
+        return read_on(replay, at);
     }
     let n = group::rows_for(replay.ports);
     if lent::is_due(rows, n) {
-        return report_now(replay, rows, store, out, said);
+        return report_now(replay, at, rows, store, out, said);
     }
-    read_on(replay)
+    read_on(replay, at)
 }
 
 // The rest of a line that is too long.
-fn skip(replay: Replay, text: &[u8], last: bool) -> Replayed
-    ensures { λ r. ⌜ r ≡ skipTurn replay (now (text .entry)) last ⌝ }
+fn skip(replay: Replay, text: &[u8], at: usize, last: bool) -> Replayed
+    ensures { λ r. ⌜ r ≡ placed at (skipTurn replay (drop at (now (text .entry))) last) ⌝ }
 {
-    let end = text::piece_end(text, 0, text.len(), b'\n');
+    let end = text::piece_end(text, at, text.len(), b'\n');
     if end < text.len() {
         return Replayed {
             replay: Replay {
@@ -550,7 +564,7 @@ fn skip(replay: Replay, text: &[u8], last: bool) -> Replayed
             window: replay.window,
         },
         answer: 0,
-        used: text.len(),
+        used: end,
         written: 0,
         wants: true,
     }
@@ -567,41 +581,42 @@ fn skipped_to(last: bool) -> Phase
 }
 
 // The first line was refused: the rest is swallowed.
-fn swallow(replay: Replay, text: usize) -> Replayed
-    ensures { λ r. ⌜ r ≡ endedTurn replay text ⌝ }
+fn swallow(replay: Replay, text: &[u8], at: usize) -> Replayed
+    ensures { λ r. ⌜ r ≡ placed at (endedTurn replay (length (drop at (now (text .entry))))) ⌝ }
 {
     Replayed {
         replay,
         answer: 0,
-        used: text,
+        used: end_behind(text, at),
         written: 0,
         wants: true,
     }
 }
 
-// One turn on what is left of a text. Rows are lent for 64 ports, and as much store as may be; `out` takes a report's bytes, `said` what is
+// One turn on a text from a place on. The text stays where it is lent, and the place to which it has come is handed back. Rows are lent for 64 ports, and as much store as may be; `out` takes a report's bytes, `said` what is
 // printed.
 pub fn turn(
     replay: Replay,
     text: &[u8],
+    at: usize,
     last: bool,
     rows: &mut [[u8; 16]],
     store: &mut [u8],
     out: &mut [u8],
     said: &mut [u8],
 ) -> Replayed
-    ensures { λ r. ⌜ (r ≡ turnOf replay (now (text .entry)) last (now (rows .entry)) (now (store .entry)) (now (out .entry)) (length (now (said .entry))))
-        × (now (rows .exit) ≡ turnRows replay (now (text .entry)) last (now (rows .entry)) (now (store .entry)) (now (out .entry)) (length (now (said .entry))))
-        × (now (store .exit) ≡ turnStore replay (now (text .entry)) last (now (rows .entry)) (now (store .entry)) (now (out .entry)) (length (now (said .entry))))
+    ensures { λ r. ⌜ (r ≡ placed at (turnOf replay (drop at (now (text .entry))) last (now (rows .entry)) (now (store .entry)) (now (out .entry)) (length (now (said .entry)))))
+        × (now (rows .exit) ≡ turnRows replay (drop at (now (text .entry))) last (now (rows .entry)) (now (store .entry)) (now (out .entry)) (length (now (said .entry))))
+        × (now (store .exit) ≡ turnStore replay (drop at (now (text .entry))) last (now (rows .entry)) (now (store .entry)) (now (out .entry)) (length (now (said .entry))))
         × (now (out .exit) ≡ turnOut replay (now (rows .entry)) (now (store .entry)) (now (out .entry)) (length (now (said .entry))))
-        × (now (said .exit) ≡ turnSaid replay (now (text .entry)) last (now (rows .entry)) (now (store .entry)) (now (out .entry)) (now (said .entry))) ⌝ }
+        × (now (said .exit) ≡ turnSaid replay (drop at (now (text .entry))) last (now (rows .entry)) (now (store .entry)) (now (out .entry)) (now (said .entry))) ⌝ }
 {
     let phase = replay.phase;
     match phase {
-        Phase::Settings => open_all(replay, text, last, rows, store, said),
-        Phase::Reading => read(replay, text, last, rows, store, out.len(), said),
-        Phase::Fetching => report(replay, rows, store, out, said),
-        Phase::Skipping => skip(replay, text, last),
-        Phase::Ended => swallow(replay, text.len()),
+        Phase::Settings => open_all(replay, text, at, last, rows, store, said),
+        Phase::Reading => read(replay, text, at, last, rows, store, out.len(), said),
+        Phase::Fetching => report(replay, at, rows, store, out, said),
+        Phase::Skipping => skip(replay, text, at, last),
+        Phase::Ended => swallow(replay, text, at),
     }
 }

@@ -26,7 +26,7 @@ use Rattle.replaying.specs.declared.replay.Phase.the-variants.{Settings, Readin
 use Rattle.replaying.specs.declared.replay.Replay.{Replay}
 use Rattle.replaying.specs.declared.turns.Replayed.{Replayed}
 use Rattle.replaying.specs.Lengths.{inRange, lengthsBy, lengthsIn, lengthsOf, lengthsWith, noLengths}
-use Rattle.replaying.specs.Turn.{answeredTurn, fetchedTurn, framedTurn, isDue, isLent, openRows, openSaid, openTurn, openTurnBy, openWithTurn, readBy, readOnTurn, readRows, readSaid, readStore, readTurn, recordNow, reportOut, reportRows, reportSaid, reportTurn, reportedTurn, skipTurn, startable, timesFit, turnOf, turnOut, turnRows, turnSaid, turnStore}
+use Rattle.replaying.specs.Turn.{answeredTurn, fetchedTurn, framedTurn, isDue, isLent, openRows, openSaid, openTurn, openTurnBy, openWithTurn, placed, readBy, readOnTurn, readRows, readSaid, readStore, readTurn, recordNow, reportOut, reportRows, reportSaid, reportTurn, reportedTurn, skipTurn, startable, timesFit, turnOf, turnOut, turnRows, turnSaid, turnStore}
 use Rattle.text.specs.Text.{LINE-END}
 
 -- room for what one turn prints, and the rows of 64 ports before the first line
@@ -45,8 +45,9 @@ lentRefusals Fetching r rows store out said = Unless 9 (groupLent r rows store o
 lentRefusals Skipping r rows store out said = []
 lentRefusals Ended r rows store out said = []
 
-abbrev pub turn : Replay × List ℕ × Bool × List (List ℕ) × List ℕ × List ℕ × List ℕ → Call
-turn (replay, text, last, rows, store, out, said) =
+-- on the text from the place on
+abbrev turnFrom : Replay × List ℕ × Bool × List (List ℕ) × List ℕ × List ℕ × List ℕ → Call
+turnFrom (replay, text, last, rows, store, out, said) =
     stateful (lentRefusals (replay .phase) replay (length rows) (length store) (length out) (length said))
     (turnOf replay text last rows store out (length said) .answer)
     (store ∷ out ∷ said ∷ [])
@@ -87,7 +88,7 @@ unfolding skipTurn
 skip-done r text last = either-done (indexOf LINE-END text <? length text) _ _ refl refl
 
 by-phase : (phase : Phase) (line left kind ports size window : ℕ) (text : List ℕ) (last : Bool) (rows : List (List ℕ)) (store out said : List ℕ)
-    → Copes (turn (record { phase = phase; line = line; left = left; kind = kind; ports = ports; size = size; window = window }, text, last, rows, store, out, said))
+    → Copes (turnFrom (record { phase = phase; line = line; left = left; kind = kind; ports = ports; size = size; window = window }, text, last, rows, store, out, said))
 unfolding turnOf turnRows turnStore turnOut turnSaid openTurn openRows openSaid readTurn readRows readStore readSaid reportTurn reportRows reportOut reportSaid isLent
 by-phase Settings line left kind ports size window text last rows store out said = copes _ (λ b. rw b (open-done _ (length store) (openingIn 0 last text)), λ b. rw b (refl, refl, refl))
 by-phase Reading line left kind ports size window text last rows store out said = copes _ (λ b. rw b (read-done _ text (recordNow ports size last text)), λ b. rw b (refl, refl, refl))
@@ -96,8 +97,8 @@ by-phase Fetching line left kind ports size window text last rows store out said
 by-phase Skipping line left kind ports size window text last rows store out said = done _ (skip-done _ text last)
 by-phase Ended line left kind ports size window text last rows store out said = done _ refl
 
-pub turn-copes : (x : Replay × List ℕ × Bool × List (List ℕ) × List ℕ × List ℕ × List ℕ) → Copes (turn x)
-turn-copes (replay, text, last, rows, store, out, said) = by-phase (replay .phase) (replay .line) (replay .left) (replay .kind) (replay .ports) (replay .size) (replay .window) text last rows store out said
+from-copes : (x : Replay × List ℕ × Bool × List (List ℕ) × List ℕ × List ℕ × List ℕ) → Copes (turnFrom x)
+from-copes (replay, text, last, rows, store, out, said) = by-phase (replay .phase) (replay .line) (replay .left) (replay .kind) (replay .ports) (replay .size) (replay .window) text last rows store out said
 
 -- What a first line asks to be lent.
 
@@ -163,6 +164,20 @@ pub beginC-copes : (state : List ℕ) → Copes (beginC state)
 unfolding beginAnswerC beginStateC
 beginC-copes state = copes _ (λ b. rw b refl, λ b. rw b (refl, refl, refl))
 
+abbrev pub turn : Replay × List ℕ × ℕ × Bool × List (List ℕ) × List ℕ × List ℕ × List ℕ → Call
+turn (replay, text, at, last, rows, store, out, said) =
+    stateful (lentRefusals (replay .phase) replay (length rows) (length store) (length out) (length said))
+    (placed at (turnOf replay (drop at text) last rows store out (length said)) .answer)
+    (store ∷ out ∷ said ∷ [])
+    (turnStore replay (drop at text) last rows store out (length said) ∷ turnOut replay rows store out (length said) ∷ turnSaid replay (drop at text) last rows store out said ∷ [])
+    rows
+    (turnRows replay (drop at text) last rows store out (length said))
+    rows
+
+pub turn-copes : (x : Replay × List ℕ × ℕ × Bool × List (List ℕ) × List ℕ × List ℕ × List ℕ) → Copes (turn x)
+unfolding placed
+turn-copes (replay, text, at, last, rows, store, out, said) = from-copes (replay, drop at text, last, rows, store, out, said)
+
 abbrev pub turnC : List ℕ × List ℕ × ℕ × ℕ × List (List ℕ) × List ℕ × List ℕ × List ℕ × ℕ × ℕ → Call
 turnC (state, text, at, last, rows, store, out, said, written, wants) =
     stateful {S = List ℕ × ℕ × List (List ℕ) × ℕ × ℕ} (Unless 9 (length state == 17) ∷ Unless 9 (at ≤? length text) ∷ lentRefusals (replayOf state .phase) (replayOf state) (length rows) (length store) (length out) (length said))
@@ -191,8 +206,8 @@ module _ (r : Replay) (text : List ℕ) (last : Bool) (rows : List (List ℕ)) (
       (if (if p && q then own .answer else 9) == 0 then bytesOf (own .replay) else state, if (if p && q then own .answer else 9) == 0 then at + own .used else at, if p && q then turnRows r text last rows store out (length said) else rows, if (if p && q then own .answer else 9) == 0 then own .written else written, if (if p && q then own .answer else 9) == 0 then oneIf (own .wants) else wants)
       (state, at, rows, written, wants)
 
-  c : Copes (turn (r, text, last, rows, store, out, said))
-  c = turn-copes (r, text, last, rows, store, out, said)
+  c : Copes (turnFrom (r, text, last, rows, store, out, said))
+  c = from-copes (r, text, last, rows, store, out, said)
 
   -- under an answer other than 0 the caller's own stay, where the rows do
   stays : (own .answer ≡ 0 → ⊥) → turnRows r text last rows store out (length said) ≡ rows → behindTests true true .returned ≡ (state, at, rows, written, wants)

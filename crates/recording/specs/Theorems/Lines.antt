@@ -209,7 +209,7 @@ is-line ports size at n line = go (leb (length line) MOST)
     go false = malformed
 
 -- the fields of a line, with what parts them, are as long as the line
-weight : List (List ℕ) → ℕ
+unfoldable pub weight : List (List ℕ) → ℕ
 weight [] = 0
 weight (p ∷ ps) = suc (length p) + weight ps
 
@@ -218,7 +218,7 @@ unfolding weight
 weight-ahead b [] n h = absurd (omega arith)
 weight-ahead b (p ∷ ps) n h = omega arith
 
-weight-fields : (line : List ℕ) → weight (fieldsOf line) ≡ suc (length line)
+pub weight-fields : (line : List ℕ) → weight (fieldsOf line) ≡ suc (length line)
 unfolding weight fieldsOf
 weight-fields [] = refl
 weight-fields (b ∷ line) = go (eqb b TAB) (weight-fields line)

@@ -1,11 +1,10 @@
 -- `run_text` meets its contract: no more of the text is used than there is.
 -- The loop keeps the lengths of what is lent and that its place is in the text; the count of turns left falls, and that is why it ends.
 use mathlib.Core.Path.{_≡_, refl}
-use Prim.Native.Nat.{_-_, _≤_}
+use Prim.Native.Nat.{_≤_}
 use native.Mathlib.Omega.{arith}
 use lib.Dec.{ltb}
-use lib.ListN.{drop, length, length-drop}
-use lib.Seq.{length-take-le}
+use lib.ListN.{length}
 use borrow.Author.Needs.{needs}
 use borrow.Author.Tests.{ltb-true}
 use Rattle.ground.specs.Truth.{and-right}
@@ -28,58 +27,29 @@ buffer-requires c κs = search needs
 loop-holds : tie.Need-loop-holds Inv-loop μ-loop
 loop-holds c = (omega arith, refl, refl, refl, c .buffer .ensures, omega arith, same)
 
-sub-take-turn : tie.Need-sub-take-turn Inv-loop μ-loop
-sub-take-turn c = search needs
-
-part-take-turn-start : tie.Need-part-take-turn-start Inv-loop μ-loop
-part-take-turn-start c = search needs
-
-part-take-turn-end : tie.Need-part-take-turn-end Inv-loop μ-loop
-part-take-turn-end c = search needs
-
 slice-aggregate-take-turn : tie.Need-slice-aggregate-take-turn Inv-loop μ-loop
-slice-aggregate-take-turn c =
-    let at-loop = c .before .before .before .before .before .before in
-    at-loop .loop .inv .4
+slice-aggregate-take-turn c = c .before .before .before .before .before .loop .inv .4
 
 take-turn-requires : tie.Need-take-turn-requires Inv-loop μ-loop
 take-turn-requires c κs = search needs
 
-add-at : tie.Need-add-at Inv-loop μ-loop
-add-at c =
-    let at-take-turn = c .before .before .before .before .before .before .before .before in
-    let at-loop = at-take-turn .before .before .before .before .before .before .before in
-    let at-start = at-loop .before .before .before .before .before in
-    let t = at-start .args .text .now in
-    let a = at-loop .loop .at in
-    let d = length-drop a t in
-    let e = length-take-le (length t - a) (drop a t) (omega arith) in
-    omega (arith, at-take-turn .take-turn .ensures .0, at-loop .loop .inv .0, at-loop .loop .inv .5)
-
 sub-turns : tie.Need-sub-turns Inv-loop μ-loop
 sub-turns c =
-    let at-take-turn = c .before .before .before .before .before .before .before .before in
-    let at-loop-test = at-take-turn .before .before .before .before .before .before in
-    let at-loop = at-loop-test .before in
-    let h = ltb-true 0 (at-loop .loop .turns) (and-right (at-loop .loop .goes-on) (ltb 0 (at-loop .loop .turns)) (at-loop-test .loop-test .taken)) in omega arith
+    let at-loop = c .before .before .before .before .before .before .before .before .before .before .before .before .before in
+    let h = ltb-true 0 (at-loop .loop .turns) (and-right (at-loop .loop .goes-on) (ltb 0 (at-loop .loop .turns)) (c .before .before .before .before .before .before .before .before .before .before .before .before .loop-test .taken)) in
+    omega arith
 
 loop-less : tie.Need-loop-less Inv-loop μ-loop
 loop-less c =
-    let at-take-turn = c .before .before .before .before .before .before .before .before in
-    let at-loop-test = at-take-turn .before .before .before .before .before .before in
-    let at-loop = at-loop-test .before in
-    let h = ltb-true 0 (at-loop .loop .turns) (and-right (at-loop .loop .goes-on) (ltb 0 (at-loop .loop .turns)) (at-loop-test .loop-test .taken)) in omega arith
+    let at-loop = c .before .before .before .before .before .before .before .before .before .before .before .before .before in
+    let h = ltb-true 0 (at-loop .loop .turns) (and-right (at-loop .loop .goes-on) (ltb 0 (at-loop .loop .turns)) (c .before .before .before .before .before .before .before .before .before .before .before .before .loop-test .taken)) in
+    omega arith
 
 loop-again : tie.Need-loop-again Inv-loop μ-loop
 loop-again c =
-    let at-take-turn = c .before .before .before .before .before .before .before .before in
-    let at-loop = at-take-turn .before .before .before .before .before .before .before in
-    let at-start = at-loop .before .before .before .before .before in
-    let t = at-start .args .text .now in
-    let a = at-loop .loop .at in
-    let d = length-drop a t in
-    let e = length-take-le (length t - a) (drop a t) (omega arith) in
-    (omega (arith, at-take-turn .take-turn .ensures .0, at-loop .loop .inv .0), search needs, search needs, search needs, search needs, at-loop .loop .inv .5, carried-on (at-loop .loop .inv .6) (at-take-turn .take-turn .ensures .1))
+    let at-take-turn = c .before .before .before .before .before .before .before in
+    let at-loop = c .before .before .before .before .before .before .before .before .before .before .before .before .before in
+    (at-take-turn .take-turn .ensures .0, search needs, search needs, search needs, search needs, at-loop .loop .inv .5, carried-on (at-loop .loop .inv .6) (at-take-turn .take-turn .ensures .1))
 
 same-length : tie.Need-same-length Inv-loop μ-loop
 same-length c = search needs
@@ -94,4 +64,4 @@ returns : tie.Need-returns Inv-loop μ-loop
 returns c = search needs
 
 pub run-text-spec : {M : Type 1} → statement M
-run-text-spec = tie.close (tie.spec Inv-loop μ-loop buffer-requires loop-holds sub-take-turn part-take-turn-start part-take-turn-end slice-aggregate-take-turn take-turn-requires add-at sub-turns loop-less loop-again same-length same-length-2 same-length-3 returns)
+run-text-spec = tie.close (tie.spec Inv-loop μ-loop buffer-requires loop-holds slice-aggregate-take-turn take-turn-requires sub-turns loop-less loop-again same-length same-length-2 same-length-3 returns)

@@ -1,9 +1,4 @@
 use borrow.Author.Needs.{needs}
-use mathlib.Core.Path.{ap}
-use native.Mathlib.Omega.{arith}
-use lib.ListN.{drop, length, length-drop}
-use Rattle.replaying.specs.declared.turns.Replayed.{Replayed}
-use Rattle.replaying.specs.Laws.Used.{turn-uses}
 use Rattle.c_recordings.proofs.Replaying.{turn-done, turn-length, turn-place, turn-refused}
 use Rattle.c_recordings.proofs.replays.levelspruce_replay_turn.Statement.{statement}
 use Rattle.c_recordings.proofs.replays.levelspruce_replay_turn.Tie as tie
@@ -24,8 +19,8 @@ replay-of-requires c κs = search needs
 is-last-requires : tie.Need-is-last-requires
 is-last-requires c κs = search needs
 
-turn-at-requires : tie.Need-turn-at-requires
-turn-at-requires c κs = search needs
+turn-requires : tie.Need-turn-requires
+turn-requires c κs = search needs
 
 same-length : tie.Need-same-length
 same-length c = search needs
@@ -47,27 +42,12 @@ returns-3 c =
     let a = c .before .before .before .before .before .before .before .before .before .before .before .before .before .before .before .before .before .before .before .before .before .before .before .before .before .args in
     let replay-of = c .before .before .before .before .before .before .before .before .before .before .before .before .before .before .before .replay-of in
     let is-last = c .before .before .before .before .before .before .before .before .before .before .before .before .before .before .is-last in
-    let turn-at = c .before .before .before .before .before .before .before .before .before .turn-at in
+    let the-turn = c .before .before .before .before .before .before .before .before .before .turn in
     turn-refused (a .state .now) (a .text .now) (a .at .now) (a .last) (a .rows .now) (a .store .now) (a .out .now) (a .said .now) (a .written .now) (a .wants .now)
-    (c .before .before .before .before .before .before .before .before .before .before .before .before .before .before .before .before .before .before .before .if1 .left) (c .before .before .before .before .before .before .before .before .before .before .before .before .before .before .before .before .before .if2 .left) (replay-of .result) (is-last .result) (replay-of .ensures) (is-last .ensures) (turn-at .result) _ _ _ _ (turn-at .ensures) (c .if3 .taken)
+    (c .before .before .before .before .before .before .before .before .before .before .before .before .before .before .before .before .before .before .before .if1 .left) (c .before .before .before .before .before .before .before .before .before .before .before .before .before .before .before .before .before .if2 .left) (replay-of .result) (is-last .result) (replay-of .ensures) (is-last .ensures) (the-turn .result) _ _ _ _ (the-turn .ensures) (c .if3 .taken)
 
 put-replay-requires : tie.Need-put-replay-requires
 put-replay-requires c κs = c .before .before .before .before .before .before .before .before .before .before .before .before .before .before .before .before .before .before .before .before .before .if1 .left
-
-add-at : tie.Need-add-at
-add-at c =
-    let a = c .before .before .before .before .before .before .before .before .before .before .before .before .before .before .before .before .before .before .before .before .before .before .before .before .before .before .before .before .before .before .before .args in
-    let replay-of = c .before .before .before .before .before .before .before .before .before .before .before .before .before .before .before .before .before .before .before .before .before .replay-of in
-    let is-last = c .before .before .before .before .before .before .before .before .before .before .before .before .before .before .before .before .before .before .before .before .is-last in
-    let turn-at = c .before .before .before .before .before .before .before .before .before .before .before .before .before .before .before .turn-at in
-    let text = a .text .now in
-    let at = a .at .now in
-    let used = turn-uses (replay-of .result) (drop at text) (is-last .result) (a .rows .now) (a .store .now) (a .out .now) (length (a .said .now)) in
-    let e = ap (λ (x : Replayed). x .used) (turn-at .ensures .0) in
-    let d = length-drop at text in
-    let h = c .before .before .before .before .before .before .before .before .before .before .before .before .before .before .before .before .before .before .before .before .before .before .before .if2 .left in
-    let room = c .before .before .before .before .before .before .before .before .before .before .before .before .before .before .before .before .before .before .before .before .before .before .before .before .before .before .before .before .before .before .before .good .1 .0 .1 in
-    omega (arith, used, e, d, h, room)
 
 one-if-requires : tie.Need-one-if-requires
 one-if-requires c κs = search needs
@@ -89,13 +69,13 @@ same-length-10 c = search needs
 
 returns-4 : tie.Need-returns-4
 returns-4 c =
-    let a = c .before .before .before .before .before .before .before .before .before .before .before .before .before .before .before .before .before .before .before .before .before .before .before .before .before .before .before .before .before .before .before .before .args in
-    let replay-of = c .before .before .before .before .before .before .before .before .before .before .before .before .before .before .before .before .before .before .before .before .before .before .replay-of in
-    let is-last = c .before .before .before .before .before .before .before .before .before .before .before .before .before .before .before .before .before .before .before .before .before .is-last in
-    let turn-at = c .before .before .before .before .before .before .before .before .before .before .before .before .before .before .before .before .turn-at in
+    let a = c .before .before .before .before .before .before .before .before .before .before .before .before .before .before .before .before .before .before .before .before .before .before .before .before .before .before .before .before .before .before .before .args in
+    let replay-of = c .before .before .before .before .before .before .before .before .before .before .before .before .before .before .before .before .before .before .before .before .before .replay-of in
+    let is-last = c .before .before .before .before .before .before .before .before .before .before .before .before .before .before .before .before .before .before .before .before .is-last in
+    let the-turn = c .before .before .before .before .before .before .before .before .before .before .before .before .before .before .before .turn in
     turn-done (a .state .now) (a .text .now) (a .at .now) (a .last) (a .rows .now) (a .store .now) (a .out .now) (a .said .now) (a .written .now) (a .wants .now)
-    (c .before .before .before .before .before .before .before .before .before .before .before .before .before .before .before .before .before .before .before .before .before .before .before .before .before .before .if1 .left) (c .before .before .before .before .before .before .before .before .before .before .before .before .before .before .before .before .before .before .before .before .before .before .before .before .if2 .left) (replay-of .result) (is-last .result) (replay-of .ensures) (is-last .ensures) (turn-at .result) _ _ _ _ (turn-at .ensures)
-    (c .one-if .result) _ (c .before .before .before .before .before .before .before .if3 .left) (c .before .before .before .before .put-replay .ensures) (c .one-if .ensures)
+    (c .before .before .before .before .before .before .before .before .before .before .before .before .before .before .before .before .before .before .before .before .before .before .before .before .before .if1 .left) (c .before .before .before .before .before .before .before .before .before .before .before .before .before .before .before .before .before .before .before .before .before .before .before .if2 .left) (replay-of .result) (is-last .result) (replay-of .ensures) (is-last .ensures) (the-turn .result) _ _ _ _ (the-turn .ensures)
+    (c .one-if .result) _ (c .before .before .before .before .before .before .if3 .left) (c .before .before .before .put-replay .ensures) (c .one-if .ensures)
 
 pub levelspruce-replay-turn-spec : {M : Type 1} → statement M
 levelspruce-replay-turn-spec =
@@ -105,7 +85,7 @@ levelspruce-replay-turn-spec =
     returns-2
     replay-of-requires
     is-last-requires
-    turn-at-requires
+    turn-requires
     same-length
     same-length-2
     same-length-3
@@ -113,7 +93,6 @@ levelspruce-replay-turn-spec =
     same-length-5
     returns-3
     put-replay-requires
-    add-at
     one-if-requires
     same-length-6
     same-length-7

@@ -1,6 +1,5 @@
 use mathlib.Core.Path.{sym}
 use Rattle.judge.specs.Theorems.Full.{full-repeats}
-use borrow.Author.Needs.{needs}
 use Rattle.judge.proofs.verdict.has_repeats.Statement.{statement}
 use Rattle.judge.proofs.verdict.has_repeats.Tie as tie
 

@@ -1,7 +1,6 @@
 use mathlib.Core.Path.{sym}
 use Rattle.judge.specs.Tally.{exactTo}
 use Rattle.judge.specs.Theorems.Full.{full-exact}
-use borrow.Author.Needs.{needs}
 use Rattle.judge.proofs.verdict.is_exact.Statement.{statement}
 use Rattle.judge.proofs.verdict.is_exact.Tie as tie
 

@@ -1,8 +1,8 @@
-use mathlib.Core.Path.{refl}
-use lib.ListN.{length}
+use mathlib.Core.Path.{refl, _∙_}
+use lib.ListN.{drop, length}
 use borrow.Author.Tests.{le-leb, lt-leb}
-use Rattle.recording.specs.Opening.{openingIn}
-use Rattle.recording.specs.Theorems.Lines.{handed-end, handed-malformed, handed-set, handed-unfinished}
+use Rattle.recording.specs.Theorems.Later.{first-end, first-malformed, first-set, first-unfinished}
+use Rattle.replaying.specs.Laws.Placed.{answered-placed}
 use Rattle.replaying.specs.Turn.{openRows, openSaid, openTurn}
 use native.Mathlib.Omega.{arith}
 use Rattle.replaying.proofs.turns.open.Statement.{statement}
@@ -29,7 +29,11 @@ enum-told : tie.Need-enum-told
 enum-told c = omega arith
 
 open-with-requires : tie.Need-open-with-requires
-open-with-requires c κs = omega arith
+open-with-requires c κs =
+    let a = c .before .before .before .before .before .before .before .before .before .before .args in
+    let found = c .before .before .before .before .before .opening-at in
+    let w = first-set (a .at) (a .last) (drop (a .at) (a .text .now)) (found .result) (found .ensures) (c .before .before .before .enum-told .given .1) .0 in
+    omega arith
 
 enum-told-2 : tie.Need-enum-told-2
 enum-told-2 c = omega arith
@@ -63,7 +67,7 @@ returns-3 c =
     let test2 = c .before .before .before .before .before .before .before .before .before .before .if2 in
     let opening-at = c .before .before .before .before .before .before .before .before .before .opening-at in
     let enum-told = c .before .before .before .before .before .before .before .enum-told in
-    rw (le-leb 1160 (length (start .args .said .now)) (test1 .left), le-leb 321 (length (start .args .rows .now)) (test2 .left), handed-set (openingIn 0 (start .args .last) (start .args .text .now)) (opening-at .result) (opening-at .ensures) (enum-told .given .1)) (c .before .before .before .open-with .ensures)
+    rw (le-leb 1160 (length (start .args .said .now)) (test1 .left), le-leb 321 (length (start .args .rows .now)) (test2 .left), first-set (start .args .at) (start .args .last) (drop (start .args .at) (start .args .text .now)) (opening-at .result) (opening-at .ensures) (enum-told .given .1) .1) (c .before .before .before .open-with .ensures)
 
 same-length-3 : tie.Need-same-length-3
 same-length-3 c = omega arith
@@ -77,7 +81,7 @@ returns-4 c =
     let opening-at = c .before .before .before .before .before .before .opening-at in
     let enum-told2 = c .before .before .before .before .enum-told2 in
     let answered = c .before .before .answered in
-    rw (le-leb 1160 (length (start .args .said .now)) (test1 .left), le-leb 321 (length (start .args .rows .now)) (test2 .left), handed-malformed (openingIn 0 (start .args .last) (start .args .text .now)) (opening-at .result) (opening-at .ensures) (enum-told2 .given .1)) (answered .ensures .0, refl, answered .ensures .1)
+    rw (le-leb 1160 (length (start .args .said .now)) (test1 .left), le-leb 321 (length (start .args .rows .now)) (test2 .left), first-malformed (start .args .at) (start .args .last) (drop (start .args .at) (start .args .text .now)) (opening-at .result) (opening-at .ensures) (enum-told2 .given .1)) (answered .ensures .0 ∙ answered-placed (start .args .at) (start .args .at) 0 (omega arith) _ _ _, refl, answered .ensures .1)
 
 returns-5 : tie.Need-returns-5
 unfolding openTurn openRows openSaid
@@ -86,7 +90,7 @@ returns-5 c =
     let test1 = c .before .before .before .before .before .if1 in
     let test2 = c .before .before .before .before .if2 in
     let opening-at = c .before .before .before .opening-at in
-    rw (le-leb 1160 (length (start .args .said .now)) (test1 .left), le-leb 321 (length (start .args .rows .now)) (test2 .left), handed-unfinished (openingIn 0 (start .args .last) (start .args .text .now)) (opening-at .result) (opening-at .ensures) (c .before .enum-told3 .given .1)) (c .waiting .ensures, refl, refl)
+    rw (le-leb 1160 (length (start .args .said .now)) (test1 .left), le-leb 321 (length (start .args .rows .now)) (test2 .left), first-unfinished (start .args .at) (start .args .last) (drop (start .args .at) (start .args .text .now)) (opening-at .result) (opening-at .ensures) (c .before .enum-told3 .given .1)) (c .waiting .ensures, refl, refl)
 
 returns-6 : tie.Need-returns-6
 unfolding openTurn openRows openSaid
@@ -95,7 +99,7 @@ returns-6 c =
     let test1 = c .before .before .before .before .before .if1 in
     let test2 = c .before .before .before .before .if2 in
     let opening-at = c .before .before .before .opening-at in
-    rw (le-leb 1160 (length (start .args .said .now)) (test1 .left), le-leb 321 (length (start .args .rows .now)) (test2 .left), handed-end (openingIn 0 (start .args .last) (start .args .text .now)) (opening-at .result) (opening-at .ensures) (c .before .enum-told4 .given .1)) (c .waiting2 .ensures, refl, refl)
+    rw (le-leb 1160 (length (start .args .said .now)) (test1 .left), le-leb 321 (length (start .args .rows .now)) (test2 .left), first-end (start .args .at) (start .args .last) (drop (start .args .at) (start .args .text .now)) (opening-at .result) (opening-at .ensures) (c .before .enum-told4 .given .1)) (c .waiting2 .ensures, refl, refl)
 
 pub open-spec : {M : Type 1} → statement M
 open-spec =

@@ -1,7 +1,7 @@
 use mathlib.Core.Path.{ap, _∙_}
 use native.Mathlib.Omega.{arith}
 use Rattle.replaying.specs.declared.turns.Replayed.{Replayed}
-use Rattle.replaying.specs.Turn.{storeBy}
+use Rattle.replaying.specs.Turn.{placed, storeBy}
 use Rattle.replaying.proofs.turns.open_all.Statement.{statement}
 use Rattle.replaying.proofs.turns.open_all.Tie as tie
 
@@ -21,6 +21,7 @@ same-length-3 : tie.Need-same-length-3
 same-length-3 c = omega arith
 
 returns : tie.Need-returns
+unfolding placed
 returns c =
     let start = c .before .before .before .before .before .before .before .before .before .before .before .before .before .before in
     let o = c .before .before .before .before .before .before .before .before .«open» .ensures in

@@ -1,6 +1,8 @@
 use mathlib.Core.Path.{refl, sym, _∙_}
+use Rattle.replaying.specs.Laws.Placed.{answered-placed, turned-placed}
 use Rattle.replaying.specs.Laws.Starts.{small, start-sized}
 use Rattle.replaying.specs.Turn.{openWithRows, openWithSaid, openWithTurn}
+use Prim.Native.Nat.{_-_}
 use native.Mathlib.Omega.{arith}
 use Rattle.replaying.proofs.turns.open_with.Statement.{statement}
 use Rattle.replaying.proofs.turns.open_with.Tie as tie
@@ -16,7 +18,9 @@ same-length c = omega arith
 
 returns : tie.Need-returns
 unfolding openWithTurn openWithRows openWithSaid
-returns c = let t = sym (c .before .before .before .before .is-startable .ensures) ∙ c .before .before .before .if1 .taken in rw t (c .before .open-as .ensures .0, c .before .open-as .ensures .1, refl)
+returns c = let t = sym (c .before .before .before .before .is-startable .ensures) ∙ c .before .before .before .if1 .taken in
+    let a = c .before .before .before .before .before .before .args in
+    rw t (c .before .open-as .ensures .0 ∙ turned-placed (a .at) (a .next) (a .next - a .at) (omega arith) _ _ _, c .before .open-as .ensures .1, refl)
 
 answered-requires : tie.Need-answered-requires
 answered-requires c κs = omega arith
@@ -26,7 +30,9 @@ same-length-2 c = omega arith
 
 returns-2 : tie.Need-returns-2
 unfolding openWithTurn openWithRows openWithSaid
-returns-2 c = let t = sym (c .before .before .before .before .before .is-startable .ensures) ∙ c .before .before .before .before .if1 .left in rw t (c .before .before .answered .ensures .0, refl, c .before .before .answered .ensures .1)
+returns-2 c = let t = sym (c .before .before .before .before .before .is-startable .ensures) ∙ c .before .before .before .before .if1 .left in
+    let a = c .before .before .before .before .before .before .before .args in
+    rw t (c .before .before .answered .ensures .0 ∙ answered-placed (a .at) (a .at) 0 (omega arith) _ _ _, refl, c .before .before .answered .ensures .1)
 
 pub open-with-spec : {M : Type 1} → statement M
 open-with-spec =

@@ -1,5 +1,6 @@
 use native.Mathlib.Omega.{arith}
-use Rattle.replaying.specs.Turn.{recordNow}
+use lib.ListN.{drop}
+use Rattle.replaying.specs.Laws.Placed.{now-later}
 use Rattle.replaying.proofs.turns.record_now.Statement.{statement}
 use Rattle.replaying.proofs.turns.record_now.Tie as tie
 
@@ -13,12 +14,14 @@ last-record-requires : tie.Need-last-record-requires
 last-record-requires c κs = omega arith
 
 returns : tie.Need-returns
-unfolding recordNow
-returns c = rw (← c .before .before .before .record-at .ensures, ← c .before .before .is-open .ensures, c .before .if1 .taken) (c .last-record .ensures)
+returns c =
+    let a = c .before .before .before .before .before .args in
+    rw (← now-later (a .ports) (a .size) (a .at) (a .last) (drop (a .at) (a .text .now)), ← c .before .before .before .record-at .ensures, ← c .before .before .is-open .ensures, c .before .if1 .taken) (c .last-record .ensures)
 
 returns-2 : tie.Need-returns-2
-unfolding recordNow
-returns-2 c = rw (← c .before .before .record-at .ensures, ← c .before .is-open .ensures, c .if1 .left)
+returns-2 c =
+    let a = c .before .before .before .before .args in
+    rw (← now-later (a .ports) (a .size) (a .at) (a .last) (drop (a .at) (a .text .now)), ← c .before .before .record-at .ensures, ← c .before .is-open .ensures, c .if1 .left)
 
 pub record-now-spec : {M : Type 1} → statement M
 record-now-spec = tie.close (tie.spec record-at-requires is-open-requires last-record-requires returns returns-2)

@@ -1,12 +1,12 @@
 use mathlib.Core.Bool.{false, true}
 use mathlib.Core.Path.{_≡_, ap, refl, _∙_}
-use Prim.Native.Nat.{_≤_, _<_}
+use Prim.Native.Nat.{ℕ, _≤_, _<_}
 use native.Mathlib.Omega.{arith}
 use lib.Dec.{ltb}
 use lib.ListN.{getD, length}
 use borrow.Author.Tests.{le-ltb, lt-ltb}
 use Rattle.replaying.specs.Output.{reportText}
-use Rattle.replaying.specs.Turn.{fetchRecordBy, fetchedSaid, fetchedTurn, reportOf, reportedTurn}
+use Rattle.replaying.specs.Turn.{fetchRecordBy, fetchedSaid, fetchedTurn, placed, reportOf, reportedTurn}
 use Rattle.replaying.proofs.Printing.{put-over, report-le}
 use Rattle.replaying.proofs.turns.report_now.Statement.{statement}
 use Rattle.replaying.proofs.turns.report_now.Tie as tie
@@ -75,7 +75,7 @@ returns-2 c =
     let k = report-le (fetch .result) (start .args .replay .line) (states-in .result) (states-in2 .result) (start .args .replay .ports) (l .ports-most) in
     let h : length (reportText (fetch .result) (start .args .replay .line) (states-in .result) (states-in2 .result) (start .args .replay .ports)) ≤ length (start .args .said .now) = omega (arith, l .room) in
     let q = rw w at (put-over (c .before .before .before .put-report .ensures) h) in
-    rw d (c .reported .ensures ∙ ap (reportedTurn (start .args .replay)) (q .0), fetch .ensures .1, fetch .ensures .2, q .1)
+    rw d (c .reported .ensures ∙ ap (λ (n : ℕ). placed (start .args .at) (reportedTurn (start .args .replay) n)) (q .0), fetch .ensures .1, fetch .ensures .2, q .1)
 
 pub report-now-spec : {M : Type 1} → statement M
 report-now-spec =

@@ -1,15 +1,16 @@
 use mathlib.Core.Path.{refl}
 use native.Mathlib.Omega.{arith}
+use Rattle.replaying.specs.Laws.Placed.{stays}
 use Rattle.replaying.specs.Turn.{reportedTurn}
 use Rattle.replaying.proofs.turns.reported.Statement.{statement}
 use Rattle.replaying.proofs.turns.reported.Tie as tie
 
-sub-t4 : tie.Need-sub-t4
-sub-t4 c = omega arith
+sub-t5 : tie.Need-sub-t5
+sub-t5 c = omega arith
 
 returns : tie.Need-returns
 unfolding reportedTurn
-returns c = refl
+returns c = stays (c .before .args .at) (reportedTurn (c .before .args .replay) (c .before .args .written)) refl
 
 pub reported-spec : {M : Type 1} → statement M
-reported-spec = tie.close (tie.spec sub-t4 returns)
+reported-spec = tie.close (tie.spec sub-t5 returns)

@@ -1,22 +1,29 @@
-use lib.ListN.{length}
+use mathlib.Core.Path.{_≡_}
+use Prim.Native.Nat.{_+_}
+use lib.ListN.{drop}
 use native.Mathlib.Omega.{arith}
-use borrow.Author.Tests.{le-ltb, lt-ltb}
+use Rattle.bytes.specs.Bytes.{indexOf}
+use Rattle.replaying.specs.Laws.Placed.{turned-placed}
 use Rattle.replaying.specs.Turn.{skipTurn}
-use Rattle.replaying.proofs.Deciding.{end-is}
+use Rattle.replaying.proofs.Deciding.{end-all, end-is, end-none, end-there}
 use Rattle.replaying.proofs.turns.skip.Statement.{statement}
 use Rattle.replaying.proofs.turns.skip.Tie as tie
+use Rattle.text.specs.Text.{LINE-END}
 
 piece-end-requires : tie.Need-piece-end-requires
 piece-end-requires c κs = omega arith
 
-add-t10 : tie.Need-add-t10
-add-t10 c = omega arith
+add-t11 : tie.Need-add-t11
+add-t11 c = omega arith
 
 returns : tie.Need-returns
 unfolding skipTurn
 returns c =
-    let e = end-is (c .before .before .before .args .text .now) (c .before .piece-end .result) (c .before .piece-end .ensures) in
-    rw (← e, lt-ltb (c .before .piece-end .result) (length (c .before .before .before .args .text .now)) (c .if1 .taken))
+    let a = c .before .before .before .args in
+    let found = c .before .piece-end in
+    let e = end-is (a .text .now) (a .at) (found .result) (found .ensures) in
+    let n : found .result + 1 ≡ a .at + (indexOf LINE-END (drop (a .at) (a .text .now)) + 1) = omega arith in
+    rw (end-there (a .text .now) (a .at) (found .result) (found .ensures) (c .if1 .taken)) (turned-placed (a .at) _ _ n _ _ _)
 
 skipped-to-requires : tie.Need-skipped-to-requires
 skipped-to-requires c κs = omega arith
@@ -24,8 +31,10 @@ skipped-to-requires c κs = omega arith
 returns-2 : tie.Need-returns-2
 unfolding skipTurn
 returns-2 c =
-    let e = end-is (c .before .before .before .before .args .text .now) (c .before .before .piece-end .result) (c .before .before .piece-end .ensures) in
-    rw (← e, le-ltb (c .before .before .piece-end .result) (length (c .before .before .before .before .args .text .now)) (c .before .if1 .left), c .skipped-to .ensures)
+    let a = c .before .before .before .before .args in
+    let found = c .before .before .piece-end in
+    let n = end-all (a .text .now) (a .at) (found .result) (found .ensures) (c .before .if1 .left) in
+    rw (end-none (a .text .now) (a .at) (found .result) (found .ensures) (c .before .if1 .left), c .skipped-to .ensures) (turned-placed (a .at) _ _ n _ _ _)
 
 pub skip-spec : {M : Type 1} → statement M
-skip-spec = tie.close (tie.spec piece-end-requires add-t10 returns skipped-to-requires returns-2)
+skip-spec = tie.close (tie.spec piece-end-requires add-t11 returns skipped-to-requires returns-2)

@@ -1,5 +1,5 @@
 use mathlib.Core.Path.{refl}
-use lib.ListN.{length}
+use lib.ListN.{drop, length}
 use native.Mathlib.Omega.{arith}
 use Rattle.replaying.specs.declared.replay.Phase.the-variants.{Ended, Fetching, Reading, Settings, Skipping}
 use Rattle.replaying.proofs.Deciding.{out-is, rows-is, said-is, store-is, turn-is}
@@ -52,9 +52,9 @@ returns c =
     let s = c .before .before .before .before .before .before .before .before .before .before .before .before .before .before .before in
     let e = enum-told .given .1 in
     let r = s .args .replay in
-    let t = s .args .text .now in
+    let t = drop (s .args .at) (s .args .text .now) in
     let n = length (s .args .said .now) in
-    (turn-is r Settings e t (s .args .last) (s .args .rows .now) (s .args .store .now) (s .args .out .now) n _ (open-all .ensures .0), rows-is r Settings e t (s .args .last) (s .args .rows .now) (s .args .store .now) (s .args .out .now) n _ (open-all .ensures .1), store-is r Settings e t (s .args .last) (s .args .rows .now) (s .args .store .now) (s .args .out .now) n _ (open-all .ensures .2), out-is r Settings e t (s .args .last) (s .args .rows .now) (s .args .store .now) (s .args .out .now) n _ refl, said-is r Settings e t (s .args .last) (s .args .rows .now) (s .args .store .now) (s .args .out .now) (s .args .said .now) _ (open-all .ensures .3))
+    (turn-is r Settings e t (s .args .last) (s .args .rows .now) (s .args .store .now) (s .args .out .now) (s .args .at) n _ (open-all .ensures .0), rows-is r Settings e t (s .args .last) (s .args .rows .now) (s .args .store .now) (s .args .out .now) n _ (open-all .ensures .1), store-is r Settings e t (s .args .last) (s .args .rows .now) (s .args .store .now) (s .args .out .now) n _ (open-all .ensures .2), out-is r Settings e t (s .args .last) (s .args .rows .now) (s .args .store .now) (s .args .out .now) n _ refl, said-is r Settings e t (s .args .last) (s .args .rows .now) (s .args .store .now) (s .args .out .now) (s .args .said .now) _ (open-all .ensures .3))
 
 same-length-4 : tie.Need-same-length-4
 same-length-4 c = omega arith
@@ -72,9 +72,9 @@ returns-2 c =
     let s = c .before .before .before .before .before .before .before .before .before .before .before .before .before .before .before in
     let e = enum-told2 .given .1 in
     let r = s .args .replay in
-    let t = s .args .text .now in
+    let t = drop (s .args .at) (s .args .text .now) in
     let n = length (s .args .said .now) in
-    (turn-is r Reading e t (s .args .last) (s .args .rows .now) (s .args .store .now) (s .args .out .now) n _ (the-read .ensures .0), rows-is r Reading e t (s .args .last) (s .args .rows .now) (s .args .store .now) (s .args .out .now) n _ (the-read .ensures .1), store-is r Reading e t (s .args .last) (s .args .rows .now) (s .args .store .now) (s .args .out .now) n _ (the-read .ensures .2), out-is r Reading e t (s .args .last) (s .args .rows .now) (s .args .store .now) (s .args .out .now) n _ refl, said-is r Reading e t (s .args .last) (s .args .rows .now) (s .args .store .now) (s .args .out .now) (s .args .said .now) _ (the-read .ensures .3))
+    (turn-is r Reading e t (s .args .last) (s .args .rows .now) (s .args .store .now) (s .args .out .now) (s .args .at) n _ (the-read .ensures .0), rows-is r Reading e t (s .args .last) (s .args .rows .now) (s .args .store .now) (s .args .out .now) n _ (the-read .ensures .1), store-is r Reading e t (s .args .last) (s .args .rows .now) (s .args .store .now) (s .args .out .now) n _ (the-read .ensures .2), out-is r Reading e t (s .args .last) (s .args .rows .now) (s .args .store .now) (s .args .out .now) n _ refl, said-is r Reading e t (s .args .last) (s .args .rows .now) (s .args .store .now) (s .args .out .now) (s .args .said .now) _ (the-read .ensures .3))
 
 same-length-7 : tie.Need-same-length-7
 same-length-7 c = omega arith
@@ -95,27 +95,27 @@ returns-3 c =
     let s = c .before .before .before .before .before .before .before .before .before .before .before .before .before .before .before .before in
     let e = enum-told3 .given .1 in
     let r = s .args .replay in
-    let t = s .args .text .now in
+    let t = drop (s .args .at) (s .args .text .now) in
     let n = length (s .args .said .now) in
-    (turn-is r Fetching e t (s .args .last) (s .args .rows .now) (s .args .store .now) (s .args .out .now) n _ (report .ensures .0), rows-is r Fetching e t (s .args .last) (s .args .rows .now) (s .args .store .now) (s .args .out .now) n _ (report .ensures .1), store-is r Fetching e t (s .args .last) (s .args .rows .now) (s .args .store .now) (s .args .out .now) n _ refl, out-is r Fetching e t (s .args .last) (s .args .rows .now) (s .args .store .now) (s .args .out .now) n _ (report .ensures .2), said-is r Fetching e t (s .args .last) (s .args .rows .now) (s .args .store .now) (s .args .out .now) (s .args .said .now) _ (report .ensures .3))
+    (turn-is r Fetching e t (s .args .last) (s .args .rows .now) (s .args .store .now) (s .args .out .now) (s .args .at) n _ (report .ensures .0), rows-is r Fetching e t (s .args .last) (s .args .rows .now) (s .args .store .now) (s .args .out .now) n _ (report .ensures .1), store-is r Fetching e t (s .args .last) (s .args .rows .now) (s .args .store .now) (s .args .out .now) n _ refl, out-is r Fetching e t (s .args .last) (s .args .rows .now) (s .args .store .now) (s .args .out .now) n _ (report .ensures .2), said-is r Fetching e t (s .args .last) (s .args .rows .now) (s .args .store .now) (s .args .out .now) (s .args .said .now) _ (report .ensures .3))
 
 returns-4 : tie.Need-returns-4
 returns-4 c =
     let s = c .before .before .before .before .before .before .before in
     let e = c .before .enum-told4 .given .1 in
     let r = s .args .replay in
-    let t = s .args .text .now in
+    let t = drop (s .args .at) (s .args .text .now) in
     let n = length (s .args .said .now) in
-    (turn-is r Skipping e t (s .args .last) (s .args .rows .now) (s .args .store .now) (s .args .out .now) n _ (c .skip .ensures), rows-is r Skipping e t (s .args .last) (s .args .rows .now) (s .args .store .now) (s .args .out .now) n _ refl, store-is r Skipping e t (s .args .last) (s .args .rows .now) (s .args .store .now) (s .args .out .now) n _ refl, out-is r Skipping e t (s .args .last) (s .args .rows .now) (s .args .store .now) (s .args .out .now) n _ refl, said-is r Skipping e t (s .args .last) (s .args .rows .now) (s .args .store .now) (s .args .out .now) (s .args .said .now) _ refl)
+    (turn-is r Skipping e t (s .args .last) (s .args .rows .now) (s .args .store .now) (s .args .out .now) (s .args .at) n _ (c .skip .ensures), rows-is r Skipping e t (s .args .last) (s .args .rows .now) (s .args .store .now) (s .args .out .now) n _ refl, store-is r Skipping e t (s .args .last) (s .args .rows .now) (s .args .store .now) (s .args .out .now) n _ refl, out-is r Skipping e t (s .args .last) (s .args .rows .now) (s .args .store .now) (s .args .out .now) n _ refl, said-is r Skipping e t (s .args .last) (s .args .rows .now) (s .args .store .now) (s .args .out .now) (s .args .said .now) _ refl)
 
 returns-5 : tie.Need-returns-5
 returns-5 c =
     let s = c .before .before .before .before .before .before .before in
     let e = c .before .enum-told5 .given .1 in
     let r = s .args .replay in
-    let t = s .args .text .now in
+    let t = drop (s .args .at) (s .args .text .now) in
     let n = length (s .args .said .now) in
-    (turn-is r Ended e t (s .args .last) (s .args .rows .now) (s .args .store .now) (s .args .out .now) n _ (c .swallow .ensures), rows-is r Ended e t (s .args .last) (s .args .rows .now) (s .args .store .now) (s .args .out .now) n _ refl, store-is r Ended e t (s .args .last) (s .args .rows .now) (s .args .store .now) (s .args .out .now) n _ refl, out-is r Ended e t (s .args .last) (s .args .rows .now) (s .args .store .now) (s .args .out .now) n _ refl, said-is r Ended e t (s .args .last) (s .args .rows .now) (s .args .store .now) (s .args .out .now) (s .args .said .now) _ refl)
+    (turn-is r Ended e t (s .args .last) (s .args .rows .now) (s .args .store .now) (s .args .out .now) (s .args .at) n _ (c .swallow .ensures), rows-is r Ended e t (s .args .last) (s .args .rows .now) (s .args .store .now) (s .args .out .now) n _ refl, store-is r Ended e t (s .args .last) (s .args .rows .now) (s .args .store .now) (s .args .out .now) n _ refl, out-is r Ended e t (s .args .last) (s .args .rows .now) (s .args .store .now) (s .args .out .now) n _ refl, said-is r Ended e t (s .args .last) (s .args .rows .now) (s .args .store .now) (s .args .out .now) (s .args .said .now) _ refl)
 
 pub turn-spec : {M : Type 1} → statement M
 turn-spec = tie.close (tie.spec enum-told open-all-requires enum-told-2 read-requires enum-told-3 report-requires enum-told-4 skip-requires enum-told-5 swallow-requires same-length same-length-2 same-length-3 returns same-length-4 same-length-5 same-length-6 returns-2 same-length-7 same-length-8 same-length-9 same-length-10 returns-3 returns-4 returns-5)
