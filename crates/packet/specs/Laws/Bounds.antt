@@ -33,6 +33,7 @@ pub small-word : (w : Word) → assigned w ≡ true → w .0 < 16
 small-word w a =
     ⊎-elim (λ (h : 16 ≤ w .0). absurd (false≢true (sym (large-unassigned w h) ∙ a))) (λ (h : w .0 < 16). h) (le-or-lt 16 (w .0))
 
+-- The test of the definitions is eight tests joined by `and`, from the left: each is taken off in turn.
 within : (epochs numbers values : ℕ) (f : Fields) → fitsWithin epochs numbers values f ≡ true → Within epochs numbers values f
 within epochs numbers values f t =
     let t7 = and-left (M && E && S && G && A && R && N) W t in

@@ -1,3 +1,4 @@
+-- `owned_bytes` meets its contract. By the loop: the first i bytes say whether their slots are the group's.
 use mathlib.Core.Path.{_≡_, refl, _∙_}
 use mathlib.Core.Bool.{_&&_}
 use Prim.Native.Nat.{_≤_, _-_}

@@ -1,3 +1,4 @@
+-- `restore` meets its contract: three places back, each put where it is restored, one behind the other (`restored-by`).
 use Rattle.mending.proofs.Promised.{restored-by}
 use borrow.Author.Needs.{needs}
 use Rattle.mending.proofs.copying.restore.Statement.{statement}

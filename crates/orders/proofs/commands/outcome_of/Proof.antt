@@ -1,3 +1,4 @@
+-- `outcome_of` meets its contract: a kind of command a case, each the card's own call.
 use borrow.Author.Needs.{needs}
 use Rattle.orders.specs.Orders.{outcomeBy}
 use Rattle.orders.proofs.commands.outcome_of.Statement.{statement}

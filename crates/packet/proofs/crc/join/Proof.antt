@@ -1,3 +1,4 @@
+-- `join` meets its contract: an entry of the table for each of seven bytes, joined in the definition's order.
 use borrow.Author.Needs.{needs}
 use Rattle.packet.specs.Shares.{shareIn}
 use Rattle.packet.proofs.Joining.{from-first}

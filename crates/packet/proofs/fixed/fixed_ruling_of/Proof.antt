@@ -1,3 +1,4 @@
+-- `fixed_ruling_of` meets its contract: an answer of reading a case, and only a packet rules.
 use mathlib.Core.Path.{refl}
 use Rattle.packet.specs.Fixed.{fixedRulingOf}
 use native.Mathlib.Omega.{arith}

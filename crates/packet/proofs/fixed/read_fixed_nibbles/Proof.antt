@@ -1,3 +1,4 @@
+-- `read_fixed_nibbles` meets its contract: another word than FIXED is refused, else number and epoch are put together of their nibbles.
 use mathlib.Core.Path.{refl}
 use native.Mathlib.Omega.{arith}
 use borrow.Author.Tests.{ne-eqb}

@@ -1,3 +1,4 @@
+-- `data_of` meets its contract: fourteen nibbles, each by the definition's own sum; what is asked for is that the sums fit a byte.
 use mathlib.Core.Path.{refl}
 use native.Mathlib.Omega.{arith}
 use Rattle.packet.specs.Layout.{dataOf}

@@ -1,3 +1,4 @@
+-- `fields_of` meets its contract: each field of the nibbles at its places; what is asked for is that places lie in the row and sums fit.
 use Prim.Native.Nat.{_%_}
 use lib.ListN.{getD}
 use native.Mathlib.Omega.{arith}

@@ -1,3 +1,4 @@
+-- `h4_of` meets its contract: sixteen bytes, each a nibble above the MFI1 of its place; what is asked for is that places lie in the row and sums fit a byte.
 use mathlib.Core.Path.{refl}
 use native.Mathlib.Omega.{arith}
 use Rattle.packet.specs.Layout.{h4Of}

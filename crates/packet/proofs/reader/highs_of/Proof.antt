@@ -1,3 +1,4 @@
+-- `highs_of` meets its contract: the high nibble of each of sixteen bytes.
 use mathlib.Core.Path.{refl}
 use native.Mathlib.Omega.{arith}
 use Rattle.packet.specs.Layout.{highsOf}

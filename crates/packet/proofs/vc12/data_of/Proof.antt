@@ -1,3 +1,4 @@
+-- `data_of` meets its contract: the fields in order make one number, which is that of the 29 data bits (`data-number`), and fits since each field does.
 use mathlib.Core.Path.{sym}
 use native.Mathlib.Omega.{arith}
 use Rattle.packet.specs.Laws.Vc12.{data-number}

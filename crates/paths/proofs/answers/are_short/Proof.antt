@@ -1,3 +1,4 @@
+-- `are_short` meets its contract. By the loop: whether the first i delays are at most 4,095.
 use mathlib.Core.Path.{_≡_, refl}
 use Prim.Native.Nat.{_≤_, _-_}
 use native.Mathlib.Numerals.{add-one}

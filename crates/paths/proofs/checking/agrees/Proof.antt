@@ -1,3 +1,4 @@
+-- `agrees` meets its contract. By the loop: whether the a-th path of the set agrees with each of the first b.
 use mathlib.Core.Path.{_≡_, refl}
 use Prim.Native.Nat.{_≤_, _-_}
 use native.Mathlib.Numerals.{add-one}

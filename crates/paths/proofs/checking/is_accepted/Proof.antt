@@ -1,3 +1,4 @@
+-- `is_accepted` meets its contract: a set of another size is refused at once. By the loop: whether each of the first a paths fits.
 use mathlib.Core.Path.{_≡_, refl}
 use Prim.Native.Nat.{_≤_, _-_}
 use native.Mathlib.Numerals.{add-one}

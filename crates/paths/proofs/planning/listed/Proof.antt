@@ -1,3 +1,4 @@
+-- `listed` meets its contract. By the loop: of the first i candidates those in the stretch are listed, and so many are counted.
 use mathlib.Core.Path.{_≡_, refl}
 use Prim.Native.Nat.{_+_, _≤_, _-_}
 use native.Mathlib.Omega.{arith}

@@ -1,3 +1,4 @@
+-- `proposed` meets its contract: the tightest stretch listed, or nothing where it is too wide. Each exit cites one law, with what the calls before it give.
 use native.Mathlib.Omega.{arith}
 use Rattle.paths.proofs.Answering.{proposed-none, proposed-some, stretch-fits}
 use borrow.Author.Needs.{needs}

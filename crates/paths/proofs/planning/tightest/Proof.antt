@@ -1,3 +1,4 @@
+-- `tightest` meets its contract. By the loop: the tightest of the stretches with the first so many starts.
 use mathlib.Core.Path.{_≡_, _∙_}
 use Prim.Native.Nat.{_≤_, _-_}
 use native.Mathlib.Numerals.{add-one}

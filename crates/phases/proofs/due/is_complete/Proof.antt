@@ -1,3 +1,4 @@
+-- `is_complete` meets its contract. By the loop: the first i ports owe nothing; the first that does ends it.
 use Prim.Native.Nat.{ℕ, _≤_, _-_}
 use mathlib.Core.Path.{_≡_, refl, sym, _∙_}
 use mathlib.Core.Bool.{Bool, true, false}

@@ -1,3 +1,4 @@
+-- `is_silent` meets its contract. By the loop: the first i ports are not readable; the first that is ends it.
 use Prim.Native.Nat.{ℕ, _≤_, _-_}
 use mathlib.Core.Path.{_≡_, refl, sym, _∙_}
 use mathlib.Core.Bool.{Bool, true, false, not}

@@ -1,3 +1,4 @@
+-- `pass_port` meets its contract: fifteen calls that read, work out and put back, one behind the other. Each says what it gives, and `passed-is` joins them.
 use Rattle.phases.proofs.Passed.{passed-is}
 use native.Mathlib.Omega.{arith}
 use Rattle.phases.proofs.passing.pass_port.Statement.{statement}

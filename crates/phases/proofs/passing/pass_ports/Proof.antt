@@ -1,3 +1,4 @@
+-- `pass_ports` meets its contract. By the loop: the epoch has passed of the first i ports.
 use lib.ListN.{length}
 use Prim.Native.Nat.{_≤_, _-_}
 use mathlib.Core.Path.{_≡_, refl, ap, _∙_}

@@ -1,3 +1,4 @@
+-- `clear_ports` meets its contract. By the loop: the first i ports are cleared.
 use lib.ListN.{length}
 use Prim.Native.Nat.{_≤_, _-_}
 use mathlib.Core.Path.{_≡_, refl, ap, _∙_}

@@ -1,3 +1,4 @@
+-- `all_ready` meets its contract. By the loop: the first i ports are ready; the first that is not ends it.
 use Prim.Native.Nat.{ℕ, _≤_, _-_}
 use mathlib.Core.Path.{_≡_, refl, sym, ap, _∙_}
 use mathlib.Core.Bool.{Bool, true, false}

@@ -1,3 +1,4 @@
+-- `all_within` meets its contract. By the loop: the first i ports lie within the window behind the foremost tag; the first that does not ends it.
 use Prim.Native.Nat.{ℕ, _≤_, _-_}
 use mathlib.Core.Path.{_≡_, refl, sym, ap, _∙_}
 use mathlib.Core.Bool.{Bool, true, false}

@@ -1,3 +1,4 @@
+-- `foremost` meets its contract. By the loop: the foremost of the first i ports' tags.
 use Prim.Native.Nat.{_≤_, _-_}
 use mathlib.Core.Path.{_≡_}
 use native.Mathlib.Numerals.{add-one}

@@ -1,3 +1,4 @@
+-- `is_within` meets its contract: the tests and the sum of the definition, which fit their types.
 use mathlib.Core.Path.{refl}
 use Rattle.phases.specs.Beginning.{within}
 use native.Mathlib.Omega.{arith}

@@ -1,3 +1,4 @@
+-- `opened_by` meets its contract: settings where no pair is left half; what is still awaited is a case (`opened-is`).
 use mathlib.Core.Path.{_∙_}
 use Rattle.recording.proofs.Reading.{opened-is}
 use Rattle.recording.specs.declared.pairs.Awaited.the-variants.{Name, Kind, HoldOff, Restore, Nothing}

@@ -1,3 +1,4 @@
+-- `opening_at` meets its contract: how the first line ends, or that it does not, is a case; each exit cites one law.
 use Rattle.recording.specs.Opening.{handed}
 use mathlib.Core.Path.{ap, sym, _∙_}
 use native.Mathlib.Omega.{arith}

@@ -1,3 +1,4 @@
+-- `settings_by` meets its contract: each of the three numbers that is none makes the line malformed, else the pairs behind them are read. Each exit cites one law.
 use mathlib.Core.Path.{ap, _∙_}
 use Rattle.recording.specs.Opening.{handed}
 use Rattle.recording.specs.Laws.Pairs.{fieldsFrom}

@@ -1,3 +1,4 @@
+-- `short_opening` meets its contract: a line of one field or of two is malformed, else its first three are the numbers and the pairs begin behind them. Each exit cites one law.
 use mathlib.Core.Path.{ap, _∙_}
 use Rattle.recording.specs.Opening.{handed}
 use Prim.Native.Nat.{_+_, _≤_}

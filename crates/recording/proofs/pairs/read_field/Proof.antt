@@ -1,3 +1,4 @@
+-- `read_field` meets its contract: what is awaited is a case (`field-is`).
 use mathlib.Core.Path.{refl, ap, _∙_}
 use lib.Seq.{slice}
 use Rattle.recording.proofs.Reading.{field-is}

@@ -1,3 +1,4 @@
+-- `read_hold` meets its contract: what is no number leaves nothing awaited, a number is the port's hold-off, and the next port's is awaited.
 use Rattle.recording.proofs.Reading.{hold-none, hold-value}
 use native.Mathlib.Omega.{arith}
 use Rattle.recording.proofs.pairs.read_hold.Statement.{statement}

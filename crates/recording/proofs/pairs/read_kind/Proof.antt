@@ -1,3 +1,4 @@
+-- `read_kind` meets its contract: the three kinds by their words, else the line is refused. Each exit cites one law.
 use lib.Seq.{slice}
 use native.Mathlib.Omega.{arith}
 use Rattle.recording.proofs.Reading.{kind-fixed, kind-h4, kind-none, kind-vc12}

@@ -1,3 +1,4 @@
+-- `read_name` meets its contract: the three names in order, each only once, else the line is refused. Each exit cites one law.
 use lib.Seq.{slice}
 use Rattle.recording.proofs.Reading.{name-hold, name-kind, name-none, name-restore}
 use native.Mathlib.Omega.{arith}

@@ -1,3 +1,4 @@
+-- `read_pairs` meets its contract. By the loop: the pairs read so far and the fields from the place on give what the first pairs and all fields give.
 use mathlib.Core.Path.{_≡_, refl, sym, ap, _∙_}
 use Prim.Native.Nat.{_+_, _-_}
 use native.Mathlib.Omega.{arith}

@@ -1,3 +1,4 @@
+-- `read_restore` meets its contract: what is no number leaves nothing awaited, a number is the port's wait-to-restore, and the next port's is awaited.
 use Rattle.recording.proofs.Reading.{restore-none, restore-value}
 use native.Mathlib.Omega.{arith}
 use Rattle.recording.proofs.pairs.read_restore.Statement.{statement}

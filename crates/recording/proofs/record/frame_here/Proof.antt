@@ -1,3 +1,4 @@
+-- `frame_here` meets its contract, which speaks of frames alone: four exits give none. At the fifth the line has the length and the tabs of a frame's, so that what is read without a search is what the line says.
 use mathlib.Core.Bool.{false≢true}
 use mathlib.Core.Path.{sym, ap, _∙_}
 use Prim.Native.Nat.{ℕ, _+_, _≤_}

@@ -1,3 +1,4 @@
+-- `frame_line` meets its contract: a fifth field makes it malformed, else the four fields are read.
 use mathlib.Core.Path.{ap, _∙_}
 use Prim.Native.Nat.{ℕ, _+_}
 use lib.Seq.{slice}

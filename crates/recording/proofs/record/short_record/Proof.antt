@@ -1,3 +1,4 @@
+-- `short_record` meets its contract: a line of one, two or three fields is malformed, one of more is read as a frame's. Each exit cites one law.
 use native.Mathlib.Omega.{arith}
 use Rattle.recording.specs.Laws.Parting.{more, one, three, two}
 use Rattle.recording.proofs.record.short_record.Statement.{statement}

@@ -1,3 +1,4 @@
+-- `claim_all` meets its contract. By the loop: the table with the claims of the first i ports.
 use mathlib.Core.Path.{_≡_, _∙_, refl}
 use Prim.Native.Nat.{_≤_, _-_}
 use native.Mathlib.Numerals.{add-one}

@@ -1,3 +1,4 @@
+-- `is_turning` meets its contract. By the loop: whether one of the first i ports turns RS-Ack over.
 use mathlib.Core.Path.{_≡_, refl}
 use Prim.Native.Nat.{_≤_, _-_}
 use native.Mathlib.Numerals.{add-one}

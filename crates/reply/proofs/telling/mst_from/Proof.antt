@@ -1,3 +1,4 @@
+-- `mst_from` meets its contract: eight bits, from the first number on, each by a call; the lowest number's bit is the first.
 use mathlib.Core.Path.{_∙_}
 use borrow.Author.Needs.{needs}
 use Rattle.reply.specs.Telling.{mstFrom}

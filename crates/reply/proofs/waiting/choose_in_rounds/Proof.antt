@@ -1,3 +1,5 @@
+-- `choose_in_rounds` meets its contract: who has which number when no port joins those that keep theirs.
+-- By the loop: the table is the choice over the numbers kept so far, and the rounds that are left, n - k of them, lead from these to all that are kept. They end when none joins, or with the n-th.
 use mathlib.Core.Path.{_≡_, sym, _∙_}
 use Prim.Native.Nat.{suc, _+_, _≤_, _-_}
 use native.Mathlib.Omega.{arith}

@@ -1,3 +1,4 @@
+-- `keep_more` meets its contract. By the loop: the numbers kept so far, with those of the first i ports that have to keep theirs.
 use mathlib.Core.Path.{_≡_, _∙_, refl}
 use Prim.Native.Nat.{_≤_, _-_}
 use native.Mathlib.Numerals.{add-one}

@@ -1,3 +1,4 @@
+-- `some_join` meets its contract. By the loop: whether one of the first i ports joins.
 use mathlib.Core.Path.{_≡_, refl}
 use Prim.Native.Nat.{_≤_, _-_}
 use native.Mathlib.Numerals.{add-one}

@@ -1,3 +1,4 @@
+-- `standing_by` meets its contract: IDLE, with its claim, without it. Each exit cites one law of Claims.
 use mathlib.Core.Path.{sym, _∙_}
 use borrow.Author.Needs.{needs}
 use Rattle.reply.specs.Laws.Claims.{left-claim, left-idle, left-lost}

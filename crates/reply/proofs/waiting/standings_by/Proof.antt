@@ -1,3 +1,4 @@
+-- `standings_by` meets its contract. By the loop: the first i places have what this report leaves of their ports, the others are as they were.
 use mathlib.Core.Path.{_≡_, refl}
 use Prim.Native.Nat.{_≤_, _-_}
 use native.Mathlib.Omega.{arith}

@@ -1,3 +1,4 @@
+-- `group_row` meets its contract: sixteen bytes by their places, the last four as they came (`listed`).
 use mathlib.Core.Path.{refl}
 use lib.ListN.{length-map}
 use borrow.Author.Needs.{needs}

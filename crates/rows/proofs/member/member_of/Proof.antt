@@ -1,3 +1,4 @@
+-- `member_of` meets its contract: twelve bytes by their places, three pairs of them as numbers, and the four spare ones as they stand (`rest`).
 use native.Mathlib.Omega.{arith}
 use borrow.Author.Needs.{needs}
 use Rattle.rows.specs.Laws.Records.{rest}

@@ -1,3 +1,4 @@
+-- `put` meets its contract: a port's two packets into its two rows.
 use borrow.Author.Needs.{needs}
 use Rattle.rows.specs.Packets.{putPackets}
 use Rattle.rows.proofs.packets.put.Statement.{statement}

@@ -1,3 +1,4 @@
+-- `put_entry` meets its contract: inside the row the entry is put; past the row, or past the state, all stays. Each exit cites one law.
 use Rattle.rows.specs.Laws.Bytes.{entry-put, entry-past, entry-beyond}
 use borrow.Author.Needs.{needs}
 use Rattle.rows.proofs.packets.put_entry.Statement.{statement}

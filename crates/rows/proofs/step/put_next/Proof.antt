@@ -1,3 +1,4 @@
+-- `put_next` meets its contract: the two bytes of the tag to come are put into the port's row; past the state all stays.
 use mathlib.Core.Path.{refl}
 use Rattle.rows.specs.Laws.Bytes.{next-put, next-beyond}
 use borrow.Author.Needs.{needs}

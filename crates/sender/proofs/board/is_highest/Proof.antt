@@ -1,3 +1,4 @@
+-- `is_highest` meets its contract. By the loop: whether one of the first i slots is active under a higher number.
 use mathlib.Core.Bool.{_&&_, not}
 use mathlib.Core.Path.{_≡_, refl, ap}
 use Prim.Native.Nat.{_≤_, _-_}

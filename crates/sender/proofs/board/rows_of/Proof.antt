@@ -1,3 +1,4 @@
+-- `rows_of` meets its contract. By the loop: the first i rows are those of their slots, the others are empty.
 use mathlib.Core.Path.{_≡_, _∙_, refl, ap}
 use Prim.Native.Nat.{_≤_, _-_}
 use native.Mathlib.Omega.{arith}

@@ -1,3 +1,4 @@
+-- `word_of` meets its contract: a state a case, and of an active one whether its number is the highest.
 use borrow.Author.Needs.{needs}
 use Rattle.sender.proofs.board.word_of.Statement.{statement}
 use Rattle.sender.proofs.board.word_of.Tie as tie

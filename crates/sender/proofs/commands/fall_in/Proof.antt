@@ -1,3 +1,4 @@
+-- `fall_in` meets its contract. By the loop: the first i slots have closed the gap that a number left.
 use mathlib.Core.Path.{_≡_, _∙_, ap}
 use Prim.Native.Nat.{_≤_, _-_}
 use native.Mathlib.Omega.{arith}

@@ -1,3 +1,4 @@
+-- `remove` meets its contract: no such slot, a wait that is open, a slot that is no member, else done. Each exit cites one law of removing, in the order of the tests.
 use mathlib.Core.Path.{_∙_, sym}
 use Prim.Native.Nat.{_<_}
 use native.Mathlib.Omega.{arith}

@@ -1,3 +1,4 @@
+-- `find` meets its contract. By the loop: none of the first i slots holds the number; the first that does ends it.
 use mathlib.Core.Path.{_≡_, _∙_, sym}
 use Prim.Native.Nat.{_≤_, _-_}
 use native.Mathlib.Omega.{arith}

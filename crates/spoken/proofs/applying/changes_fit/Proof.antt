@@ -1,3 +1,4 @@
+-- `changes_fit` meets its contract. By the loop: whether the first k changes fit.
 use mathlib.Core.Path.{_≡_, refl}
 use Prim.Native.Nat.{_≤_, _-_}
 use native.Mathlib.Omega.{arith}

@@ -1,3 +1,4 @@
+-- `lay` meets its contract. By the loop: the first k changes are laid on the rows.
 use mathlib.Core.Path.{_≡_, refl}
 use Prim.Native.Nat.{_≤_, _-_}
 use native.Mathlib.Omega.{arith}

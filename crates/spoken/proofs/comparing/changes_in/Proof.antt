@@ -1,3 +1,4 @@
+-- `changes_in` meets its contract. By the loop: the list has the changes of the first i slots in front and nothing behind them, and so many are counted (`Listing`).
 use mathlib.Core.Path.{_≡_}
 use mathlib.Core.Bool.{not}
 use Prim.Native.Nat.{_≤_, _-_}

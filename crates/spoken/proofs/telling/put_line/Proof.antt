@@ -1,3 +1,4 @@
+-- `put_line` meets its contract: a run of a whole board or of changes; each exit is what the call puts.
 use Rattle.spoken.proofs.InRuns.{line-run, line-shown}
 use borrow.Author.Needs.{needs}
 use Rattle.spoken.proofs.telling.put_line.Statement.{statement}

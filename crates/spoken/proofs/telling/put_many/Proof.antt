@@ -1,3 +1,4 @@
+-- `put_many` meets its contract: the slots, what they were and what they are, one text behind the other (`put-then`), for each of which there is room.
 use lib.ListN.{length}
 use Rattle.text.specs.Laws.Putting.{put-then}
 use Rattle.spoken.specs.SpeakingRuns.{areText, manyText, slotsText, wereText}

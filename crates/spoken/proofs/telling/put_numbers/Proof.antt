@@ -1,3 +1,4 @@
+-- `put_numbers` meets its contract: one number where both are alike, else the first, `to` and the last, one text behind the other.
 use Rattle.text.specs.Ascii.{ascii}
 use Rattle.text.specs.Output.{decimalText, ended}
 use Rattle.text.specs.Text.{TAB}

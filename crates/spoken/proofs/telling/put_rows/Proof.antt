@@ -1,3 +1,4 @@
+-- `put_rows` meets its contract: the word alone where IDLE has no number, else the word and the numbers.
 use Rattle.text.specs.Output.{ended, wordText}
 use Rattle.text.specs.Text.{TAB}
 use Rattle.text.specs.Laws.Putting.{is-put}

@@ -1,3 +1,4 @@
+-- `put_run` meets its contract: a run of one change is told as that change, a longer one by `put_many`.
 use Rattle.spoken.proofs.InRuns.{run-one, run-many}
 use borrow.Author.Needs.{needs}
 use Rattle.spoken.proofs.telling.put_run.Statement.{statement}

@@ -1,3 +1,4 @@
+-- `put_runs` meets its contract. By the loop: the lines of the runs before the open one are put, and the open run has the changes since, up to the k-th (`Telling`). The next change makes it longer or ends it; the last run is put behind the loop.
 use mathlib.Core.Path.{_≡_}
 use Prim.Native.Nat.{_-_, _≤_}
 use native.Mathlib.Omega.{arith}

@@ -1,3 +1,4 @@
+-- `put_shown` meets its contract: a run of one slot is told as that slot, a longer one by `put_many_shown`.
 use Rattle.spoken.proofs.InRuns.{shown-one, shown-many}
 use borrow.Author.Needs.{needs}
 use Rattle.spoken.proofs.telling.put_shown.Statement.{statement}

@@ -1,3 +1,4 @@
+-- `speak_runs` meets its contract: a buffer that is too short, changes that cannot be spoken, else the lines of the runs and that of the wait. Each exit cites one law.
 use mathlib.Core.Path.{_∙_, sym}
 use native.Mathlib.Omega.{arith}
 use borrow.Author.Tests.{not-false, not-true}

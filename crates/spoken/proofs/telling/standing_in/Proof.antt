@@ -1,3 +1,4 @@
+-- `standing_in` meets its contract. By the loop: the first i places have their rows as changes of nothing.
 use mathlib.Core.Path.{_≡_, refl}
 use Prim.Native.Nat.{_-_, _≤_}
 use native.Mathlib.Omega.{arith}

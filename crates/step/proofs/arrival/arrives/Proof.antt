@@ -1,3 +1,4 @@
+-- `arrives` meets its contract: dropped before the beginning, by the window where the port has joined, else by an epoch's start. Each exit is the definition at the tests that the code took.
 use Rattle.step.specs.Arrival.{arrives}
 use borrow.Author.Needs.{needs}
 use Rattle.step.proofs.arrival.arrives.Statement.{statement}

@@ -1,3 +1,4 @@
+-- `decide` meets its contract: a flagged frame, one after which the port is in step, and one after which it is not. Each exit is `takenOf` at the tests that the code took.
 use Rattle.step.specs.Arrival.{takenOf}
 use borrow.Author.Needs.{needs}
 use Rattle.step.proofs.arrival.decide.Statement.{statement}

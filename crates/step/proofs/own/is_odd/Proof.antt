@@ -1,3 +1,4 @@
+-- `is_odd` meets its contract: a frame that ends no packet ends no odd one; of one that does, the packet with its symbol put is asked. Each exit is the definition at the tests that the code took.
 use mathlib.Core.Path.{refl}
 use Rattle.step.specs.OwnCount.{endsOdd}
 use borrow.Author.Needs.{needs}

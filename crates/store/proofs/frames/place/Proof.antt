@@ -1,3 +1,4 @@
+-- `place` meets its contract: the definition's products and sums, which fit 64 bits since the ring's place is below 131,071.
 use mathlib.Core.Path.{refl}
 use Prim.Native.Nat.{_≤_}
 use native.Mathlib.Omega.{arith}

@@ -1,3 +1,4 @@
+-- `agrees` meets its contract. By the loop: whether the first i bytes of the word stand at the place.
 use mathlib.Core.Path.{_≡_}
 use Prim.Native.Nat.{_-_, _≤_, _<_, _+_}
 use native.Mathlib.Omega.{arith}

@@ -1,3 +1,4 @@
+-- `are_digits` meets its contract. By the loop: whether the field's first i bytes are digits below the base.
 use mathlib.Core.Path.{_≡_, sym, _∙_, ap}
 use Prim.Native.Nat.{ℕ, _-_, _≤_, _<_}
 use native.Mathlib.Omega.{arith}

@@ -1,3 +1,4 @@
+-- `fill` meets its contract. By the loop: the first i bytes are those of the field's first 2 i digits.
 use mathlib.Core.Path.{_≡_, refl}
 use Prim.Native.Nat.{_-_, _≤_, _<_}
 use native.Mathlib.Omega.{arith}

@@ -1,3 +1,4 @@
+-- `copy` meets its contract. By the loop: the first i bytes of the text stand at their places, all else of the buffer is as it was.
 use mathlib.Core.Path.{_≡_}
 use Prim.Native.Nat.{_-_, _≤_, _<_}
 use native.Mathlib.Omega.{arith}

@@ -1,3 +1,4 @@
+-- `Card::claim` meets its contract: no such slot, one that is owned, else the slot is the group's. Each exit cites one law of claiming.
 use borrow.Author.Tests.{not-true, not-false}
 use Rattle.circuits.proofs.Answering.{slot-low, claim-no-slot, claim-owned, claim-done}
 use borrow.Author.Needs.{needs}

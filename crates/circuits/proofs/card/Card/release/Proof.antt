@@ -1,3 +1,4 @@
+-- `Card::release` meets its contract: no such slot, another group's, one in use, else the slot is free. Each exit cites one law of releasing.
 use borrow.Author.Tests.{not-true, not-false}
 use Rattle.circuits.proofs.Answering.{slot-low, release-no-slot, release-other, release-used, release-done}
 use borrow.Author.Needs.{needs}

@@ -1,3 +1,4 @@
+-- `Card::remove` meets its contract: no such slot, another group's slot, else the group's own remove. Each exit cites one law of a command, in the order of the tests.
 use borrow.Author.Tests.{not-true, not-false}
 use Rattle.circuits.proofs.Answering.{command-no-slot, command-other, command-done}
 use borrow.Author.Needs.{needs}
