@@ -1,6 +1,5 @@
 -- Laws on the step rule and on what a frame does, for the proofs above them.
 pub mod Arrival
-pub mod Carried
 pub mod H4Run
 pub mod OwnBits
 pub mod Positions

@@ -3,6 +3,7 @@ pub mod Reserved
 pub mod Words
 pub mod Heard
 pub mod ByTable
+pub mod Carried
 pub mod FixedPackets
 pub mod Kept
 pub mod Lost

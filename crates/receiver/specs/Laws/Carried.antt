@@ -21,7 +21,7 @@ use Rattle.receiver.specs.Seen.{carriedAt, carriedBy}
 use Rattle.rows.specs.declared.group.Group.{Group}
 use Rattle.rows.specs.Packets.{packetsAt}
 use Rattle.step.specs.Carried.{otherNumber, readingIn}
-use Rattle.step.specs.Laws.Carried.{read-as, ruled-as-read}
+use Rattle.step.specs.Theorems.Carried.{read-as, ruled-as-read}
 use Rattle.step.specs.OwnCount.{ownRuling}
 
 -- whether the packet that rules port i carries another number
