@@ -1,21 +1,29 @@
 -- Changes that fit a board and changes that can be spoken (request 2026-10), and those that differ from them in one thing. The board: NORM 0, NORM 1, EOS 2, no wait.
-use mathlib.Core.Path.{_≡_, refl}
+use mathlib.Core.Path.{_≡_, refl, sym, _∙_}
 use mathlib.Core.Bool.{Bool, true, false}
 use mathlib.Core.List.{List, [], _∷_, _++_}
 use Prim.Native.Nat.{ℕ, _+_, _-_}
 use lib.ListN.{length, replicate, take}
 use Rattle.ground.specs.Table.{tabulate}
+use Rattle.sender.specs.Board.{boardOf}
+use Rattle.sender.specs.Calls.Call.{AddSlot}
 use Rattle.sender.specs.declared.board.Board.{Board}
 use Rattle.sender.specs.declared.board.Row.{Row}
+use Rattle.sender.specs.Epochs.{beginOf}
+use Rattle.sender.specs.Epochs.SenderCall.{OnTable, StartEpoch}
+use Rattle.sender.specs.Numbering.{Demand2}
 use Rattle.spoken.specs.Applying.{appliedOf}
 use Rattle.spoken.specs.Changes.{answerNumber, comparedOf}
 use Rattle.spoken.specs.declared.lists.Change.{Change}
 use Rattle.spoken.specs.declared.lists.Changes.{Changes}
 use Rattle.spoken.specs.declared.lists.WaitChange.{WaitChange}
 use Rattle.spoken.specs.declared.lists.WaitChange.the-variants.{Same, Opened, Closed}
+use Rattle.spoken.specs.Listening.{Moment, knownWith}
 use Rattle.spoken.specs.Runs.{runsOf, spread}
 use Rattle.spoken.specs.Speaking.{speakAnswer, speechBytes, speechOf, spokenText}
 use Rattle.spoken.specs.SpeakingRuns.{runsSpeechBytes, runsSpeechOf, runsText, wholeAnswer, wholeSpeechBytes, wholeSpeechOf, wholeText}
+use Rattle.spoken.specs.Taking.{takenOf}
+use Rattle.spoken.specs.Theorems.Listener.{one-table}
 use Rattle.text.specs.Ascii.{ascii}
 use Rattle.conformance.specs.Opened.{allOpen}
 
@@ -165,3 +173,20 @@ wholes :
     × (take 2 (wholeSpeechBytes (board [] 65 true) (replicate 2188 7)) ≡ 7 ∷ 7 ∷ [])
 unfolding allOpen
 wholes = (refl, refl, refl, refl, refl, refl, refl, refl, refl, refl, refl, refl, refl, refl, refl)
+
+-- One who hears the first of two starts, with an add before each: she holds slot 0 as ADD 0 and nothing of slot 1.
+abbrev missed : List Moment
+missed =
+    record { call = OnTable (AddSlot 0); hears = false }
+    ∷ record { call = StartEpoch 0 0 0; hears = true }
+    ∷ record { call = OnTable (AddSlot 1); hears = false }
+    ∷ record { call = StartEpoch 0 0 0; hears = false }
+    ∷ []
+
+held : knownWith (takenOf (beginOf 0 3 0 .sender)) (beginOf 0 3 0 .sender) missed ≡ board (row 1 0 ∷ []) 3 false
+unfolding allOpen
+held = refl
+
+-- that board is the one of a table, and demand 2 holds of this table
+one-table-used : (board (row 1 0 ∷ []) 3 false ≡ boardOf (one-table 0 3 0 missed .source)) × Demand2 (one-table 0 3 0 missed .source)
+one-table-used = (sym held ∙ one-table 0 3 0 missed .is, one-table 0 3 0 missed .demand2)

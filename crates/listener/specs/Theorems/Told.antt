@@ -20,7 +20,7 @@ use Rattle.sender.specs.declared.epochs.Sender.{Sender}
 use Rattle.sender.specs.declared.table.State.{State}
 use Rattle.sender.specs.declared.table.State.the-variants.{Idle, Add, Active, Dnu}
 use Rattle.sender.specs.declared.table.Table.{Table}
-use Rattle.sender.specs.Epochs.{SenderCall, beginOf, freshSender, senderOutcomeOf, senderRun, startEpochOf, startedSender}
+use Rattle.sender.specs.Epochs.{SenderCall, beginOf, freshSender, senderOutcomeOf, senderRun, startEpochOf, startedSender, senderAfter}
 use Rattle.sender.specs.Epochs.SenderCall.{OnTable}
 use Rattle.sender.specs.Laws.Carrying.{board-row}
 use Rattle.sender.specs.Laws.Kept.{start-kind}
@@ -28,13 +28,14 @@ use Rattle.sender.specs.Laws.Sizes.{size-le}
 use Rattle.sender.specs.Numbering.{numberIn, slotsIn, stateIn}
 use Rattle.sender.specs.Ranks.{rowAt}
 use Rattle.sender.specs.Table as T
-use Rattle.sender.specs.Theorems.Epochs.{sender-sound, senderAfter}
+use Rattle.sender.specs.Theorems.Epochs.{sender-sound}
 use Rattle.spoken.specs.declared.applying.Applied.{Applied}
 use Rattle.spoken.specs.declared.lists.Change.{Change}
 use Rattle.spoken.specs.declared.lists.Changes.{Changes}
 use Rattle.spoken.specs.Changes.{answerNumber, changesIn, changesOf, comparable, comparedOf, listOf, spokenTo}
 use Rattle.spoken.specs.Fitting.{spoken}
-use Rattle.spoken.specs.Laws.Spoken.{Told, take-list}
+use Rattle.spoken.specs.Laws.Spoken.{take-list}
+use Rattle.spoken.specs.Said.{Told}
 use Rattle.spoken.specs.Listening.{knownAfter}
 use Rattle.spoken.specs.Runs.{runsOf, spread}
 use Rattle.spoken.specs.Speaking.{canSpeak, isShown, spokenText}
