@@ -9,9 +9,9 @@ use Rattle.ground.specs.Drawn.{fillAt}
 use Rattle.ground.specs.Plain.{_==_}
 use Rattle.ground.specs.Table.{tabulate}
 use Rattle.judge.specs.Cause.{causeOf, markOf}
-use Rattle.judge.specs.Laws.Numbers.{numberAt}
+use Rattle.judge.specs.Marked.{Standing}
+use Rattle.judge.specs.Numbers.{numberAt}
 use Rattle.judge.specs.Order.{activeIn, orderOf, portOf}
-use Rattle.judge.specs.Theorems.Fixed.{Standing}
 use Rattle.judge.specs.Verdict.{HELD, SURE, judgeOf}
 use Rattle.packet.specs.Kinds.{epochAfter, epochOf, fixedKind, frames, tags}
 use Rattle.packet.specs.Layout.{fieldsOf}
@@ -24,15 +24,12 @@ use Rattle.receiver.specs.Anew.{anewAnswer, anewRows}
 use Rattle.receiver.specs.Cause.{causeOut}
 use Rattle.receiver.specs.Fetch.{dueIn, fetchOut, fetchRecord, fetchRows, fits, reportIfDue}
 use Rattle.receiver.specs.Frame.{frameAnswer, frameRows, settledBy, takenIn}
-use Rattle.receiver.specs.Behind.{behindIn}
+use Rattle.receiver.specs.Behind.{Near, behindIn}
 use Rattle.receiver.specs.Heard.{heardOf as saidOf, silence}
 use Rattle.receiver.specs.Laws.Behind as Behind
-use Rattle.receiver.specs.Laws.Behind.{Near}
-use Rattle.receiver.specs.Laws.Bytes.{frameBytes, reportByte}
 use Rattle.receiver.specs.Laws.Carried as Carried
-use Rattle.receiver.specs.Laws.Carried.{otherAt}
-use Rattle.receiver.specs.Report.{rulingEpoch, seenAll, seenOf}
-use Rattle.receiver.specs.Seen.{carriedAt}
+use Rattle.receiver.specs.Report.{frameBytes, reportByte, rulingEpoch, seenAll, seenOf}
+use Rattle.receiver.specs.Seen.{carriedAt, otherAt}
 use Rattle.receiver.specs.Settings.{settingsOf}
 use Rattle.receiver.specs.Shown.{replyOf}
 use Rattle.receiver.specs.Starting.{startAsAnswer}

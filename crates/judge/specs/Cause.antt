@@ -1,7 +1,9 @@
 -- Why an epoch is held or doubtful: the number of the clause that decides, and the port to which it applies (01, 'Report of an epoch').
-use mathlib.Core.Bool.{Bool, false, not, _&&_, _||_, Bool·beq}
+use mathlib.Core.Path.{_≡_}
+use mathlib.Core.Bool.{Bool, true, false, not, _&&_, _||_, Bool·beq}
 use mathlib.Core.List.{List, [], _∷_}
-use Prim.Native.Nat.{ℕ}
+use Prim.Native.Nat.{ℕ, _<_}
+use lib.ListN.{getD}
 use Rattle.ground.specs.Plain.{if_then_else_, _==_, _<?_}
 use Rattle.counting.specs.Words.{some}
 use Rattle.packet.specs.Kinds.{fixedKind}
@@ -58,6 +60,10 @@ causesOf kind =
     if kind == fixedKind then 6 ∷ 1 ∷ 2 ∷ 3 ∷ 7 ∷ []
     else 1 ∷ 2 ∷ 3 ∷ 4 ∷ 5 ∷ 6 ∷ 7 ∷ []
 
+-- the clause at place p of that order
+abbrev pub clauseAt : (kind : ℕ) (ports : List Seen) (count p : ℕ) → Bool
+clauseAt kind ports n p = clauseOf kind ports n (getD (causesOf kind) p 0)
+
 -- The port.
 
 -- GID of port i, which is not IDLE, is not that of a lower one
@@ -85,3 +91,9 @@ blamedBy ports n c =
 -- to which the clause applies that decides
 unfoldable pub blamedOf : (kind : ℕ) (ports : List Seen) (count : ℕ) → ℕ
 blamedOf kind ports n = blamedBy ports n (causeOf kind ports n)
+
+-- clause c applies to the port, and to none that is lower
+pub record Blamed (ports : List Seen) (n c port : ℕ) : Type 0 where
+  pub below : port < n
+  pub applied : applies ports (highest ports n) c port ≡ true
+  pub lowest-of : (j : ℕ) → j < port → applies ports (highest ports n) c j ≡ false

@@ -64,6 +64,10 @@ doneText line count = if isSize line then ascii "size\t" ++ ended (decimalText c
 unfoldable pub boardLines : (runs : Bool) (table : Table) → Bytes
 boardLines runs table = if runs then (if canSpeakWhole (boardOf table) then wholeText (boardOf table) else []) else boardText (boardOf table)
 
+-- what is told of changes that can be: in runs, or each by itself
+abbrev pub linesOf : (runs : Bool) (changes : Changes) → Bytes
+linesOf runs changes = if runs then runsText changes else spokenText changes
+
 -- what has changed, in runs or each slot by itself
 unfoldable pub changeLines : (runs : Bool) (changes : Changes) → Bytes
 changeLines runs changes = if canSpeak changes then (if runs then runsText changes else spokenText changes) else []

@@ -1,12 +1,15 @@
 -- What the lines of a session are to the sender, with its epochs, and what lines leave.
+use mathlib.Core.Path.{_≡_}
 use mathlib.Core.List.{List, [], _∷_, _++_}
 use Rattle.ground.specs.Plain.{if_then_else_}
 use Rattle.ground.specs.Types.{Bytes}
 use Rattle.console.specs.Line.{lineOf}
 use Rattle.console.specs.Told.{callOf, hasSize, isSize, meant}
 use Rattle.sender.specs.Calls.{Call}
+use Rattle.sender.specs.declared.epochs.Sender.{Sender}
 use Rattle.sender.specs.Epochs.{SenderCall}
 use Rattle.sender.specs.Epochs.SenderCall.{OnTable, StartEpoch}
+use Rattle.spoken.specs.Taking.{takenOf}
 use Rattle.listener.specs.declared.listening.Listener.{Listener}
 use Rattle.listener.specs.Listening.{afterLine, isEpoch}
 
@@ -31,3 +34,8 @@ callsIn (line ∷ lines) = callsOf line ++ callsIn lines
 abbrev pub sinceSize : (lines : List Bytes) → List Bytes
 sinceSize [] = []
 sinceSize (line ∷ lines) = if hasSize (meant lines) then sinceSize lines else if isSize (lineOf line) then lines else line ∷ lines
+
+-- a listener whose table is the sender's, and who holds the board that it sends
+pub record Follows (l : Listener) (s : Sender) : Type 0 where
+  pub table : l .table ≡ s .table
+  pub heard : l .heard ≡ takenOf s

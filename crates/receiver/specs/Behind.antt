@@ -1,12 +1,14 @@
 -- How far each port lies behind the foremost: the same tags and the same arc by which receiving begins (01, 'Beginning').
+use mathlib.Core.Path.{_≡_}
+use mathlib.Core.Bool.{true}
 use mathlib.Core.List.{List}
-use Prim.Native.Nat.{ℕ}
+use Prim.Native.Nat.{ℕ, _+_, _≤_, _<_}
 use lib.ListN.{length}
 use Rattle.counting.specs.Each.{each}
 use Rattle.ground.specs.Plain.{if_then_else_}
 use Rattle.ground.specs.Types.{Rows}
-use Rattle.packet.specs.Kinds.{distanceOf}
-use Rattle.phases.specs.Beginning.{foremost, latest}
+use Rattle.packet.specs.Kinds.{distanceOf, frames}
+use Rattle.phases.specs.Beginning.{foremost, latest, ready}
 use Rattle.phases.specs.Sizes.{portsIn}
 use Rattle.receiver.specs.Shown.{shownFit}
 use Rattle.rows.specs.declared.group.Group.{Group}
@@ -34,3 +36,11 @@ behindOut s out =
     if shownFit (portsIn (groupAt s)) (length s) (length out)
     then each (portsIn (groupAt s)) (behindIn (groupAt s) s (portsIn (groupAt s))) out
     else out
+
+-- every port is ready, one is in step, and none in step lies more than W - 16 behind
+pub record Near (g : Group) (s : Rows) (n : ℕ) : Type 0 where
+  pub all-ready : (i : ℕ) → i < n → ready g (stepAt s i) ≡ true
+  pub port : ℕ
+  pub below : port < n
+  pub stepped : inStep g (stepAt s port) ≡ true
+  pub near : (j : ℕ) → j < n → inStep g (stepAt s j) ≡ true → behindIn g s n j + frames (g .kind) ≤ g .window

@@ -1,7 +1,7 @@
 -- The report of an epoch (01, 'Report of an epoch', 'Member states and reply').
 use mathlib.Core.Bool.{false}
 use mathlib.Core.List.{List, []}
-use Prim.Native.Nat.{ℕ, zero, suc, _*_}
+use Prim.Native.Nat.{ℕ, zero, suc, _+_, _*_, _/_, _%_}
 use lib.ListN.{getD, replicate}
 use Rattle.ground.specs.Plain.{if_then_else_, _==_}
 use Rattle.ground.specs.Types.{Bytes, Epoch, Rows}
@@ -9,11 +9,12 @@ use Rattle.counting.specs.Each.{each}
 use Rattle.judge.specs.declared.order.Order.{Order}
 use Rattle.judge.specs.declared.seen.Seen.{Seen}
 use Rattle.judge.specs.Cause.{causeOf}
-use Rattle.judge.specs.Order.{orderOf}
+use Rattle.judge.specs.Order.{activeIn, orderOf, portOf}
 use Rattle.judge.specs.Seen.{sizeOf}
 use Rattle.judge.specs.Verdict.{HELD, judgeOf}
 use Rattle.packet.specs.Kinds.{epochOf, firstTag, frames, tagBefore}
 use Rattle.payload.specs.Joining.{joinedFrom}
+use Rattle.payload.specs.Order.{groupByte}
 use Rattle.phases.specs.Passing.{groupTo, passedOf}
 use Rattle.step.specs.OwnCount.{ownRuling}
 use Rattle.receiver.specs.declared.report.Report.{Report}
@@ -66,6 +67,18 @@ frameInto g o store k out = joinedFrom (o .x) (g .payload) (startsOf g (o .ports
 unfoldable pub framesInto : (g : Group) (o : Order) (store : Bytes) (k : ℕ) (out : Bytes) → Bytes
 framesInto g o store zero out = out
 framesInto g o store (suc k) out = frameInto g o store k (framesInto g o store k out)
+
+-- how many bytes a group frame has
+abbrev pub frameBytes : (g : Group) (seen : List Seen) (n : ℕ) → ℕ
+frameBytes g seen n = activeIn seen n * g .payload
+
+-- byte j of the frame that the port ranked r brought as the k-th of the oldest epoch
+abbrev pub broughtByte : (g : Group) (seen : List Seen) (n : ℕ) (store : Bytes) (k r j : ℕ) → ℕ
+broughtByte g seen n store k r j = getD store (placeIn g (portOf seen n r) k + j) 0
+
+-- byte b of a report: the group frames one after the other, each in payload order
+abbrev pub reportByte : (g : Group) (seen : List Seen) (n : ℕ) (store : Bytes) (b : ℕ) → ℕ
+reportByte g seen n store b = groupByte (activeIn seen n) (broughtByte g seen n store (b / frameBytes g seen n)) (b % frameBytes g seen n)
 
 -- what the fetched report says
 unfoldable pub reportBy : (g : Group) (mark cause : ℕ) (o : Order) → Report

@@ -37,6 +37,10 @@ carriedBy Unassigned = nothingCarried 6
 unfoldable pub carriedAt : (g : Group) (s : Rows) (i : ℕ) → Carried
 carriedAt g s i = carriedBy (readingIn (g .kind) (getD (packetsAt s i) 1 []))
 
+-- whether it carries another number
+abbrev pub otherAt : (g : Group) (s : Rows) (i : ℕ) → Bool
+otherAt g s i = otherNumber (g .kind) (rulingEpoch g) (getD (packetsAt s i) 1 [])
+
 -- ten bytes: whole, the answer, whether it carries another number than the own count, epoch, word, number, GID, MST, RS-Ack; and last whether the port's frames of the oldest epoch are all here. Of a packet that is not whole nothing is said.
 unfoldable pub seenRow : (whole : Bool) (other : Bool) (c : Carried) (here : Bool) → Bytes
 seenRow whole other c here =

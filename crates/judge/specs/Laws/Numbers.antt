@@ -9,29 +9,13 @@ use lib.Dec.{eqb, ltb}
 use borrow.Author.Tests.{eq-eqb, eqb-true}
 use Rattle.counting.specs.Laws.Numbers.{greatest-above}
 use Rattle.counting.specs.Laws.Tests.{some-at, some-one}
-use Rattle.counting.specs.Words.{Apart, greatest}
+use Rattle.counting.specs.Words.{greatest}
 use Rattle.ground.specs.Truth.{and-true, and-left, and-right, fails, eq-or-ne, le-or-lt}
 use Rattle.judge.specs.declared.seen.Seen.{Seen}
 use Rattle.judge.specs.Laws.Ports.{active-numbered}
-use Rattle.judge.specs.Seen.{activeSeen, numberedSeen, seenAt}
+use Rattle.judge.specs.Numbers.{ActiveApart, AllApart, Highest, activeAt, numberAt, numberedAt}
+use Rattle.judge.specs.Seen.{seenAt}
 use Rattle.judge.specs.Verdict.{highest, repeats, takes}
-
-abbrev pub activeAt : List Seen → ℕ → Bool
-activeAt ports i = activeSeen (seenAt ports i)
-
-abbrev pub numberedAt : List Seen → ℕ → Bool
-numberedAt ports i = numberedSeen (seenAt ports i)
-
-abbrev pub numberAt : List Seen → ℕ → ℕ
-numberAt ports i = seenAt ports i .number
-
--- numbers of active and DNU ports do not repeat
-abbrev pub AllApart : List Seen → ℕ → Type 0
-AllApart ports n = Apart n (numberedAt ports) (numberAt ports)
-
--- and those of active ports alone
-abbrev pub ActiveApart : List Seen → ℕ → Type 0
-ActiveApart ports n = Apart n (activeAt ports) (numberAt ports)
 
 pub all-active : (ports : List Seen) (n : ℕ) → AllApart ports n → ActiveApart ports n
 all-active ports n d i j hi hj ti tj e = d i j hi hj (active-numbered (seenAt ports i) ti) (active-numbered (seenAt ports j) tj) e
@@ -71,10 +55,6 @@ apart-repeats ports n d =
     (and-left (numberedAt ports j) (takes ports j (numberAt ports j)) (o .holds))
     (eqb-true (numberAt ports i) (numberAt ports j) (and-right (numberedAt ports i) (eqb (numberAt ports i) (numberAt ports j)) (p .holds))) in
     omega arith)
-
--- no active port has a higher number than port i
-abbrev pub Highest : List Seen → ℕ → ℕ → Type 0
-Highest ports n i = (j : ℕ) → j < n → activeAt ports j ≡ true → numberAt ports j ≤ numberAt ports i
 
 greatest-le : (n : ℕ) (f : ℕ → Bool) (m : ℕ → ℕ) (b : ℕ) → ((k : ℕ) → k < n → f k ≡ true → m k ≤ b) → greatest n f m ≤ b
 greatest-le zero f m b h = omega arith

@@ -11,7 +11,7 @@ use Rattle.counting.specs.Words.{some}
 use Rattle.counting.specs.Laws.Tests.{every-lacks, some-at, some-none, some-one}
 use Rattle.ground.specs.Truth.{and-left, and-right, and-true, clash, eq-or-ne, le-or-lt}
 use Rattle.judge.specs.declared.seen.Seen.{Seen}
-use Rattle.judge.specs.Cause.{applies, blamedBy, blamedOf, causeOf, clauseOf, gidUnlike}
+use Rattle.judge.specs.Cause.{Blamed, applies, blamedBy, blamedOf, causeOf, clauseOf, gidUnlike}
 use Rattle.judge.specs.Laws.Lowest.{lowest-holds, lowest-least}
 use Rattle.judge.specs.Seen.{activeSeen, eosSeen, seenAt, unidleSeen}
 use Rattle.judge.specs.Theorems.Cause.{cause-holds}
@@ -76,12 +76,7 @@ module _ (ports : List Seen) (n : ℕ) where
   some-applies kind (suc (suc (suc (suc (suc (suc (suc c))))))) l h t = absurd (omega arith)
 
   -- and what is named is the lowest
-  pub record Blamed (c port : ℕ) : Type 0 where
-    pub below : port < n
-    pub applied : applies ports (highest ports n) c port ≡ true
-    pub lowest-of : (j : ℕ) → j < port → applies ports (highest ports n) c j ≡ false
-
-  pub blamed-lowest : (kind : ℕ) → 0 < causeOf kind ports n → causeOf kind ports n < 7 → Blamed (causeOf kind ports n) (blamedOf kind ports n)
+  pub blamed-lowest : (kind : ℕ) → 0 < causeOf kind ports n → causeOf kind ports n < 7 → Blamed ports n (causeOf kind ports n) (blamedOf kind ports n)
   unfolding blamedOf blamedBy
   blamed-lowest kind l h =
       let c : ℕ = causeOf kind ports n in

@@ -11,7 +11,7 @@ use lib.ListN.{getD, length}
 use borrow.Author.Tests.{eq-eqb, eqb-true, ltb-true}
 use Rattle.ground.specs.Finite.{below, below-at}
 use Rattle.judge.specs.declared.seen.Seen.{Seen}
-use Rattle.judge.specs.Cause.{causeOf, causesOf, clauseOf, fixedCause, lcasCause, markOf}
+use Rattle.judge.specs.Cause.{causeOf, causesOf, clauseAt, clauseOf, fixedCause, lcasCause, markOf}
 use Rattle.judge.specs.Seen.{lackingSeen, refusedSeen, seenAt}
 use Rattle.packet.specs.Kinds.{fixedKind}
 use Rattle.counting.specs.Words.{some}
@@ -159,16 +159,12 @@ some-number kind p h =
     λ (z : getD (causesOf kind) p 0 ≡ 0). omega arith
 
 module _ (kind : ℕ) (ports : List Seen) (n : ℕ) where
-  -- the clause at place p of the documents' order
-  abbrev pub clauseAt : ℕ → Bool
-  clauseAt p = clauseOf kind ports n (getD (causesOf kind) p 0)
-
   -- where a clause holds and none before it, it is the cause
-  pub clause-cause : (p : ℕ) → p < length (causesOf kind) → clauseAt p ≡ true → ((q : ℕ) → q < p → clauseAt q ≡ false) → causeOf kind ports n ≡ getD (causesOf kind) p 0
+  pub clause-cause : (p : ℕ) → p < length (causesOf kind) → clauseAt kind ports n p ≡ true → ((q : ℕ) → q < p → clauseAt kind ports n q ≡ false) → causeOf kind ports n ≡ getD (causesOf kind) p 0
   clause-cause p h t e = cause-is kind ports n ∙ first-at (clauseOf kind ports n) (causesOf kind) p h t e
 
   -- and what is the cause holds, and none before it
-  pub cause-clause : (p : ℕ) → p < length (causesOf kind) → causeOf kind ports n ≡ getD (causesOf kind) p 0 → (clauseAt p ≡ true) × ((q : ℕ) → q < p → clauseAt q ≡ false)
+  pub cause-clause : (p : ℕ) → p < length (causesOf kind) → causeOf kind ports n ≡ getD (causesOf kind) p 0 → (clauseAt kind ports n p ≡ true) × ((q : ℕ) → q < p → clauseAt kind ports n q ≡ false)
   cause-clause p h e =
       let s = sym (cause-is kind ports n) ∙ e in
       let o = found (clauseOf kind ports n) (causesOf kind) (λ z. some-number kind p h (sym s ∙ z)) in
@@ -183,8 +179,8 @@ module _ (kind : ℕ) (ports : List Seen) (n : ℕ) where
       ap (clauseOf kind ports n) (e ∙ o .is) ∙ o .right
 
   -- 0 exactly where no clause holds
-  pub no-clause : ((q : ℕ) → q < length (causesOf kind) → clauseAt q ≡ false) → causeOf kind ports n ≡ 0
+  pub no-clause : ((q : ℕ) → q < length (causesOf kind) → clauseAt kind ports n q ≡ false) → causeOf kind ports n ≡ 0
   no-clause e = cause-is kind ports n ∙ none-first (clauseOf kind ports n) (causesOf kind) e
 
-  pub no-cause : causeOf kind ports n ≡ 0 → (q : ℕ) → q < length (causesOf kind) → clauseAt q ≡ false
+  pub no-cause : causeOf kind ports n ≡ 0 → (q : ℕ) → q < length (causesOf kind) → clauseAt kind ports n q ≡ false
   no-cause z = first-none (clauseOf kind ports n) (causesOf kind) (some-number kind) (sym (cause-is kind ports n) ∙ z)

@@ -13,7 +13,7 @@ use Rattle.counting.specs.Laws.Tests.{every-all, every-at, some-at}
 use Rattle.counting.specs.Words.{Apart, count, greatest}
 use Rattle.ground.specs.Truth.{and-true, eq-or-ne, le-or-lt}
 use Rattle.judge.specs.declared.seen.Seen.{Seen}
-use Rattle.judge.specs.Laws.Numbers.{AllApart, numberAt, numberedAt}
+use Rattle.judge.specs.Numbers.{AllApart, numberAt, numberedAt, numbersIn}
 use Rattle.judge.specs.Verdict.{exact, takes}
 
 count-more : (n : ℕ) (g : ℕ → Bool) → count n g ≤ count (suc n) g
@@ -55,10 +55,6 @@ all-below n f m d all i b t =
     absurd (omega arith))
     (λ (h : m i < count n f). h)
     (le-or-lt (count n f) (m i))
-
--- how many ports are active or DNU
-abbrev pub numbersIn : List Seen → ℕ → ℕ
-numbersIn ports n = count n (numberedAt ports)
 
 pub exact-below : (ports : List Seen) (n : ℕ) → AllApart ports n → exact ports n ≡ true → (i : ℕ) → i < n → numberedAt ports i ≡ true
     → numberAt ports i < numbersIn ports n

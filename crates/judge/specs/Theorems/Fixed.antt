@@ -16,8 +16,10 @@ use Rattle.packet.specs.Kinds.{fixedKind}
 use Rattle.packet.specs.Words.{FIXED}
 use Rattle.judge.specs.declared.seen.Seen.{Seen}
 use Rattle.judge.specs.Full.{Full}
-use Rattle.judge.specs.Laws.Numbers.{AllApart, activeAt, all-active, numberAt, numberedAt, repeats-apart}
+use Rattle.judge.specs.Laws.Numbers.{all-active, repeats-apart}
 use Rattle.judge.specs.Laws.Ports.{accepted-good, active-numbered, good-accepted, here-lacks, lacks-here}
+use Rattle.judge.specs.Marked.{AllFixed, Standing}
+use Rattle.judge.specs.Numbers.{AllApart, activeAt, numberAt, numberedAt}
 use Rattle.judge.specs.Order.{activeIn, portOf, rankOf}
 use Rattle.judge.specs.Seen.{activeSeen, lackingSeen, refusedSeen, seenAt}
 use Rattle.judge.specs.Theorems.Exact.{all-below}
@@ -25,18 +27,6 @@ use Rattle.judge.specs.Theorems.Full.{full-apart, full-exact, full-membe
 use Rattle.judge.specs.Theorems.Held.{none}
 use Rattle.judge.specs.Theorems.Ranks.{Ranked, port-ranked}
 use Rattle.judge.specs.Verdict.{DOUBTFUL, HELD, SURE, fixedExact, fixedHeld, fixedVerdict, judgeOf, missing, repeats, takes}
-
-pub record Standing (ports : List Seen) (n : ℕ) : Type 0 where
-  pub whole : (i : ℕ) → i < n → seenAt ports i .whole ≡ true
-  pub good : (i : ℕ) → i < n → seenAt ports i .good ≡ true
-  pub here : (i : ℕ) → i < n → seenAt ports i .here ≡ true
-  -- the numbers are 0 to n-1, each once
-  pub once : (i j : ℕ) → i < n → j < n → numberAt ports i ≡ numberAt ports j → i ≡ j
-  pub low : (i : ℕ) → i < n → numberAt ports i < n
-
--- 'a word other than FIXED is 6': no other is good
-abbrev pub AllFixed : List Seen → ℕ → Type 0
-AllFixed ports n = (i : ℕ) → i < n → seenAt ports i .good ≡ true → seenAt ports i .word ≡ FIXED
 
 fixed-active : (p : Seen) → p .whole ≡ true → p .good ≡ true → p .word ≡ FIXED → activeSeen p ≡ true
 fixed-active p w g e = rw (w, g, e)

@@ -10,9 +10,10 @@ use Rattle.counting.specs.Words.{some}
 use Rattle.counting.specs.Laws.Tests.{none-at, some-at}
 use Rattle.ground.specs.Truth.{and-true, or-left, or-right, cond-by, fails, same-test}
 use Rattle.judge.specs.declared.seen.Seen.{Seen}
-use Rattle.judge.specs.Laws.Numbers.{AllApart, repeats-apart}
+use Rattle.judge.specs.Laws.Numbers.{repeats-apart}
 use Rattle.judge.specs.Laws.Ports.{lacks-here}
-use Rattle.judge.specs.Seen.{activeSeen, lackingSeen, refusedSeen, seenAt, unidleSeen}
+use Rattle.judge.specs.Marked.{NotHeld}
+use Rattle.judge.specs.Seen.{lackingSeen, refusedSeen, seenAt, unidleSeen}
 use Rattle.packet.specs.Kinds.{fixedKind}
 use Rattle.judge.specs.Verdict.{HELD, eosWrong, fixedHeld, fixedVerdict, gidDiffers, heldBy, judgeOf, lcasVerdict, missing, repeats}
 
@@ -59,14 +60,6 @@ none false true c d e h = absurd (true≢false h)
 none false false true d e h = absurd (true≢false h)
 none false false false true e h = absurd (true≢false h)
 none false false false false e h = (refl, refl, refl, refl, h)
-
-pub record NotHeld (ports : List Seen) (n : ℕ) : Type 0 where
-  pub accepted : (i : ℕ) → i < n → refusedSeen (seenAt ports i) ≡ false
-  pub here : (i : ℕ) → i < n → activeSeen (seenAt ports i) ≡ true → seenAt ports i .here ≡ true
-  pub apart : AllApart ports n
-  -- both 0 or neither
-  pub gid : (i j : ℕ) → i < n → j < n → unidleSeen (seenAt ports i) ≡ true → unidleSeen (seenAt ports j) ≡ true → eqb (seenAt ports i .gid) 0 ≡ eqb (seenAt ports j .gid) 0
-  pub eos : eosWrong ports n ≡ false
 
 gids-alike : (ports : List Seen) (n : ℕ) → gidDiffers ports n ≡ false → (i j : ℕ) → i < n → j < n
     → unidleSeen (seenAt ports i) ≡ true → unidleSeen (seenAt ports j) ≡ true → eqb (seenAt ports i .gid) 0 ≡ true → eqb (seenAt ports j .gid) 0 ≡ true

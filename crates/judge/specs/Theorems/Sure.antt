@@ -14,27 +14,14 @@ use Rattle.ground.specs.Truth.{and-true, and-left, and-right, neither, fails, s
 use Rattle.packet.specs.Kinds.{fixedKind}
 use Rattle.packet.specs.Words.{DNU, EOS, NORM}
 use Rattle.judge.specs.declared.seen.Seen.{Seen}
-use Rattle.judge.specs.Laws.Numbers.{AllApart, Highest, activeAt, apart-repeats, highest-is, is-highest, numberAt, numberedAt}
+use Rattle.judge.specs.Laws.Numbers.{apart-repeats, highest-is, is-highest}
 use Rattle.judge.specs.Laws.Ports.{accepted-good, eos-active, good-accepted, here-lacks, same-true}
-use Rattle.judge.specs.Seen.{eosSeen, lackingSeen, refusedSeen, seenAt, unidleSeen}
-use Rattle.judge.specs.Theorems.Exact.{below-exact, exact-below, numbersIn}
+use Rattle.judge.specs.Marked.{Tidy}
+use Rattle.judge.specs.Numbers.{activeAt, eosAt, numberAt}
+use Rattle.judge.specs.Seen.{lackingSeen, refusedSeen, seenAt, unidleSeen}
+use Rattle.judge.specs.Theorems.Exact.{below-exact, exact-below}
 use Rattle.judge.specs.Theorems.Held.{not-held, unheld}
 use Rattle.judge.specs.Verdict.{DOUBTFUL, HELD, SURE, doubtfulBy, eosAlone, eosWrong, exact, gidDiffers, heldBy, highest, judgeOf, lcasVerdict, missing, repeats, takes}
-
-abbrev pub eosAt : List Seen → ℕ → Bool
-eosAt ports i = eosSeen (seenAt ports i)
-
-pub record Tidy (ports : List Seen) (n : ℕ) : Type 0 where
-  pub whole : (i : ℕ) → i < n → seenAt ports i .whole ≡ true
-  pub good : (i : ℕ) → i < n → seenAt ports i .good ≡ true
-  pub here : (i : ℕ) → i < n → activeAt ports i ≡ true → seenAt ports i .here ≡ true
-  pub gid : (i j : ℕ) → i < n → j < n → unidleSeen (seenAt ports i) ≡ true → unidleSeen (seenAt ports j) ≡ true → seenAt ports i .gid ≡ seenAt ports j .gid
-  -- active and DNU ports have the numbers from 0 to one below their count, each once
-  pub apart : AllApart ports n
-  pub dense : (i : ℕ) → i < n → numberedAt ports i ≡ true → numberAt ports i < numbersIn ports n
-  -- EOS is on the highest active port, and on no other
-  pub last : (i : ℕ) → i < n → activeAt ports i ≡ true → Highest ports n i → eosAt ports i ≡ true
-  pub alone : (i : ℕ) → i < n → eosAt ports i ≡ true → Highest ports n i
 
 both-kinds : (ports : List Seen) (n : ℕ)
     → ((i j : ℕ) → i < n → j < n → unidleSeen (seenAt ports i) ≡ true → unidleSeen (seenAt ports j) ≡ true → seenAt ports i .gid ≡ seenAt ports j .gid)

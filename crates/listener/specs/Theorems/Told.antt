@@ -38,8 +38,7 @@ use Rattle.spoken.specs.Laws.Spoken.{take-list}
 use Rattle.spoken.specs.Said.{Told}
 use Rattle.spoken.specs.Listening.{knownAfter}
 use Rattle.spoken.specs.Runs.{runsOf, spread}
-use Rattle.spoken.specs.Speaking.{canSpeak, isShown, spokenText}
-use Rattle.spoken.specs.SpeakingRuns.{runsText}
+use Rattle.spoken.specs.Speaking.{canSpeak, isShown}
 use Rattle.spoken.specs.Taking.{takenOf}
 use Rattle.spoken.specs.Theorems.Applied.{outright}
 use Rattle.spoken.specs.Theorems.Exactly.{exactly}
@@ -50,14 +49,9 @@ use Rattle.spoken.specs.Theorems.Speakable.{speakable-back}
 use Rattle.text.specs.Ascii.{ascii}
 use Rattle.text.specs.Text.{fieldsOf}
 use Rattle.listener.specs.declared.listening.Listener.{Listener}
-use Rattle.listener.specs.Lines.{changeLines}
+use Rattle.listener.specs.Lines.{changeLines, linesOf}
 use Rattle.listener.specs.Listening.{afterLine, beginning, heardAfter, isEpoch, tableAfter, textOf}
-use Rattle.listener.specs.Told.{behind, callsIn, callsOf, onTable, sinceSize}
-
--- a listener whose table is the sender's, and who holds the board that it sends
-pub record Follows (l : Listener) (s : Sender) : Type 0 where
-  pub table : l .table ≡ s .table
-  pub heard : l .heard ≡ takenOf s
+use Rattle.listener.specs.Told.{Follows, behind, callsIn, callsOf, onTable, sinceSize}
 
 -- what a line does to the two
 module _ (l : Listener) (line : List ℕ) where
@@ -225,10 +219,6 @@ module _ (t u : Table) (k : t .kind ≡ u .kind) (c : t .count ≡ u .count) whe
 all-changes : (old new : Board) → comparable old new ≡ true → comparedOf old new .changes ≡ changesOf old new
 unfolding comparedOf
 all-changes old new e = rw e
-
--- what is told of changes that can be: in runs, or each by itself
-abbrev pub linesOf : (runs : Bool) (changes : Changes) → List ℕ
-linesOf runs changes = if runs then runsText changes else spokenText changes
 
 lines-all : (runs : Bool) (changes : Changes) → canSpeak changes ≡ true → changeLines runs changes ≡ linesOf runs changes
 unfolding changeLines

@@ -3,7 +3,7 @@ use mathlib.Core.Path.{_≡_, refl}
 use mathlib.Core.Logic.{⊎-elim, _≢_}
 use mathlib.Core.Bool.{Bool, true, false, cond, not, _&&_, _||_}
 use mathlib.Core.List.{List}
-use Prim.Native.Nat.{ℕ, zero, suc, _+_, _/_, _≤_, _<_}
+use Prim.Native.Nat.{ℕ, zero, suc, _+_, _/_, _<_}
 use native.Mathlib.Nat.{not-suc-le-zero}
 use native.Mathlib.Omega.{arith}
 use lib.Dec.{eqb, leb, ltb}
@@ -16,7 +16,7 @@ use Rattle.packet.specs.Laws.Distances.{tag-before-lt}
 use Rattle.packet.specs.Theorems.Tags.{distance-lt}
 use Rattle.phases.specs.Beginning.{begins, foremost, further, latest, noTag, ready, within}
 use Rattle.phases.specs.Theorems.Arc.{sound}
-use Rattle.receiver.specs.Behind.{behindBy, behindIn}
+use Rattle.receiver.specs.Behind.{Near, behindBy, behindIn}
 use Rattle.rows.specs.declared.group.Group.{Group}
 use Rattle.rows.specs.declared.step.Step.{Step}
 use Rattle.rows.specs.Step.{stepAt}
@@ -59,14 +59,6 @@ foremost-some g s zero p b e = absurd (not-suc-le-zero b)
 foremost-some g s (suc n) p b e =
     let rest = foremost-some g s n p in
     ⊎-elim (λ (q : p ≡ n). further-some g (foremost g s n) (stepAt s n) (rw q at e)) (λ (d : p ≢ n). further-keeps g (foremost g s n) (stepAt s n) (rest (omega arith) e)) (eq-or-ne p n)
-
--- every port is ready, one is in step, and none in step lies more than W - 16 behind
-pub record Near (g : Group) (s : List (List ℕ)) (n : ℕ) : Type 0 where
-  pub all-ready : (i : ℕ) → i < n → ready g (stepAt s i) ≡ true
-  pub port : ℕ
-  pub below : port < n
-  pub stepped : inStep g (stepAt s port) ≡ true
-  pub near : (j : ℕ) → j < n → inStep g (stepAt s j) ≡ true → behindIn g s n j + frames (g .kind) ≤ g .window
 
 close : (g : Group) (s : List (List ℕ)) (n : ℕ) → Near g s n → (j : ℕ) → j < n → within g (foremost g s n) (stepAt s j) ≡ true
 unfolding within

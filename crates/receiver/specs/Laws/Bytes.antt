@@ -23,22 +23,10 @@ use Rattle.phases.specs.Sizes.{storeFor}
 use Rattle.receiver.specs.Laws.Lengths.{length-frames-into}
 use Rattle.receiver.specs.Laws.Sizes.{Sizes, window-some}
 use Rattle.receiver.specs.Lengths.{outputFor}
-use Rattle.receiver.specs.Report.{frameInto, framesInto, startsOf}
+use Rattle.receiver.specs.Report.{broughtByte, frameBytes, frameInto, framesInto, reportByte, startsOf}
 use Rattle.rows.specs.declared.group.Group.{Group}
 use Rattle.store.specs.Frames.{placeIn}
 use Rattle.store.specs.Laws.Places.{place-within}
-
--- how many bytes a group frame has
-abbrev pub frameBytes : Group → List Seen → ℕ → ℕ
-frameBytes g seen n = activeIn seen n * g .payload
-
--- byte j of the frame that the port ranked r brought as the k-th of the oldest epoch
-abbrev pub broughtByte : Group → List Seen → ℕ → List ℕ → ℕ → ℕ → ℕ → ℕ
-broughtByte g seen n store k r j = getD store (placeIn g (portOf seen n r) k + j) 0
-
--- byte b of a report: the group frames one after the other, each in payload order
-abbrev pub reportByte : Group → List Seen → ℕ → List ℕ → ℕ → ℕ
-reportByte g seen n store b = groupByte (activeIn seen n) (broughtByte g seen n store (b / frameBytes g seen n)) (b % frameBytes g seen n)
 
 -- as group frame k has it
 pub byte-in : (g : Group) (seen : List Seen) (n : ℕ) (store : List ℕ) (k q : ℕ) → q < frameBytes g seen n

@@ -17,16 +17,12 @@ use Rattle.packet.specs.Ruling.{fieldsIn, refused, rulingBy}
 use Rattle.packet.specs.Words.{FIXED, assigned}
 use Rattle.receiver.specs.declared.seeing.Carried.{Carried}
 use Rattle.receiver.specs.Report.{rulingEpoch, seenOf}
-use Rattle.receiver.specs.Seen.{carriedAt, carriedBy}
+use Rattle.receiver.specs.Seen.{carriedAt, carriedBy, otherAt}
 use Rattle.rows.specs.declared.group.Group.{Group}
 use Rattle.rows.specs.Packets.{packetsAt}
 use Rattle.step.specs.Carried.{otherNumber, readingIn}
 use Rattle.step.specs.Theorems.Carried.{read-as, ruled-as-read}
 use Rattle.step.specs.OwnCount.{ownRuling}
-
--- whether the packet that rules port i carries another number
-abbrev pub otherAt : (g : Group) (s : List (List ℕ)) (i : ℕ) → Bool
-otherAt g s i = otherNumber (g .kind) (rulingEpoch g) (getD (packetsAt s i) 1 [])
 
 abbrev judged : Bool → Reading → Ruling
 judged other r = cond other refused (rulingBy r)

@@ -7,7 +7,8 @@ use lib.ListN.{length}
 use Rattle.ground.specs.Truth.{clash}
 use Rattle.phases.specs.Beginning.{begins}
 use Rattle.phases.specs.Sizes.{portsIn}
-use Rattle.receiver.specs.Laws.Behind.{Near, near-begins}
+use Rattle.receiver.specs.Behind.{Near}
+use Rattle.receiver.specs.Laws.Behind.{near-begins}
 use Rattle.receiver.specs.Laws.Sizes.{ports-are}
 use Rattle.receiver.specs.Starting.{startAsAnswer}
 use Rattle.rows.specs.Group.{groupAt}

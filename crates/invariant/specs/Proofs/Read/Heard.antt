@@ -15,12 +15,12 @@ use Rattle.packet.specs.Theorems.Tags.{before-first}
 use Rattle.phases.specs.Sizes.{portsIn}
 use Rattle.receiver.specs.Fetch.{fetchRows, reportIfDue}
 use Rattle.receiver.specs.Heard.{goodAt, heardOf, lowest, saidAt, silence}
-use Rattle.receiver.specs.Laws.Carried.{carried-epoch, otherAt, seen-good}
+use Rattle.receiver.specs.Laws.Carried.{carried-epoch, seen-good}
 use Rattle.receiver.specs.Laws.Heard.{heard-none, lowest-holds, lowest-least}
 use Rattle.receiver.specs.Laws.Passed.{passed-kind, passed-oldest}
 use Rattle.receiver.specs.Laws.Sizes.{ports-are}
 use Rattle.receiver.specs.Report.{reportBy, reportOf, rulingEpoch, seenOf}
-use Rattle.receiver.specs.Seen.{carriedAt}
+use Rattle.receiver.specs.Seen.{carriedAt, otherAt}
 use Rattle.receiver.specs.Starting.{startAsAnswer}
 use Rattle.rows.specs.declared.group.Group.{Group}
 use Rattle.rows.specs.Group.{groupAt}

@@ -14,9 +14,9 @@ use Rattle.packet.specs.Kinds.{frames}
 use Rattle.phases.specs.Sizes.{portsIn, sized}
 use Rattle.receiver.specs.Fetch.{dueIn, fetchOut, fits, outIfDue}
 use Rattle.receiver.specs.Laws.Answers.{lent}
-use Rattle.receiver.specs.Laws.Bytes.{frameBytes, frames-into, reportByte}
+use Rattle.receiver.specs.Laws.Bytes.{frames-into}
 use Rattle.receiver.specs.Laws.Sizes.{Sizes, size-is, sizes-of, some-sized}
-use Rattle.receiver.specs.Report.{outputBy, outputOf, seenAll}
+use Rattle.receiver.specs.Report.{frameBytes, outputBy, outputOf, reportByte, seenAll}
 use Rattle.rows.specs.declared.group.Group.{Group}
 use Rattle.rows.specs.Group.{groupAt}
 

@@ -9,9 +9,10 @@ use lib.ListN.{getD, length}
 use Rattle.ground.specs.Drawn.{fillAt}
 use Rattle.ground.specs.Truth.{cond-by}
 use Rattle.judge.specs.declared.seen.Seen.{Seen}
-use Rattle.judge.specs.Laws.Numbers.{numberAt}
+use Rattle.judge.specs.Marked.{AllFixed, Standing}
+use Rattle.judge.specs.Numbers.{numberAt}
 use Rattle.judge.specs.Order.{activeIn, portOf}
-use Rattle.judge.specs.Theorems.Fixed.{AllFixed, Standing, fixed-else-held, fixed-judged, fixed-members, fixed-port, stands-sure, sure-stands}
+use Rattle.judge.specs.Theorems.Fixed.{fixed-else-held, fixed-judged, fixed-members, fixed-port, stands-sure, sure-stands}
 use Rattle.judge.specs.Verdict.{HELD, SURE, fixedVerdict, judgeOf}
 use Rattle.packet.specs.declared.ruling.Ruling.{Ruling}
 use Rattle.packet.specs.Kinds.{fixedKind, frames}

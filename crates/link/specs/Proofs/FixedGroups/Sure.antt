@@ -6,11 +6,12 @@ use Prim.Native.Nat.{ℕ, suc, _+_, _<_}
 use native.Mathlib.Omega.{arith}
 use Rattle.ground.specs.Table.{length-tabulate}
 use Rattle.judge.specs.declared.seen.Seen.{Seen}
-use Rattle.judge.specs.Laws.Numbers.{numberAt}
+use Rattle.judge.specs.Marked.{AllFixed, Standing}
+use Rattle.judge.specs.Numbers.{numberAt}
 use Rattle.judge.specs.Order.{activeIn, portOf}
 use Rattle.judge.specs.Seen.{seenAt}
 use Rattle.counting.specs.Laws.Numbers.{count-all}
-use Rattle.judge.specs.Theorems.Fixed.{AllFixed, Standing, fixed-judged, fixed-members, fixed-port, stands-sure}
+use Rattle.judge.specs.Theorems.Fixed.{fixed-judged, fixed-members, fixed-port, stands-sure}
 use Rattle.packet.specs.Kinds.{fixedKind, frames}
 use Rattle.packet.specs.Laws.Changes.{fixed-unchanged}
 use Rattle.packet.specs.Words.{FIXED, IDLE}

@@ -9,12 +9,13 @@ use Rattle.counting.specs.Laws.Numbers.{count-ext}
 use Rattle.counting.specs.Laws.Ranks.{rank}
 use Rattle.counting.specs.Words.{count}
 use Rattle.judge.specs.declared.seen.Seen.{Seen}
-use Rattle.judge.specs.Laws.Numbers.{AllApart, Highest, activeAt, all-active, numberAt, numberedAt}
+use Rattle.judge.specs.Laws.Numbers.{all-active}
+use Rattle.judge.specs.Marked.{Tidy}
+use Rattle.judge.specs.Numbers.{AllApart, Highest, activeAt, eosAt, numberAt, numberedAt, numbersIn}
 use Rattle.judge.specs.Order.{activeIn, portOf, rankOf}
 use Rattle.judge.specs.Seen.{activeSeen, eosSeen, numberedSeen, seenAt}
-use Rattle.judge.specs.Theorems.Exact.{numbersIn}
 use Rattle.judge.specs.Theorems.Ranks.{Ranked, port-ranked}
-use Rattle.judge.specs.Theorems.Sure.{Tidy, eosAt, lcas-judged, tidy-sure}
+use Rattle.judge.specs.Theorems.Sure.{lcas-judged, tidy-sure}
 use Rattle.packet.specs.Kinds.{frames}
 use Rattle.packet.specs.Words.{EOS, FIXED}
 use Rattle.packet.specs.Laws.Epochs.{epoch-in}

@@ -12,10 +12,10 @@ use Rattle.judge.specs.Order.{activeIn, orderOf, portOf}
 use Rattle.packet.specs.Kinds.{frames}
 use Rattle.payload.specs.Laws.Ranks.{ranked}
 use Rattle.phases.specs.Sizes.{storeFor}
-use Rattle.receiver.specs.Laws.Bytes.{byte-in, frameBytes, frames-end, frames-into, port-below, reportByte}
+use Rattle.receiver.specs.Laws.Bytes.{byte-in, frames-end, frames-into, port-below}
 use Rattle.receiver.specs.Laws.Sizes.{Sizes}
 use Rattle.receiver.specs.Lengths.{outputFor}
-use Rattle.receiver.specs.Report.{framesInto}
+use Rattle.receiver.specs.Report.{frameBytes, framesInto, reportByte}
 use Rattle.rows.specs.declared.group.Group.{Group}
 use Rattle.store.specs.Frames.{Stands}
 use Rattle.link.specs.Proofs.Contents.{frameAt, framesFrom}
