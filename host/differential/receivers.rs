@@ -315,7 +315,19 @@ struct Tests {
     fetches: Test,
 }
 
-fn history(tests: &mut Tests, random: &mut Random, seen: &mut Seen, kind: u32, damaged: bool, calls: u64) {
+/// So many made-up hosts, and beside them one for each eight that begins receiving anew now and then. These have numbers of their own: what
+/// comes up in the others is what it would be without them.
+fn histories(tests: &mut Tests, random: &mut Random, seen: &mut Seen, kind: u32, damaged: bool, hosts: u64) {
+    for _ in 0..hosts {
+        history(tests, random, seen, kind, damaged, 1500, None);
+    }
+    for _ in 0..hosts / 8 {
+        history(tests, &mut aside(seen.calls), seen, kind, damaged, 1500, Some(500));
+    }
+}
+
+/// With `anews` receiving is begun anew after one frame time in so many.
+fn history(tests: &mut Tests, random: &mut Random, seen: &mut Seen, kind: u32, damaged: bool, calls: u64, anews: Option<u64>) {
     let of_vc12 = kind == KIND_VC12;
     let window = if of_vc12 { random.one_of(&[32, 32, 33, 63, 64, 64, 100, 160, 512]) } else { random.one_of(&[16, 16, 17, 31, 32, 64, 64, 160, 2048]) };
     let wide = window == 2048 || window == 512;
@@ -331,9 +343,6 @@ fn history(tests: &mut Tests, random: &mut Random, seen: &mut Seen, kind: u32, d
     let (fetches, full_fetches) = (random.one_of(&[1, 4, 20, 1000]), random.one_of(&[2, 3, 60]));
     // one frame in so many finds state bytes damaged before it, and one goes on from what the state says
     let (damages, follows) = (random.one_of(&[40, 400, 2000]), random.one_of(&[2, 50, 2000]));
-    // in one host of eight receiving is begun anew now and then
-    let mut aside = aside(seen.calls);
-    let anews = aside.one_of(&[500, 0, 0, 0, 0, 0, 0, 0]);
     let end = seen.calls + calls * if wide { 4 } else { 1 } * if of_vc12 { 2 } else { 1 };
     while seen.calls < end {
         host.frame_time(random);
@@ -371,8 +380,8 @@ fn history(tests: &mut Tests, random: &mut Random, seen: &mut Seen, kind: u32, d
                 host.switch(random, port);
             }
         }
-        if anews > 0 && aside.below(anews) == 0 {
-            both.anew(&mut tests.frames, &mut aside, seen);
+        if anews.is_some_and(|one_in| random.below(one_in) == 0) {
+            both.anew(&mut tests.frames, random, seen);
         }
         if random.below(fetches) == 0 {
             both.fetch_all(&mut tests.fetches, random, seen);
@@ -384,9 +393,7 @@ pub fn compare(count: &mut Count, hosts: u64) {
     let mut seen = Seen::default();
     let mut random = Random::new(10);
     let mut tests = Tests { frames: Test::new("frames of made-up hosts"), fetches: Test::new("fetches beside them") };
-    for _ in 0..hosts {
-        history(&mut tests, &mut random, &mut seen, KIND_H4, false, 1500);
-    }
+    histories(&mut tests, &mut random, &mut seen, KIND_H4, false, hosts);
     println!("seen\t{:?}", seen);
     tests.frames.end(count, &[0, 9, 10, 11, 12]);
     tests.fetches.end(count, &[0]);
@@ -400,9 +407,7 @@ pub fn compare(count: &mut Count, hosts: u64) {
 
     let mut seen = Seen::default();
     let mut tests = Tests { frames: Test::new("frames on states that no call wrote"), fetches: Test::new("fetches from such states") };
-    for _ in 0..hosts {
-        history(&mut tests, &mut random, &mut seen, KIND_H4, true, 1500);
-    }
+    histories(&mut tests, &mut random, &mut seen, KIND_H4, true, hosts);
     println!("seen\t{:?}", seen);
     tests.frames.end(count, &[0, 9, 10, 11, 12]);
     tests.fetches.end(count, &[0]);
@@ -419,9 +424,7 @@ fn vc12(count: &mut Count, hosts: u64) {
     let mut seen = Seen::default();
     let mut random = Random::new(52);
     let mut tests = Tests { frames: Test::new("frames of made-up hosts of VC-12"), fetches: Test::new("fetches beside these, of VC-12") };
-    for _ in 0..hosts {
-        history(&mut tests, &mut random, &mut seen, KIND_VC12, false, 1500);
-    }
+    histories(&mut tests, &mut random, &mut seen, KIND_VC12, false, hosts);
     println!("seen\t{:?}", seen);
     tests.frames.end(count, &[0, 9, 10, 11, 12]);
     tests.fetches.end(count, &[0]);
@@ -432,9 +435,7 @@ fn vc12(count: &mut Count, hosts: u64) {
 
     let mut seen = Seen::default();
     let mut tests = Tests { frames: Test::new("frames on states of VC-12 that no call wrote"), fetches: Test::new("fetches from these, of VC-12") };
-    for _ in 0..hosts {
-        history(&mut tests, &mut random, &mut seen, KIND_VC12, true, 1500);
-    }
+    histories(&mut tests, &mut random, &mut seen, KIND_VC12, true, hosts);
     println!("seen\t{:?}", seen);
     tests.frames.end(count, &[0, 9, 10, 11, 12]);
     tests.fetches.end(count, &[0]);
@@ -462,9 +463,7 @@ fn fixed(count: &mut Count, hosts: u64) {
     let mut seen = Seen::default();
     let mut random = Random::new(42);
     let mut tests = Tests { frames: Test::new("frames of made-up hosts of fixed groups"), fetches: Test::new("fetches beside these") };
-    for _ in 0..hosts {
-        history(&mut tests, &mut random, &mut seen, KIND_FIXED, false, 1500);
-    }
+    histories(&mut tests, &mut random, &mut seen, KIND_FIXED, false, hosts);
     println!("seen\t{:?}", seen);
     tests.frames.end(count, &[0, 9, 10, 11, 12]);
     tests.fetches.end(count, &[0]);
@@ -476,9 +475,7 @@ fn fixed(count: &mut Count, hosts: u64) {
 
     let mut seen = Seen::default();
     let mut tests = Tests { frames: Test::new("frames on states of fixed groups that no call wrote"), fetches: Test::new("fetches from these") };
-    for _ in 0..hosts {
-        history(&mut tests, &mut random, &mut seen, KIND_FIXED, true, 1500);
-    }
+    histories(&mut tests, &mut random, &mut seen, KIND_FIXED, true, hosts);
     println!("seen\t{:?}", seen);
     tests.frames.end(count, &[0, 9, 10, 11, 12]);
     tests.fetches.end(count, &[0]);

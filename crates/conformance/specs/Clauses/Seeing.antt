@@ -15,6 +15,12 @@ use Rattle.rows.specs.declared.step.Step.{Step}
 use Rattle.rows.specs.Group.{groupAt, putGroup}
 use Rattle.rows.specs.Packets.{putMarks, putPackets}
 use Rattle.rows.specs.Step.{putStep, stepAt}
+use Rattle.sender.specs.Calls.Call.{AddSlot, RemoveSlot, Report}
+use Rattle.sender.specs.Calls.{Call}
+use Rattle.sender.specs.declared.epochs.Sender.{Sender}
+use Rattle.sender.specs.Epochs.SenderCall.{OnTable, StartEpoch}
+use Rattle.sender.specs.Epochs.{beginOf, senderOutcomeOf}
+use Rattle.c_face.specs.Settings.{senderSettings}
 use Rattle.conformance.specs.Opened.{allOpen}
 
 -- a group that has begun, whose oldest epoch is given: the packets of the epoch before rule
@@ -189,3 +195,14 @@ settings :
     × (settingsAnswer five 3 ≡ 9)
 unfolding allOpen
 settings = (refl, refl, refl, refl, refl)
+
+-- A sender's: kind, slots, the next epoch to start, wait and remembered RS-Ack. After a start the first epoch is the next; of VC-12 0 comes after 31.
+abbrev onTable : (s : Sender) (c : Call) → Sender
+onTable s c = senderOutcomeOf s (OnTable c) .sender
+
+sender-settings :
+    (senderSettings (beginOf 1 3 31 .sender) ≡ 1 ∷ 3 ∷ 31 ∷ 0 ∷ 0 ∷ [])
+    × (senderSettings (senderOutcomeOf (beginOf 1 3 31 .sender) (StartEpoch 0 255 1) .sender) ≡ 1 ∷ 3 ∷ 0 ∷ 0 ∷ 0 ∷ [])
+    × (senderSettings (onTable (onTable (onTable (beginOf 0 2 17 .sender) (Report 5 255 1)) (AddSlot 1)) (RemoveSlot 1)) ≡ 0 ∷ 2 ∷ 17 ∷ 1 ∷ 1 ∷ [])
+unfolding allOpen
+sender-settings = (refl, refl, refl)
