@@ -1,5 +1,6 @@
 -- The C calls on a card, each with the bytes lent to it, and what a group gets back from a list of them (02, 2026-06). levelspruce_card_start and levelspruce_card_start_as are not among
 -- them: they are nobody's call, and begin the card anew for both groups.
+use mathlib.Core.Path.{_≡_}
 use mathlib.Core.Bool.{Bool, true, false}
 use mathlib.Core.List.{List, [], _∷_, _++_}
 use Prim.Native.Nat.{ℕ, _-_}
@@ -10,7 +11,7 @@ use Rattle.circuits.specs.Calls.{Call}
 use Rattle.circuits.specs.Calls.Call.{Claim, Release, AddSlot, RemoveSlot, Report, Lapse, StartEpoch}
 use Rattle.circuits.specs.Owners.{isMarked}
 use Rattle.orders.specs.Orders.{callBy}
-use Rattle.c_cards.specs.Cards.{boardBytesOn, callAnswerOn, callStateOn, outgoingBytesOn, ownedBytesOn, ownersIn, packetAnswerOn, packetBytesOn, payloadAnswerOn, payloadBytesOn, ranksBytesOn, shownAnswerOn}
+use Rattle.c_cards.specs.Cards.{boardBytesOn, callAnswerOn, callStateOn, outgoingBytesOn, ownedBytesOn, ownersIn, packetAnswerOn, packetBytesOn, partIn, payloadAnswerOn, payloadBytesOn, ranksBytesOn, shownAnswerOn}
 use Rattle.c_cards.specs.Going.{changesAnswerOn, changesBytesOn, changesToldOn}
 use Rattle.c_cards.specs.Orders.{kindOf, orderAnswerOn, orderAnswersOn, orderStateOn}
 use Rattle.c_face.specs.Senders.{areBytes}
@@ -147,3 +148,9 @@ abbrev pub bitsOf : (group : ℕ) (state : List ℕ) (made : List Single) → Li
 bitsOf g state [] = []
 bitsOf g state (m ∷ ms) =
     let rest = bitsOf g (leftBy state (m .group) (m .call)) ms in if m .group == g then bitOf state g (m .call) ∷ rest else rest
+
+-- a group gets the same back from two lists of calls, and has the same in the end
+pub record Same (g : ℕ) (s t : List ℕ) (ms ns : List Made) : Type 0 where
+  pub back : backTo g s ms ≡ backTo g t ns
+  pub part : partIn g (leftAfter s ms) ≡ partIn g (leftAfter t ns)
+  pub slots : slotsOf g (leftAfter s ms) ≡ slotsOf g (leftAfter t ns)

@@ -1,9 +1,11 @@
 pub mod CardCalls
+pub mod CardRuns
 pub mod Cards
 pub mod Changes
 pub mod Going
 pub mod Laws
 pub mod Listening
+pub mod OneByOne
 pub mod Opened
 pub mod Orders
 pub mod Plans

@@ -1,23 +1,28 @@
 -- Someone who listens to a C host (02, 2026-10; item 1 of the minutes). Among its other calls the host tells her, at any times, what levelspruce_sender_changes or levelspruce_card_changes writes, and she applies it by
 -- levelspruce_board_apply to the board that she holds.
+use mathlib.Core.Path.{_≡_}
 use mathlib.Core.Bool.{Bool, true, false, _&&_}
 use mathlib.Core.List.{List, [], _∷_}
 use Prim.Native.Nat.{ℕ}
+use lib.ListN.{length}
 use Rattle.ground.specs.Plain.{if_then_else_, _==_}
 use Rattle.circuits.specs.Calls.{Call}
 use Rattle.circuits.specs.Calls.Call.{Claim, Release, AddSlot, RemoveSlot, Report, Lapse, StartEpoch}
+use Rattle.sender.specs.Board.{boardOf}
 use Rattle.sender.specs.declared.table.Table.{Table}
 use Rattle.sender.specs.Epochs.{SenderCall}
+use Rattle.sender.specs.Numbering.{Demand2}
 use Rattle.c_cards.specs.CardCalls.{CardCall, Made, backOf, leftBy}
 use Rattle.c_cards.specs.CardCalls.CardCall.{Do, Packet, Payload, Board, Going, Ranks, Owned, Changes, NoKind}
 use Rattle.c_cards.specs.CardCalls.Made.{One, Order}
 use Rattle.c_cards.specs.Cards.{partIn}
 use Rattle.c_cards.specs.Changes.{appliedAnswerC, appliedBytesC}
 use Rattle.c_cards.specs.Going.{changesAnswerC, changesAnswerOn, changesBytesC, changesBytesOn, changesToldC, changesToldOn}
+use Rattle.c_face.specs.Boards.{boardBytesOf}
 use Rattle.c_face.specs.Keeping.{senderOf}
 use Rattle.c_cards.specs.Orders.{orderStateOn}
+use Rattle.c_face.specs.Runs.{fits}
 use Rattle.c_face.specs.Senders.{callAnswerC, callStateC}
-use Rattle.c_face.specs.Theorems.Runs.{fits}
 
 -- what a host calls, and how it tells
 pub record Host (C : Type 0) : Type 0 where
@@ -126,3 +131,20 @@ module _ {C : Type 0} (host : Host C) where
   toldTable state last told [] = told
   toldTable state last told (Make call ∷ ms) = toldTable (host .left state call) (if host .starts state call then host .table state else last) told ms
   toldTable state last told (Tell changes ∷ ms) = toldTable state last last ms
+
+-- the bytes lent for changes have room for them
+abbrev pub Roomy : {C : Type 0} → List (Said C) → Type 0
+Roomy [] = Unit {0}
+Roomy (Make call ∷ ms) = Roomy ms
+Roomy (Tell changes ∷ ms) = (length changes ≡ 322) × Roomy ms
+
+abbrev pub AllZero : List ℕ → Type 0
+AllZero [] = Unit {0}
+AllZero (n ∷ ns) = (n ≡ 0) × AllZero ns
+
+-- she holds what was told last, the board of this table, and every list that she was told was answered 0 and fitted
+pub record Holds (h : Heard) (t : Table) (answers : List ℕ) : Type 0 where
+  pub told : h .told ≡ boardBytesOf (boardOf t)
+  pub held : h .held ≡ boardBytesOf (boardOf t)
+  pub demand2 : Demand2 t
+  pub done : AllZero answers

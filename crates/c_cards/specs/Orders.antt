@@ -1,10 +1,11 @@
 -- A whole work order (02, 2026-07) for C, in terms of the card's own C calls. A command is three numbers: kind, group and slot.
 use mathlib.Core.Bool.{true}
-use mathlib.Core.List.{List}
+use mathlib.Core.List.{List, [], _∷_}
 use Prim.Native.Nat.{ℕ}
-use lib.ListN.{getD, length}
+use lib.ListN.{drop, getD, length}
 use Rattle.ground.specs.Plain.{if_then_else_, _==_, _<?_}
 use Rattle.ground.specs.Types.{Bytes}
+use Rattle.orders.specs.declared.commands.Command.{Command}
 use Rattle.orders.specs.declared.commands.Kind as K
 use Rattle.orders.specs.Folding.{Folded, folded}
 use Rattle.orders.specs.Orders.{callBy}
@@ -40,3 +41,18 @@ orderStateOn state commands answers = if isCard state then (if length commands =
 
 unfoldable pub orderAnswersOn : (state : Bytes) (commands : List (List ℕ)) (answers : List ℕ) → List ℕ
 orderAnswersOn state commands answers = if isCard state then (if length commands == length answers then ordersOn state commands .numbers else answers) else answers
+
+-- The order as one of crates/orders.
+
+abbrev pub commandIn : List ℕ → Command
+commandIn c = record { kind = kindOf (getD c 0 0); group = getD c 1 0; slot = getD c 2 0 }
+
+-- the rows that are commands
+abbrev pub known : (commands : List (List ℕ)) → List Command
+known [] = []
+known (c ∷ cs) = if 3 <? getD c 0 0 then known cs else commandIn c ∷ known cs
+
+-- their numbers, with 8 in the place of each other row
+abbrev pub withEights : (commands : List (List ℕ)) (numbers : List ℕ) → List ℕ
+withEights [] ns = []
+withEights (c ∷ cs) ns = if 3 <? getD c 0 0 then 8 ∷ withEights cs ns else getD ns 0 0 ∷ withEights cs (drop 1 ns)

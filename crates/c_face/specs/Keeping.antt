@@ -1,8 +1,9 @@
 -- The sender's state as 397 bytes. Bytes 0 to 127 are the slots' states and numbers in turn, 128 to 255 the words and numbers now going out,
 -- 256 to 383 those that rule, then the fields. Any bytes are a sender: what no call writes is read as said here.
+use mathlib.Core.Path.{_≡_}
 use mathlib.Core.List.{List, [], _∷_}
 use Prim.Native.Nat.{ℕ, _+_, _-_, _*_, _/_, _%_}
-use lib.ListN.{getD}
+use lib.ListN.{getD, length}
 use Rattle.ground.specs.Flags.{flagOf, oneIf}
 use Rattle.ground.specs.Plain.{if_then_else_, _==_, _<?_}
 use Rattle.ground.specs.Table.{tabulate}
@@ -109,3 +110,9 @@ byteAt s k =
 
 unfoldable pub bytesOf : Sender → Bytes
 bytesOf s = tabulate stateBytes (byteAt s)
+
+-- a sender whose table and boards have 64 rows each: every sender of the language's type
+pub record Whole (s : Sender) : Type 0 where
+  pub slots : length (s .table .slots) ≡ 64
+  pub outgoing : length (s .outgoing .rows) ≡ 64
+  pub ruling : length (s .ruling .rows) ≡ 64

@@ -5,6 +5,8 @@ pub mod Opened
 pub mod Packets
 pub mod Payloads
 pub mod Receivers
+pub mod Relaying
+pub mod Runs
 pub mod Senders
 pub mod Settings
 pub mod Sharing

@@ -1,8 +1,9 @@
 -- A recording run again, for C: the turns are the crate's own, on a replay that is kept in lent bytes.
+use mathlib.Core.Path.{_≡_}
 use mathlib.Core.Bool.{Bool, not, _&&_}
-use mathlib.Core.List.{List, [], _∷_}
+use mathlib.Core.List.{List, [], _∷_, _++_}
 use Prim.Native.Nat.{ℕ, _+_, _*_, _/_, _%_}
-use lib.ListN.{drop, getD, length}
+use lib.ListN.{drop, getD, length, take}
 use Rattle.ground.specs.Flags.{oneIf}
 use Rattle.ground.specs.Plain.{if_then_else_, _==_, _≤?_}
 use Rattle.replaying.specs.declared.replay.Phase.{Phase}
@@ -11,6 +12,7 @@ use Rattle.replaying.specs.declared.replay.Replay.{Replay}
 use Rattle.replaying.specs.declared.turns.Replayed.{Replayed}
 use Rattle.replaying.specs.Lengths.{lengthsOf}
 use Rattle.replaying.specs.Replay.{beginning}
+use Rattle.replaying.specs.Runs.{Host, answer, called}
 use Rattle.replaying.specs.Turn.{turnOf, turnOut, turnRows, turnSaid, turnStore}
 
 -- The state of a replay is 17 bytes: the phase, the number of lines read in eight bytes, how many fetches may follow in two, the group's kind and ports, P and W in two each; the highest byte
@@ -137,3 +139,21 @@ module _ (state text : List ℕ) (at last : ℕ) (rows : List (List ℕ)) (store
 
   unfoldable pub turnSaidC : List ℕ → List ℕ
   turnSaidC said = if takes then turnSaid (replayOf state) (drop at text) (lastC last) rows store out said else said
+
+-- A host of the crate's turns beside the C call on the bytes of its replay, on a text of which it has come to a place.
+
+-- the answer is the turn's own, and all that is lent is left as by it
+pub record SameLeft (last : ℕ) (h : Host) (text : List ℕ) (at : ℕ) : Type 0 where
+  pub answers : turnAnswerC (bytesOf (h .replay)) text at last (h .rows) (h .store) (h .out) (length (h .buffer)) ≡ answer (lastC last) h .answer
+  pub rows : turnRowsC (bytesOf (h .replay)) text at last (h .rows) (h .store) (h .out) (length (h .buffer)) ≡ called (lastC last) h .rows
+  pub store : turnStoreC (bytesOf (h .replay)) text at last (h .rows) (h .store) (h .out) (length (h .buffer)) ≡ called (lastC last) h .store
+  pub out : turnOutC (bytesOf (h .replay)) text at last (h .rows) (h .store) (h .out) (length (h .buffer)) ≡ called (lastC last) h .out
+  pub buffer : turnSaidC (bytesOf (h .replay)) text at last (h .rows) (h .store) (h .out) (h .buffer) ≡ called (lastC last) h .buffer
+
+-- and where it is 0 the bytes are those of its replay, the place is that of the text which it has left, and what is written is what it has printed
+pub record SameDone (last : ℕ) (h : Host) (text : List ℕ) (at : ℕ) : Type 0 where
+  pub state : turnStateC (bytesOf (h .replay)) text at last (h .rows) (h .store) (h .out) (length (h .buffer)) ≡ bytesOf (called (lastC last) h .replay)
+  pub text-left : drop (turnAtC (bytesOf (h .replay)) text at last (h .rows) (h .store) (h .out) (length (h .buffer))) text ≡ called (lastC last) h .text
+  pub printed : (given : ℕ)
+      → h .said ++ take (turnWrittenC (bytesOf (h .replay)) text at last (h .rows) (h .store) (h .out) (length (h .buffer)) given) (turnSaidC (bytesOf (h .replay)) text at last (h .rows) (h .store) (h .out) (h .buffer))
+      ≡ called (lastC last) h .said

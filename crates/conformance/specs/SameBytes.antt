@@ -7,9 +7,10 @@ use native.Mathlib.Omega.{arith}
 use lib.ListN.{length, length-replicate, replicate}
 use borrow.Author.Tests.{lt-ltb}
 use Rattle.c_face.specs.Keeping.{senderOf}
+use Rattle.c_face.specs.Runs.{fits, meant, runC}
 use Rattle.c_face.specs.Senders.{packetBytesC, payloadBytesC, startAnswerC, startStateC}
 use Rattle.c_face.specs.Theorems.CratesOwn.{packet-own, payload-own}
-use Rattle.c_face.specs.Theorems.Runs.{fits, meant, runC, runs-own, runs-sized}
+use Rattle.c_face.specs.Theorems.Runs.{runs-own, runs-sized}
 use Rattle.ground.specs.Plain.{if_then_else_, _<?_}
 use Rattle.ground.specs.Truth.{and-true}
 use Rattle.link.specs.History.{Allowed, Handed, History, callsTo, packetSent, payloadSent, senderAt}

@@ -5,9 +5,10 @@ use mathlib.Core.Bool.{Bool, true}
 use mathlib.Core.List.{List, _∷_}
 use Prim.Native.Nat.{ℕ, zero, suc, _≤_, _<_}
 use lib.ListN.{length}
+use Rattle.c_cards.specs.CardRuns.{fits, meant, stateAfterAll}
 use Rattle.c_cards.specs.Cards.{cardOf, packetAnswerOn, packetBytesOn, partIn, payloadAnswerOn, payloadBytesOn, startAnswerOn, startStateOn}
 use Rattle.c_face.specs.Keeping.{senderOf}
-use Rattle.c_cards.specs.Theorems.CardRuns.{card-runs-own, card-runs-sized, fits, meant, part-of, stateAfterAll}
+use Rattle.c_cards.specs.Theorems.CardRuns.{card-runs-own, card-runs-sized, part-of}
 use Rattle.c_cards.specs.Theorems.CratesOwn.{card-packet-own, card-payload-own}
 use Rattle.circuits.specs.Answers.{answerNumber}
 use Rattle.circuits.specs.Commands.{startOf}

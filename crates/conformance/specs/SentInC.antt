@@ -10,9 +10,10 @@ use lib.Dec.{eqb, ltb}
 use lib.ListN.{getD, length}
 use borrow.Author.Tests.{eq-eqb, lt-ltb, ltb-false, ltb-true}
 use Rattle.c_face.specs.Keeping.{senderOf}
+use Rattle.c_face.specs.Runs.{fits, meant, runC}
 use Rattle.c_face.specs.Senders.{areBytes, isEpoch, isState, outside, packetAnswerC, packetBytesC, sends, startAnswerC, startStateC}
 use Rattle.c_face.specs.Theorems.CratesOwn.{packet-own}
-use Rattle.c_face.specs.Theorems.Runs.{fits, meant, runC, runs-own, runs-sized}
+use Rattle.c_face.specs.Theorems.Runs.{runs-own, runs-sized}
 use Rattle.ground.specs.Truth.{and-left, and-right, le-or-lt, neither}
 use Rattle.packet.specs.AsSent.{Sent}
 use Rattle.packet.specs.Counts.{counts}

@@ -6,4 +6,3 @@ pub mod Lent
 pub mod Placed
 pub mod Starts
 pub mod Texts
-pub mod Used

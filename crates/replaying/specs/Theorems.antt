@@ -4,4 +4,5 @@ pub mod Ends
 pub mod Lending
 pub mod Lines
 pub mod Printed
+pub mod Used
 pub mod WhateverLent

@@ -27,7 +27,7 @@ use Rattle.circuits.specs.Views.{Asked as Q, Reply, View, replyTo, viewOf}
 use Rattle.circuits.specs.Views.Reply.{Answered, Wrote, Showed, Ranked, Owns}
 use Rattle.orders.specs.Orders.{callBy}
 use Rattle.c_face.specs.Boards.{boardBytesOf, ranksBytesOf}
-use Rattle.c_cards.specs.CardCalls.{Back, CardCall, Made, Single, answered, backOf, backTo, bitOf, bitsOf, callsOf, claimBit, fitting, leftAfter, leftBy, ownAnswers, rowCall, rowsMade, singles, slotsOf}
+use Rattle.c_cards.specs.CardCalls.{Back, CardCall, Made, Same, Single, answered, backOf, backTo, bitOf, bitsOf, callsOf, claimBit, fitting, leftAfter, leftBy, ownAnswers, rowCall, rowsMade, singles, slotsOf}
 use Rattle.c_cards.specs.CardCalls.CardCall.{Do, Packet, Payload, Board, Going, Ranks, Owned, Changes, NoKind}
 use Rattle.c_cards.specs.CardCalls.Made.{One, Order}
 use Rattle.c_cards.specs.Cards.{callAnswerOn, callStateOn, cardOf, isCard, ownersIn, packetAnswerOn, packetBytesOn, partIn, payloadAnswerOn, payloadBytesOn, putOwn, shownAnswerOn, shownBytesOn}
@@ -423,11 +423,6 @@ as-singles g state sized (Order commands answers ∷ ms) =
     }
 
 -- ---- the theorem
-
-pub record Same (g : ℕ) (s t : List ℕ) (ms ns : List Made) : Type 0 where
-  pub back : backTo g s ms ≡ backTo g t ns
-  pub part : partIn g (leftAfter s ms) ≡ partIn g (leftAfter t ns)
-  pub slots : slotsOf g (leftAfter s ms) ≡ slotsOf g (leftAfter t ns)
 
 -- Two states with the same part and slots of a group, and two lists of calls with the same calls of it, single or in work orders, and the same bit at each of its claims: it gets the same back, and has the same in the end.
 pub card-apart : (g : ℕ) → g < 2 → (s t : List ℕ) → length s ≡ 858 → length t ≡ 858 → partIn g s ≡ partIn g t → slotsOf g s ≡ slotsOf g t

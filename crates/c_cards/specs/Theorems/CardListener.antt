@@ -40,11 +40,11 @@ use Rattle.c_cards.specs.CardCalls.Made.{One, Order}
 use Rattle.c_cards.specs.Cards.{callAnswerOn, callStateOn, outgoingBytesOn, partIn, shownBytesOn, startAnswerOn, startStateOn}
 use Rattle.c_cards.specs.Going.{changesAnswerOn, changesBytesOn, changesToldOn}
 use Rattle.c_face.specs.Keeping.{senderOf}
-use Rattle.c_cards.specs.Listening.{Heard, Said, answersTo, callStarts, cardHost, heardAfter, leftOn, startsOn, toldTable}
+use Rattle.c_cards.specs.Listening.{Heard, Holds, Roomy, Said, answersTo, callStarts, cardHost, heardAfter, leftOn, startsOn, toldTable}
 use Rattle.c_cards.specs.Orders.{kindOf}
 use Rattle.c_cards.specs.Theorems.CardApart.{order-left, singlesLeft}
 use Rattle.c_cards.specs.Theorems.CardRuns.{KeepsCard, call-keeps, card-is, start-keeps}
-use Rattle.c_cards.specs.Theorems.Listener.{Fine, Holds, Roomy, TakesFrom, holds-after}
+use Rattle.c_cards.specs.Theorems.Listener.{Fine, TakesFrom, holds-after}
 
 -- a sender after calls of which none starts an epoch
 record Still (s r : Sender) : Type 0 where

@@ -33,6 +33,7 @@ use Rattle.sender.specs.declared.epochs.Sender.{Sender}
 use Rattle.sender.specs.Epochs.{SenderCall, senderOutcomeOf}
 use Rattle.sender.specs.Table.{answerNumber as senderNumber}
 use Rattle.c_cards.specs.CardCalls.{fitting}
+use Rattle.c_cards.specs.CardRuns.{fits, meant, stateAfter, stateAfterAll}
 use Rattle.c_cards.specs.Cards.{areEpochs, callAnswerOn, callStateOn, cardOf, isCard, keptCard, ownersIn, partAt, partIn, putCard, putOwn, startAnswerOn, startStateOn}
 use Rattle.c_face.specs.Keeping.{byteAt, bytesOf, senderOf}
 use Rattle.c_face.specs.Senders.{noStart}
@@ -281,34 +282,6 @@ unfit-keeps state c g k o =
     rw (eq-eqb (length state) 858 (o .sized)) (cond-by (λ t. KeepsCard t c) (ltb g 2) state state (λ t. o) (λ t. o))
 
 -- Runs of C calls.
-
-abbrev pub fits : Asked → Bool
-fits (Do k) = fitting k
-fits (Packet i h4) = true
-fits (Payload i p frame member) = true
-fits Board = true
-fits Outgoing = true
-fits Ranks = true
-fits Owned = true
-
--- a reading is lent the state and leaves it
-abbrev pub stateAfter : List ℕ → ℕ → Asked → List ℕ
-stateAfter state g (Do k) = callStateOn (fitting k) g k state
-stateAfter state g (Packet i h4) = state
-stateAfter state g (Payload i p frame member) = state
-stateAfter state g Board = state
-stateAfter state g Outgoing = state
-stateAfter state g Ranks = state
-stateAfter state g Owned = state
-
-abbrev pub stateAfterAll : List ℕ → List Made → List ℕ
-stateAfterAll state [] = state
-stateAfterAll state (m ∷ ms) = stateAfterAll (stateAfter state (m .group) (m .asked)) ms
-
--- the calls among them that are not refused for a number that is no byte
-abbrev pub meant : List Made → List Made
-meant [] = []
-meant (m ∷ ms) = cond (fits (m .asked)) (m ∷ meant ms) (meant ms)
 
 pub call-keeps : (state : List ℕ) (c : Card) (g : ℕ) (k : Call) (b : Bool) → KeepsCard state c
     → KeepsCard (callStateOn b g k state) (cond b (outcomeOf c g k .card) c)

@@ -15,7 +15,6 @@ use Rattle.sender.specs.Commands.{startOf}
 use Rattle.sender.specs.Epochs.{SenderCall, beginOf, freshSender, senderOutcomeOf, startEpochOf, startedSender}
 use Rattle.sender.specs.Epochs.SenderCall.{OnTable, StartEpoch}
 use Rattle.sender.specs.Laws.Kept.{Sound, group-call, sound-call, sound-start}
-use Rattle.sender.specs.Numbering.{Demand2}
 use Rattle.sender.specs.Table.{answerNumber}
 use Rattle.sender.specs.Theorems.Demand2.{sound-demand2}
 use Rattle.spoken.specs.Changes.{answerNumber as spokenNumber, comparedOf}
@@ -24,10 +23,11 @@ use Rattle.c_face.specs.Boards.{boardBytesOf, outgoingBytesC, shownBytes}
 use Rattle.c_cards.specs.Changes.{appliedAnswerC, appliedBytesC, changesBytesOf}
 use Rattle.c_cards.specs.Going.{changesAnswerC, changesBytesC, changesToldC, goingAnswer, goingChanges, goingTold}
 use Rattle.c_face.specs.Keeping.{senderOf}
-use Rattle.c_cards.specs.Listening.{Heard, Host, Said, answersTo, heardAfter, heardOf, senderHost, toldTable}
+use Rattle.c_cards.specs.Listening.{Heard, Holds, Host, Roomy, Said, answersTo, heardAfter, heardOf, senderHost, toldTable}
 use Rattle.c_cards.specs.Listening.Said.{Make, Tell}
+use Rattle.c_face.specs.Runs.{fits}
 use Rattle.c_face.specs.Senders.{areBytes, callAnswerC, callStateC, startAnswerC, startStateC}
-use Rattle.c_face.specs.Theorems.Runs.{Keeps, call-keeps, fits, start-keeps, unfit-keeps}
+use Rattle.c_face.specs.Theorems.Runs.{Keeps, call-keeps, start-keeps, unfit-keeps}
 use Rattle.c_cards.specs.Theorems.Told.{applied-answer, applied-bytes, back, board-long}
 
 -- ---- one telling, of the boards of two tables of one kind and count
@@ -62,23 +62,6 @@ pub record Fine (kind count : ℕ) (t : Table) : Type 0 where
   pub kind-is : t .kind ≡ kind
   pub count-is : t .count ≡ count
   pub sound : Sound t
-
--- the bytes lent for changes have room for them
-abbrev pub Roomy : {C : Type 0} → List (Said C) → Type 0
-Roomy [] = Unit {0}
-Roomy (Make call ∷ ms) = Roomy ms
-Roomy (Tell changes ∷ ms) = (length changes ≡ 322) × Roomy ms
-
-abbrev pub AllZero : List ℕ → Type 0
-AllZero [] = Unit {0}
-AllZero (n ∷ ns) = (n ≡ 0) × AllZero ns
-
--- she holds what was told last, the board of this table, and every list that she was told was answered 0 and fitted
-pub record Holds (h : Heard) (t : Table) (answers : List ℕ) : Type 0 where
-  pub told : h .told ≡ boardBytesOf (boardOf t)
-  pub held : h .held ≡ boardBytesOf (boardOf t)
-  pub demand2 : Demand2 t
-  pub done : AllZero answers
 
 -- what a telling does where the board of a table goes out
 pub record TakesFrom {C : Type 0} (host : Host C) (state : List ℕ) (last : Table) : Type 0 where

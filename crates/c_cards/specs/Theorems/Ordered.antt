@@ -8,23 +8,24 @@ use lib.Dec.{eqb, ltb}
 use lib.ListN.{getD, length, take}
 use borrow.Author.Tests.{eq-eqb}
 use Rattle.ground.specs.Drawn.{fillAt, length-fillAt}
-use Rattle.ground.specs.Table.{tabulate, tabulate-ext}
+use Rattle.ground.specs.Table.{tabulate-ext}
 use Rattle.circuits.specs.declared.card.Card.{Card}
 use Rattle.circuits.specs.declared.card.CardOutcome.{CardOutcome}
 use Rattle.circuits.specs.Answers.{answerNumber}
 use Rattle.circuits.specs.Calls.{Call, outcomeOf}
 use Rattle.circuits.specs.Owners.{ownerIn}
 use Rattle.circuits.specs.Parts as P
-use Rattle.circuits.specs.Views.{Made}
 use Rattle.circuits.specs.Views.Asked.{Do}
 use Rattle.orders.specs.declared.commands.Kind as K
 use Rattle.orders.specs.Laws.Folding.{cut-numbers, cut-state, stateAt}
 use Rattle.orders.specs.Orders.{callBy}
 use Rattle.c_cards.specs.CardCalls.{fitting}
+use Rattle.c_cards.specs.CardRuns.{stateAfterAll}
 use Rattle.c_cards.specs.Cards.{callAnswerOn, callStateOn, cardOf, isCard, keptCard, partAt, putOwn}
 use Rattle.c_face.specs.Keeping.{byteAt, stateBytes}
+use Rattle.c_cards.specs.OneByOne.{AllRefused, numberOn, numbersOn, singlesIn}
 use Rattle.c_cards.specs.Orders.{commandAnswerOn, commandStateOn, kindAnswerOn, kindOf, kindStateOn, orderAnswerOn, orderAnswersOn, orderStateOn, ordersOn}
-use Rattle.c_cards.specs.Theorems.CardRuns.{refused-stands, stateAfterAll}
+use Rattle.c_cards.specs.Theorems.CardRuns.{refused-stands}
 
 -- ---- no call changes how many bytes there are
 
@@ -55,19 +56,6 @@ turns-length s cs zero = refl
 turns-length s cs (suc i) = kind-length _ _ _ (stateAt commandStateOn commandAnswerOn [] s cs i) ∙ turns-length s cs i
 
 -- ---- one by one
-
--- the single C calls that a host makes for these commands; it makes none for a number that is no kind
-abbrev pub singlesIn : List (List ℕ) → List Made
-singlesIn [] = []
-singlesIn (c ∷ cs) =
-    cond (ltb 3 (getD c 0 0)) (singlesIn cs) (record { group = getD c 1 0; asked = Do (callBy (kindOf (getD c 0 0)) (getD c 2 0)) } ∷ singlesIn cs)
-
--- the number of each single call, on the bytes that those before it left; a host that knows no such kind says 8 by itself
-abbrev pub numberOn : List ℕ → List ℕ → ℕ
-numberOn s c = cond (ltb 3 (getD c 0 0)) 8 (callAnswerOn true (getD c 1 0) (callBy (kindOf (getD c 0 0)) (getD c 2 0)) s)
-
-abbrev pub numbersOn : List ℕ → List (List ℕ) → List ℕ
-numbersOn s cs = tabulate (length cs) (λ i. numberOn (stateAfterAll s (singlesIn (take i cs))) (getD cs i []))
 
 pub all-fit : (k : K.Kind) (i : ℕ) → fitting (callBy k i) ≡ true
 all-fit K.Kind.Add i = refl
@@ -106,10 +94,6 @@ unfolding orderAnswerOn orderStateOn orderAnswersOn
 one-by-one s cs ys sized e = rw (eq-eqb (length s) 858 sized, eq-eqb (length cs) (length ys) e, bytes-single s cs, numbers-single s cs) (refl, refl, refl)
 
 -- ---- where every command is refused no byte changes
-
-abbrev pub AllRefused : List ℕ → Type 0
-AllRefused [] = Unit {0}
-AllRefused (n ∷ ns) = (n ≢ 0) × AllRefused ns
 
 command-refused : (s command : List ℕ) → commandAnswerOn s command ≢ 0 → commandStateOn s command ≡ s
 unfolding kindAnswerOn kindStateOn

@@ -29,15 +29,14 @@ use Rattle.circuits.specs.Laws.Seeing.{owners-outcome, sender-marked, sender-ot
 use Rattle.circuits.specs.Owners.{hasOwner, markOf, ownerIn, withOwner}
 use Rattle.circuits.specs.Parts as P
 use Rattle.circuits.specs.Parts.{isSlot, isUsed, marked, owns, refused}
-use Rattle.orders.specs.declared.commands.Command.{Command}
 use Rattle.orders.specs.declared.commands.Kind as K
 use Rattle.orders.specs.Orders.{callBy, ordersOf, outcomeBy}
 use Rattle.c_cards.specs.Cards.{callAnswerOn, callStateOn, cardOf, keptCard, ownersIn, partIn, putOwn}
-use Rattle.c_face.specs.Keeping.{rowIn, rowsIn, senderOf, slotIn, slotsIn}
-use Rattle.c_cards.specs.Orders.{kindAnswerOn, kindOf, kindStateOn, ordersOn}
+use Rattle.c_face.specs.Keeping.{Whole, rowIn, rowsIn, senderOf, slotIn, slotsIn}
+use Rattle.c_cards.specs.Orders.{commandIn, kindAnswerOn, kindOf, kindStateOn, known, ordersOn, withEights}
 use Rattle.c_cards.specs.Theorems.CardRuns.{call-refused, no-group, own-part, own-row, part-of, put-apart}
 use Rattle.c_cards.specs.Theorems.Ordered.{call-length}
-use Rattle.c_face.specs.Theorems.Round.{Whole, round}
+use Rattle.c_face.specs.Theorems.Round.{round}
 
 -- ---- a card whose rows are all there: what any bytes are read as, and what a command leaves
 
@@ -178,19 +177,6 @@ call-number state g k i sized =
     (cond-by (λ n. n ≡ answerNumber (outcomeOf (cardOf state) g (callBy k i) .answer)) (ltb g 2) _ 1 (λ t. refl) (λ t. sym (other-group (cardOf state) g k i t)))
 
 -- ---- the order
-
-abbrev pub commandIn : List ℕ → Command
-commandIn c = record { kind = kindOf (getD c 0 0); group = getD c 1 0; slot = getD c 2 0 }
-
--- the rows that are commands
-abbrev pub known : List (List ℕ) → List Command
-known [] = []
-known (c ∷ cs) = cond (ltb 3 (getD c 0 0)) (known cs) (commandIn c ∷ known cs)
-
--- their numbers, with 8 in the place of each other row
-abbrev pub withEights : List (List ℕ) → List ℕ → List ℕ
-withEights [] ns = []
-withEights (c ∷ cs) ns = cond (ltb 3 (getD c 0 0)) (8 ∷ withEights cs ns) (getD ns 0 0 ∷ withEights cs (drop 1 ns))
 
 pub order-card : (state : List ℕ) (cs : List (List ℕ)) → length state ≡ 858 → cardOf (ordersOn state cs .state) ≡ ordersOf (cardOf state) (known cs) .state
 unfolding kindStateOn outcomeBy

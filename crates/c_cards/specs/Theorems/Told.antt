@@ -138,13 +138,13 @@ back v = board-back (boardOf v) (board-whole v) (size-own v)
 
 -- Two boards of tables of one kind and count, such as go out in two epochs of one sender. Whatever stood in the buffer of the changes.
 module _ (t u : Table) (k : t .kind ≡ u .kind) (c : t .count ≡ u .count) (out : List ℕ) (room : length out ≡ 322) where
-  abbrev pub old : List ℕ
+  abbrev old : List ℕ
   old = boardBytesOf (boardOf t)
 
-  abbrev pub new : List ℕ
+  abbrev new : List ℕ
   new = boardBytesOf (boardOf u)
 
-  abbrev pub cs : Changes
+  abbrev cs : Changes
   cs = comparedOf (boardOf t) (boardOf u) .changes
 
   pub told-answer : comparedAnswerC old new out ≡ 0

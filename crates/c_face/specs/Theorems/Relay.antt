@@ -5,25 +5,15 @@ use mathlib.Core.List.{List}
 use Prim.Native.Nat.{ℕ, _+_, _*_, _/_, _%_, _^_}
 use native.Mathlib.Omega.{arith}
 use lib.Dec.{eqb}
-use lib.ListN.{getD, length}
-use Rattle.packet.specs.Again.{Counted}
+use lib.ListN.{length}
 use Rattle.packet.specs.Theorems.WrittenAgain.{again, again-bytes}
 use Rattle.packet.specs.declared.layout.Fields.{Fields}
 use Rattle.packet.specs.declared.reader.Reading.{Reading}
 use Rattle.packet.specs.declared.reader.Reading.the-variants.{Packet, Length, Crc, Fixed, Unassigned}
-use Rattle.packet.specs.Crc.{bitsOf}
-use Rattle.packet.specs.Layout.{highsOf}
 use Rattle.packet.specs.Reading.{readAnswer}
 use Rattle.packet.specs.Writing.{writingNumber}
-use Rattle.c_face.specs.Packets.{given, readAnswerC, readFieldsC, valuesIn, writeAnswerC, writeBytesC}
-
--- the reserved number in ten bytes of fields
-abbrev pub reservedIn : List ℕ → ℕ
-reservedIn b = getD b 6 0 * 2 ^ 24 + getD b 7 0 * 2 ^ 16 + getD b 8 0 * 2 ^ 8 + getD b 9 0
-
--- the fields that a relay hands on, byte by byte
-abbrev pub handedOn : List ℕ → Fields
-handedOn b = given (getD b 0 0) (getD b 1 0) (getD b 2 0) (getD b 3 0) (getD b 4 0) (getD b 5 0) (reservedIn b)
+use Rattle.c_face.specs.Packets.{readAnswerC, readFieldsC, valuesIn}
+use Rattle.c_face.specs.Relaying.{Relayed, handedOn}
 
 four-bytes : (r : ℕ) → r / 2 ^ 24 * 2 ^ 24 + r / 2 ^ 16 % 256 * 2 ^ 16 + r / 2 ^ 8 % 256 * 2 ^ 8 + r % 256 ≡ r
 four-bytes r = sum (r / 2 ^ 8) (r / 2 ^ 16) (r / 2 ^ 24) (r % 256) (r / 2 ^ 8 % 256) (r / 2 ^ 16 % 256) (omega arith) (omega arith) (omega arith)
@@ -60,12 +50,6 @@ read-well h4 fields e = go (eqb (length fields) 10) (readAnswer h4) refl refl
     go true Fixed hl hr = absurd (let n : _≡_ {A = ℕ} 7 0 = rw (hl, hr) at e in omega arith)
     go true Unassigned hl hr = absurd (let n : _≡_ {A = ℕ} 6 0 = rw (hl, hr) at e in omega arith)
     go false r hl hr = absurd (let n : _≡_ {A = ℕ} 9 0 = rw hl at e in omega arith)
-
--- what the relay writes of it
-pub record Relayed (h4 t : List ℕ) (f : Fields) : Type 0 where
-  pub answer : writeAnswerC (f .epoch) (f .word .0) (f .gid) (f .mst) (f .«rs_ack») (f .sq) (f .reserved) t ≡ 0
-  pub bits : bitsOf (highsOf (writeBytesC (f .epoch) (f .word .0) (f .gid) (f .mst) (f .«rs_ack») (f .sq) (f .reserved) t)) ≡ bitsOf (highsOf h4)
-  pub bytes : Counted h4 → writeBytesC (f .epoch) (f .word .0) (f .gid) (f .mst) (f .«rs_ack») (f .sq) (f .reserved) t ≡ h4
 
 pub relayed : (h4 fields t : List ℕ) → readAnswerC h4 fields ≡ 0 → length t ≡ 16 → Relayed h4 t (handedOn (readFieldsC h4 fields))
 relayed h4 fields t e room =

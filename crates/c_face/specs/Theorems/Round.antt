@@ -12,13 +12,7 @@ use Rattle.sender.specs.declared.table.State.{State}
 use Rattle.sender.specs.declared.table.State.the-variants.{Idle, Add, Active, Dnu}
 use Rattle.sender.specs.Ranks.{rowAt}
 use Rattle.sender.specs.Table.{slotAt}
-use Rattle.c_face.specs.Keeping.{byteAt, bytesOf, codeOf, fieldBytes, rowIn, rowsIn, senderOf, slotIn, slotsIn, stateOf}
-
--- a sender whose table and boards have 64 rows each: every sender of the language's type
-pub record Whole (s : Sender) : Type 0 where
-  pub slots : length (s .table .slots) ≡ 64
-  pub outgoing : length (s .outgoing .rows) ≡ 64
-  pub ruling : length (s .ruling .rows) ≡ 64
+use Rattle.c_face.specs.Keeping.{Whole, byteAt, bytesOf, codeOf, fieldBytes, rowIn, rowsIn, senderOf, slotIn, slotsIn, stateOf}
 
 state-back : (t : State) → stateOf (codeOf t) ≡ t
 state-back Idle = refl

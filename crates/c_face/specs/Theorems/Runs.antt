@@ -27,27 +27,10 @@ use Rattle.sender.specs.Numbering.{Demand2}
 use Rattle.sender.specs.Reports.{reportOf}
 use Rattle.sender.specs.Table.{answerNumber, isMember, sizeOf, slotAt}
 use Rattle.sender.specs.Theorems.Demand2.{sound-demand2}
-use Rattle.c_face.specs.Keeping.{bytesOf, byteAt, senderOf}
-use Rattle.c_face.specs.Senders.{areBytes, callStateC, isEpoch, isState, keptBytes, noStart, startAnswerC, startStateC}
-use Rattle.c_face.specs.Theorems.Round.{Whole, round}
-
--- a C call: the sender's call, with what the C call asks of its numbers
-abbrev pub fits : SenderCall → Bool
-fits (OnTable (AddSlot i)) = true
-fits (OnTable (RemoveSlot i)) = true
-fits (OnTable (Report e mst ack)) = areBytes e mst ack
-fits (OnTable Lapse) = true
-fits (StartEpoch gid mst ack) = areBytes gid mst ack
-
--- the state after C calls
-abbrev pub runC : List ℕ → List SenderCall → List ℕ
-runC state [] = state
-runC state (c ∷ cs) = runC (callStateC (fits c) c state) cs
-
--- the calls among them that are not refused with 8 for a number that is no byte
-abbrev pub meant : List SenderCall → List SenderCall
-meant [] = []
-meant (c ∷ cs) = cond (fits c) (c ∷ meant cs) (meant cs)
+use Rattle.c_face.specs.Keeping.{Whole, bytesOf, byteAt, senderOf}
+use Rattle.c_face.specs.Runs.{fits, meant, runC}
+use Rattle.c_face.specs.Senders.{callStateC, isEpoch, isState, keptBytes, noStart, startAnswerC, startStateC}
+use Rattle.c_face.specs.Theorems.Round.{round}
 
 -- what a start or a call leaves
 pub record Keepable (s : Sender) : Type 0 where

@@ -1,17 +1,17 @@
 -- A replay for C is the crate's own (2026-05): what is kept in the 17 bytes is read back as it was, so a host in C that makes turn after turn has the replay, the rows, the store, the output
 -- and the printed lines of a host that calls the crate itself. What is proved of that one (crates/replaying/specs/Theorems) holds of it.
 use mathlib.Core.Path.{_≡_, refl, sym}
-use mathlib.Core.List.{List, _++_}
+use mathlib.Core.List.{List}
 use Prim.Native.Nat.{ℕ, _+_, _*_, _/_, _%_, _≤_}
 use native.Mathlib.Omega.{arith}
-use lib.ListN.{drop, length, take}
+use lib.ListN.{drop, length}
 use lib.Seq.{drop-drop}
 use borrow.Author.Tests.{eq-eqb, le-leb}
 use Rattle.replaying.specs.declared.replay.Phase.{Phase}
 use Rattle.replaying.specs.declared.replay.Phase.the-variants.{Settings, Reading, Fetching, Skipping, Ended}
 use Rattle.replaying.specs.declared.replay.Replay.{Replay}
 use Rattle.replaying.specs.Runs.{Host, answer, called}
-use Rattle.c_recordings.specs.Replays.{bytesOf, fourOf, lastC, lineIn, phaseCode, phaseOf, replayOf, turnAnswerC, turnAtC, turnOutC, turnRowsC, turnSaidC, turnStateC, turnStoreC, turnWrittenC, twoOf}
+use Rattle.c_recordings.specs.Replays.{SameDone, SameLeft, bytesOf, fourOf, lastC, lineIn, phaseCode, phaseOf, replayOf, turnAnswerC, turnAtC, turnOutC, turnRowsC, turnSaidC, turnStateC, turnStoreC, turnWrittenC, twoOf}
 
 phase-back : (p : Phase) → phaseOf (phaseCode p) ≡ p
 phase-back Settings = refl
@@ -69,14 +69,7 @@ module _ (last : ℕ) (h : Host) (text : List ℕ) (at : ℕ) (there : at ≤ le
   own-length = refl
 
   -- the answer is the turn's own, and all that is lent is left as by it
-  pub record SameLeft : Type 0 where
-    pub answers : turnAnswerC (bytesOf (h .replay)) text at last (h .rows) (h .store) (h .out) (length (h .buffer)) ≡ answer (lastC last) h .answer
-    pub rows : turnRowsC (bytesOf (h .replay)) text at last (h .rows) (h .store) (h .out) (length (h .buffer)) ≡ called (lastC last) h .rows
-    pub store : turnStoreC (bytesOf (h .replay)) text at last (h .rows) (h .store) (h .out) (length (h .buffer)) ≡ called (lastC last) h .store
-    pub out : turnOutC (bytesOf (h .replay)) text at last (h .rows) (h .store) (h .out) (length (h .buffer)) ≡ called (lastC last) h .out
-    pub buffer : turnSaidC (bytesOf (h .replay)) text at last (h .rows) (h .store) (h .out) (h .buffer) ≡ called (lastC last) h .buffer
-
-  pub same-left : SameLeft
+  pub same-left : SameLeft last h text at
   unfolding turnAnswerC turnRowsC turnStoreC turnOutC turnSaidC called
   same-left =
       let l = eq-eqb (length (bytesOf (h .replay))) 17 own-length in
@@ -90,15 +83,8 @@ module _ (last : ℕ) (h : Host) (text : List ℕ) (at : ℕ) (there : at ≤ le
         buffer = rw (l, p, b, here) refl;
       }
 
-  -- and where it is 0 the bytes are those of its replay, the place is that of the text which it has left, and what is written is what it has printed
-  pub record SameDone : Type 0 where
-    pub state : turnStateC (bytesOf (h .replay)) text at last (h .rows) (h .store) (h .out) (length (h .buffer)) ≡ bytesOf (called (lastC last) h .replay)
-    pub text-left : drop (turnAtC (bytesOf (h .replay)) text at last (h .rows) (h .store) (h .out) (length (h .buffer))) text ≡ called (lastC last) h .text
-    pub printed : (given : ℕ)
-        → h .said ++ take (turnWrittenC (bytesOf (h .replay)) text at last (h .rows) (h .store) (h .out) (length (h .buffer)) given) (turnSaidC (bytesOf (h .replay)) text at last (h .rows) (h .store) (h .out) (h .buffer))
-        ≡ called (lastC last) h .said
-
-  pub same-done : answer (lastC last) h .answer ≡ 0 → SameDone
+  -- and where it is 0, the state, the place and what is printed are its own too
+  pub same-done : answer (lastC last) h .answer ≡ 0 → SameDone last h text at
   unfolding turnAnswerC turnStateC turnAtC turnWrittenC turnSaidC called
   same-done z =
       let l = eq-eqb (length (bytesOf (h .replay))) 17 own-length in

@@ -5,10 +5,10 @@ use mathlib.Core.List.{List, [], _∷_}
 use Prim.Native.Nat.{ℕ}
 use native.Mathlib.Omega.{arith}
 use lib.ListN.{replicate}
-use Rattle.c_cards.specs.CardCalls.{CardCall, Made, answered, backTo, bitsOf, callsOf, singles}
+use Rattle.c_cards.specs.CardCalls.{CardCall, Made, Same, answered, backTo, bitsOf, callsOf, singles}
 use Rattle.c_cards.specs.CardCalls.CardCall.{Do, Owned, NoKind}
 use Rattle.c_cards.specs.CardCalls.Made.{One, Order}
-use Rattle.c_cards.specs.Theorems.CardApart.{Same, card-apart}
+use Rattle.c_cards.specs.Theorems.CardApart.{card-apart}
 use Rattle.circuits.specs.Calls.Call.{Claim, Lapse, Release, Report}
 use Rattle.conformance.specs.Clauses.Filled.{nines}
 use Rattle.conformance.specs.Opened.{allOpen}

@@ -9,11 +9,12 @@ use Rattle.conformance.specs.Clauses.Filled.{nines}
 use Rattle.recording.specs.Pairs.{plainSettings}
 use Rattle.replaying.specs.Deeds.{Deed, beginsWith, joined, run, withEnd}
 use Rattle.replaying.specs.Deeds.Deed.{Call, Close, Read}
+use Rattle.replaying.specs.Printing.{allLines}
+use Rattle.replaying.specs.Printing.Event.{Refused}
 use Rattle.replaying.specs.Replay.{STORE}
 use Rattle.replaying.specs.Runs.{Host}
 use Rattle.replaying.specs.Theorems.Cuts.{closed-whole, cut-anywhere}
-use Rattle.replaying.specs.Theorems.Printed.{allLines, eventsOf, printed}
-use Rattle.replaying.specs.Theorems.Printed.Event.{Refused}
+use Rattle.replaying.specs.Theorems.Printed.{printed}
 use Rattle.replaying.specs.Turn.{startable}
 use Rattle.text.specs.Ascii.{ascii}
 use Rattle.conformance.specs.Opened.{allOpen}
@@ -68,5 +69,5 @@ unfolding allOpen
 cut-used = cut-anywhere rows (nines 32) (nines 32) (nines 1160) (omega arith) (omega arith) (omega arith) (Read (ascii "1\t1\t16\nx") ∷ Call ∷ []) 0
 
 printed-used : ascii "answer\t13\tline\t2" ∷ ascii "answer\t13\tline\t3" ∷ [] ≡ allLines (Refused 13 2 ∷ Refused 13 3 ∷ [])
-unfolding allOpen eventsOf
+unfolding allOpen
 printed-used = printed (nines 32) rows (nines 32) (ascii "1\t1\t16\nx\ny")

@@ -81,6 +81,11 @@ met =
       };
     }
 
+-- 'not looked at in reading': what the neighbour puts there is sent, here from 6 on and, behind the word, from 1 on
+unread-sent : fixedSent group 1 1 ≡ 0x68 ∷ 0x79 ∷ 0x8A ∷ 0x9B ∷ 0xAC ∷ 0xBD ∷ 0x0E ∷ 0x0F ∷ 0xF0 ∷ 0xA1 ∷ 0x02 ∷ 0x13 ∷ 0x24 ∷ 0x35 ∷ 0x46 ∷ 0x57 ∷ []
+unfolding outcome
+unread-sent = refl
+
 pub demanded : Demand3 link
 demanded = demand3-fixed link met
 

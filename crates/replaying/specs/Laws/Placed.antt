@@ -1,11 +1,10 @@
 -- A turn on a text from a place on, by what it finds there.
-use mathlib.Core.Path.{_≡_, refl, sym, ap}
+use mathlib.Core.Path.{_≡_, refl, ap}
 use mathlib.Core.Bool.{Bool, true, false, cond, _&&_}
 use mathlib.Core.List.{List}
 use Prim.Native.Nat.{ℕ, _+_}
 use native.Mathlib.Omega.{arith}
 use lib.ListN.{drop, replicate}
-use lib.Seq.{drop-drop}
 use Rattle.recording.specs.declared.record.Record.{Record}
 use Rattle.recording.specs.declared.record.Record.the-variants.{Frame, Malformed, Long, Unfinished, End}
 use Rattle.recording.specs.Later.{later}
@@ -23,11 +22,6 @@ unfolding placed
 stays at t e =
     let z : at + 0 ≡ at = omega arith in
     rw (e, z) refl
-
--- what is left of the text behind the place that it hands back
-pub left-behind : (at : ℕ) (t : Replayed) (text : List ℕ) → drop (placed at t .used) text ≡ drop (t .used) (drop at text)
-unfolding placed
-left-behind at t text = sym (drop-drop (t .used) at text)
 
 -- the place of the next line
 module _ (at next n : ℕ) (e : next ≡ at + n) where

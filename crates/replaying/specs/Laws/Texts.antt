@@ -6,19 +6,16 @@ use Prim.Native.Nat.{ℕ, suc, _+_, _≤_, _<_}
 use native.Mathlib.Nat.{le-of-suc-le-suc, not-suc-le-zero}
 use native.Mathlib.Omega.{arith}
 use lib.Dec.{eqb, ltb}
-use lib.ListN.{drop, length, take, length-append, take-append-drop, drop-of-length-le}
+use lib.ListN.{length, take, length-append, take-append-drop, drop-of-length-le}
 use lib.Seq.{drop-append-add, drop-append-le, take-all}
 use borrow.Author.Tests.{ltb-false, ltb-true}
 use Rattle.bytes.specs.Bytes.{indexAfter, indexOf}
+use Rattle.replaying.specs.Coming.{behindOf}
 use Rattle.text.specs.Laws.Lines.{Free, free-append, free-line, free-take, last-line, with-end}
 use Rattle.text.specs.Text.{LINE-END, linesOf}
 
 abbrev pub firstOf : List ℕ → List ℕ
 firstOf t = take (indexOf LINE-END t) t
-
--- behind the first line
-abbrev pub behindOf : List ℕ → List ℕ
-behindOf t = drop (indexOf LINE-END t + 1) t
 
 pub split-first : (t : List ℕ) → indexOf LINE-END t < length t → t ≡ firstOf t ++ (LINE-END ∷ behindOf t)
 split-first t h =

@@ -30,42 +30,25 @@ use Rattle.recording.specs.Record.{lastRecord, lineRecord, recordIn}
 use Rattle.replaying.specs.declared.replay.Phase.{Phase}
 use Rattle.replaying.specs.declared.replay.Phase.the-variants.{Settings, Reading, Fetching, Skipping, Ended}
 use Rattle.replaying.specs.declared.replay.Replay.{Replay}
+use Rattle.replaying.specs.Coming.{behindOf, deskOf, isDone, toCome, toComeBy}
 use Rattle.replaying.specs.Deeds.{Deed, beginsWith, closed, does, hasRead, joined, joinedFrom, lastCalls, run, turnsLeft, wantsWithin, withEnd}
 use Rattle.replaying.specs.Deeds.Deed.{Call, Close, Read}
 use Rattle.replaying.specs.Laws.Lent.{Lent, lent-is}
 use Rattle.replaying.specs.Laws.Lengths.{fetch-record-alike, fetch-rows-alike, length-fetch-out, length-fetch-rows, length-frame-rows, length-frame-store, length-part, length-started-rows}
 use Rattle.replaying.specs.Laws.Starts.{start-sized, start-stored}
-use Rattle.replaying.specs.Laws.Used.{line-closed}
-use Rattle.replaying.specs.Laws.Texts.{behind-append, behind-none, behindOf, firstOf, free-all, free-behind, goes-on, lines-first, lines-last, no-lines}
+use Rattle.replaying.specs.Laws.Texts.{behind-append, behind-none, firstOf, free-all, free-behind, goes-on, lines-first, lines-last, no-lines}
 use Rattle.replaying.specs.Output.{ROOM, answerText}
 use Rattle.replaying.specs.Replay.{nextLine, outputOf, storeOf}
-use Rattle.replaying.specs.Runs.{Desk, Host, answer, called, calls, deskAfter, outputFrom, reported, reports, saidTo, wholeOutput}
+use Rattle.replaying.specs.Runs.{Host, answer, called, calls, deskAfter, outputFrom, saidTo, wholeOutput}
 use Rattle.replaying.specs.Theorems.Ends.{called-narrow, calls-narrow, ends}
 use Rattle.replaying.specs.Theorems.Lines.{bad-first-line, bad-settings}
+use Rattle.replaying.specs.Theorems.Used.{line-closed}
 use Rattle.replaying.specs.Turn as T
 use Rattle.replaying.specs.Turn.{over, within}
 use Rattle.rows.specs.Rows.{rowsFor}
 use Rattle.text.specs.Text.{LINE-END, ahead, linesOf}
 
--- a host between two lines
-abbrev pub between : Host → Desk
-between h = record { replay = within (h .replay) Reading (h .replay .line) 0; rows = h .rows; store = h .store }
-
-abbrev pub deskOf : Host → Desk
-deskOf h = record { replay = h .replay; rows = h .rows; store = h .store }
-
 module _ (out : List ℕ) where
-  -- what is still to come of a host that has this text left, and more behind it, and behind that the lines of later parts
-  abbrev pub toComeBy : Phase → Host → List ℕ → List (List ℕ) → List ℕ
-  toComeBy Settings h more later = outputFrom out (deskOf h) (linesOf (h .text ++ more) ++ later)
-  toComeBy Reading h more later = outputFrom out (deskOf h) (linesOf (h .text ++ more) ++ later)
-  toComeBy Fetching h more later = reports out (h .replay .left) (between h) ++ outputFrom out (reported out (h .replay .left) (between h)) (linesOf (h .text ++ more) ++ later)
-  toComeBy Skipping h more later = outputFrom out (between h) (linesOf (behindOf (h .text ++ more)) ++ later)
-  toComeBy Ended h more later = []
-
-  abbrev pub toCome : Host → List ℕ → List (List ℕ) → List ℕ
-  toCome h more later = toComeBy (h .replay .phase) h more later
-
   -- buffers of the right lengths
   abbrev pub LentBy : Phase → Host → Type 0
   LentBy Settings h = Unit {0}
@@ -837,14 +820,6 @@ module _ (rows : List (List ℕ)) (store out buffer : List ℕ) (a : 321 ≤ len
   -- however often it calls at the end, what it has written and what is still to come is the whole output of the joined recording
   pub cut-anywhere : (ds : List Deed) (n : ℕ) → lastCalls n (run start ds) .said ++ toCome out (lastCalls n (run start ds)) [] [] ≡ wholeOutput out rows store (joined ds)
   cut-anywhere ds n = last-stands out n (run start ds) (wholeOutput out rows store (joined ds)) (stands ds .fit) (at-end ds)
-
--- no report may be due, and all text is used
-abbrev pub isDone : Phase → Bool
-isDone Settings = true
-isDone Reading = true
-isDone Fetching = false
-isDone Skipping = true
-isDone Ended = true
 
 nothing-comes : (out : List ℕ) (phase : Phase) (h : Host) → h .text ≡ [] → isDone phase ≡ true → toComeBy out phase h [] [] ≡ []
 nothing-comes out Settings h e t = rw (e, no-lines)

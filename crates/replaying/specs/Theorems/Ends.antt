@@ -27,7 +27,7 @@ use Rattle.replaying.specs.declared.turns.Replayed.{Replayed}
 use Rattle.replaying.specs.Deeds.{Deed, beginsWith, hasRead, run, turnsLeft, wantsWithin, weight}
 use Rattle.replaying.specs.Deeds.Deed.{Call, Close, Read}
 use Rattle.replaying.specs.Laws.Starts.{small, start-sized}
-use Rattle.replaying.specs.Laws.Used.{line-closed}
+use Rattle.replaying.specs.Theorems.Used.{line-closed}
 use Rattle.replaying.specs.Replay.{nextLine}
 use Rattle.replaying.specs.Runs.{Host, answer, called, calls}
 use Rattle.replaying.specs.Turn as T

@@ -17,88 +17,16 @@ use Rattle.recording.specs.declared.record.Record.the-variants.{Frame, Malforme
 use Rattle.recording.specs.Opening.{lineOpening}
 use Rattle.replaying.specs.declared.replay.Phase.{Phase}
 use Rattle.replaying.specs.declared.replay.Phase.the-variants.{Settings, Reading, Fetching, Skipping, Ended}
-use Rattle.replaying.specs.Output.{answerText, changeText, changesText, countIn, epochText, markText, portText, reportText, stateLine, stateText, statesIn}
+use Rattle.replaying.specs.Output.{answerText, changeText, changesText, countIn, epochText, markText, portText, reportText, stateLine, stateText}
+use Rattle.replaying.specs.Printing.{Event, allLines, answerLine, changeLines, changed, epochLine, eventsBy, eventsFrom, eventsOf, fetches, given, linesIn, only, openingEvents, portLine, portLines, readEvents, refusalOf, reportLines, times}
+use Rattle.replaying.specs.Printing.Event.{Refused, Reported}
 use Rattle.replaying.specs.Replay.{beginning, nextLine}
 use Rattle.replaying.specs.Runs.{Desk, deskAfter, fetched, framed, lineIn, openingText, outputFrom, readText, reports, saidTo, textBy, wholeOutput}
-use Rattle.replaying.specs.Turn.{fetchRecordBy, fetchRowsBy, isDue, reportOf, startable}
+use Rattle.replaying.specs.Turn.{isDue, reportOf, startable}
 use Rattle.text.specs.Ascii.{ascii}
 use Rattle.text.specs.Laws.Lines.{Free, free-append, free-line}
 use Rattle.text.specs.Output.{decimalText, digitsBefore, ended, numberText}
 use Rattle.text.specs.Text.{LINE-END, TAB, linesOf}
-
--- What arises in a run: a line refused, or a report that a fetch gave, with the line behind which it came, the ports, and their states before the fetch and after it.
-pub data Event : Type 0 where
-  Refused : ℕ → ℕ → Event
-  Reported : List ℕ → ℕ → ℕ → List ℕ → List ℕ → Event
-
-module _ (out : List ℕ) where
-  abbrev pub given : Desk → Event
-  given d =
-      Reported (fetchRecordBy (d .replay) (d .rows) (d .store) out) (d .replay .line) (d .replay .ports) (statesIn (d .replay .kind) (d .rows)) (statesIn (d .replay .kind) (fetchRowsBy (d .replay) (d .rows) (d .store) out))
-
-  -- every fetch behind a frame, until one gives none
-  abbrev pub fetches : ℕ → Desk → List Event
-  fetches zero d = []
-  fetches (suc k) d = cond (isDue (d .replay) (d .rows) (d .store) out) (given d ∷ fetches k (fetched out d)) []
-
-  abbrev pub refusalOf : Desk → ℕ → List Event
-  refusalOf d number = Refused number (nextLine (d .replay .line)) ∷ []
-
-  abbrev pub openingEvents : Desk → Opening → List Event
-  openingEvents d (O.Settings s next) = cond (startable s (length (d .store))) [] (refusalOf d 4)
-  openingEvents d O.Malformed = refusalOf d 13
-  openingEvents d O.Unfinished = []
-  openingEvents d O.End = []
-
-  abbrev pub readEvents : Desk → List ℕ → Record → List Event
-  readEvents d line (Frame port h4 flag place next) = fetches (d .replay .window) (framed out d line port h4 flag place)
-  readEvents d line (Malformed next) = refusalOf d 13
-  readEvents d line Long = refusalOf d 13
-  readEvents d line Unfinished = []
-  readEvents d line End = []
-
-  abbrev pub eventsBy : Phase → Desk → List ℕ → List Event
-  eventsBy Settings d line = openingEvents d (lineOpening 0 line)
-  eventsBy Reading d line = readEvents d line (lineIn out d line)
-  eventsBy Fetching d line = []
-  eventsBy Skipping d line = []
-  eventsBy Ended d line = []
-
-  abbrev pub eventsFrom : Desk → List (List ℕ) → List Event
-  eventsFrom d [] = []
-  eventsFrom d (l ∷ ls) = eventsBy (d .replay .phase) d l ++ eventsFrom (deskAfter out d l) ls
-
-  unfoldable pub eventsOf : List (List ℕ) → List ℕ → List ℕ → List Event
-  eventsOf rows store recording = eventsFrom (record { replay = beginning; rows = rows; store = store }) (linesOf recording)
-
--- the lines of an event, without their ends
-
-abbrev pub answerLine : ℕ → ℕ → List ℕ
-answerLine number line = ended (ascii "answer") TAB ++ ended (decimalText number) TAB ++ ended (ascii "line") TAB ++ numberText line
-
-abbrev pub epochLine : List ℕ → ℕ → List ℕ
-epochLine rec line =
-    ended (ascii "epoch") TAB ++ ended (decimalText (getD rec 1 0)) TAB ++ ended (markText (getD rec 0 0)) TAB ++ ended (ascii "bytes") TAB ++ ended (numberText (countIn rec)) TAB ++ ended (ascii "line") TAB ++ numberText line
-
-abbrev pub portLine : ℕ → ℕ → List ℕ
-portLine port state = ended (ascii "port") TAB ++ ended (decimalText port) TAB ++ ended (stateText (state / 256)) TAB ++ decimalText (state % 256)
-
--- the ports below n whose state is another, in order
-abbrev pub changed : List ℕ → List ℕ → ℕ → List ℕ
-changed before after zero = []
-changed before after (suc n) = changed before after n ++ cond (eqb (getD before n 0) (getD after n 0)) [] (n ∷ [])
-
-abbrev pub portLines : List ℕ → List ℕ → List (List ℕ)
-portLines after [] = []
-portLines after (i ∷ ports) = portLine i (getD after i 0) ∷ portLines after ports
-
-abbrev pub linesIn : Event → List (List ℕ)
-linesIn (Refused number line) = answerLine number line ∷ []
-linesIn (Reported rec line ports before after) = epochLine rec line ∷ portLines after (changed before after ports)
-
-abbrev pub allLines : List Event → List (List ℕ)
-allLines [] = []
-allLines (e ∷ es) = linesIn e ++ allLines es
 
 -- the output as one text
 
@@ -286,12 +214,6 @@ printed out rows store recording =
     let d : Desk = record { replay = beginning; rows = rows; store = store } in
     ap linesOf (from-text out d (linesOf recording)) ∙ all-lines (eventsFrom out d (linesOf recording))
 
--- by their first letter
-
-abbrev pub only : ℕ → List (List ℕ) → List (List ℕ)
-only letter [] = []
-only letter (l ∷ ls) = cond (eqb (getD l 0 0) letter) (l ∷ only letter ls) (only letter ls)
-
 only-append : (letter : ℕ) (x y : List (List ℕ)) → only letter (x ++ y) ≡ only letter x ++ only letter y
 only-append letter [] y = refl
 only-append letter (l ∷ x) y = go (eqb (getD l 0 0) letter) (only-append letter x y)
@@ -307,17 +229,6 @@ no-epoch after (i ∷ ports) = no-epoch after ports
 all-ports : (after ports : List ℕ) → only 112 (portLines after ports) ≡ portLines after ports
 all-ports after [] = refl
 all-ports after (i ∷ ports) = ap (λ (t : List (List ℕ)). portLine i (getD after i 0) ∷ t) (all-ports after ports)
-
--- what the fetches gave
-abbrev pub reportLines : List Event → List (List ℕ)
-reportLines [] = []
-reportLines (Refused number line ∷ es) = reportLines es
-reportLines (Reported rec line ports before after ∷ es) = epochLine rec line ∷ reportLines es
-
-abbrev pub changeLines : List Event → List (List ℕ)
-changeLines [] = []
-changeLines (Refused number line ∷ es) = changeLines es
-changeLines (Reported rec line ports before after ∷ es) = portLines after (changed before after ports) ++ changeLines es
 
 only-reports : (es : List Event) → only 101 (allLines es) ≡ reportLines es
 only-reports [] = refl
@@ -339,12 +250,6 @@ reports-printed out rows store recording = ap (only 101) (printed out rows store
 -- those that begin with a p are the changes of each report, in the order of ports
 pub changes-printed : (out : List ℕ) (rows : List (List ℕ)) (store recording : List ℕ) → only 112 (linesOf (wholeOutput out rows store recording)) ≡ changeLines (eventsOf out rows store recording)
 changes-printed out rows store recording = ap (only 112) (printed out rows store recording) ∙ only-changes (eventsOf out rows store recording)
-
--- how often a port is among them
-
-abbrev pub times : ℕ → List ℕ → ℕ
-times i [] = 0
-times i (j ∷ l) = cond (eqb j i) 1 0 + times i l
 
 times-append : (i : ℕ) (x y : List ℕ) → times i (x ++ y) ≡ times i x + times i y
 times-append i [] y = omega arith

@@ -1,11 +1,12 @@
--- A turn uses no more of a text than there is.
-use mathlib.Core.Path.{_≡_, refl}
+-- A turn uses no more of a text than there is, and from a place on it leaves what a turn on the rest leaves.
+use mathlib.Core.Path.{_≡_, refl, sym}
 use mathlib.Core.Bool.{Bool, true, false, cond}
 use mathlib.Core.List.{List}
 use Prim.Native.Nat.{ℕ, _+_, _≤_}
 use native.Mathlib.Omega.{arith}
 use lib.Dec.{eqb, ltb}
-use lib.ListN.{length, take}
+use lib.ListN.{drop, length, take}
+use lib.Seq.{drop-drop}
 use borrow.Author.Tests.{ltb-true}
 use Rattle.bytes.specs.Bytes.{indexOf}
 use Rattle.recording.specs.Opening.{Opening}
@@ -21,6 +22,7 @@ use Rattle.recording.specs.Record.{lastRecord, lineRecord, recordIn}
 use Rattle.replaying.specs.declared.replay.Phase.{Phase}
 use Rattle.replaying.specs.declared.replay.Phase.the-variants.{Settings, Reading, Fetching, Skipping, Ended}
 use Rattle.replaying.specs.declared.replay.Replay.{Replay}
+use Rattle.replaying.specs.declared.turns.Replayed.{Replayed}
 use Rattle.replaying.specs.Turn as T
 use Rattle.text.specs.Text.{LINE-END}
 
@@ -143,3 +145,8 @@ turn-uses r text last rows store out said = by (r .phase)
     by Fetching = let e = report-uses r rows store out said in omega arith
     by Skipping = skip-uses r text last
     by Ended = omega arith
+
+-- what is left of the text behind the place that it hands back
+pub left-behind : (at : ℕ) (t : Replayed) (text : List ℕ) → drop (T.placed at t .used) text ≡ drop (t .used) (drop at text)
+unfolding T.placed
+left-behind at t text = sym (drop-drop (t .used) at text)
