@@ -141,6 +141,16 @@ pub fn check(program: &Program, count: &mut Count) {
         held == (41..80).step_by(2).collect::<Vec<u64>>() && !hit.contains("out of step") && hit.contains("doubtful\tepochs\t0\n"),
     );
 
+    let (_, hit) = said(program, &["--slots", "3", "--ports", "2,0,1", "--damage", "50:0,60:1,60:2", "--fail", "1:1200-1300"]);
+    let told = |line: &str| hit.lines().any(|l| l == line);
+    count.note(
+        "a held or doubtful epoch names its cause and the ports behind it",
+        told("epoch\t51\theld\tcause\ta ruling packet was refused\tport\t2")
+            && told("epoch\t61\theld\tcause\ta ruling packet was refused\tports\t0\t1")
+            && told("epoch\t75\theld\tcause\tan active port lacks a frame\tport\t1")
+            && hit.lines().any(|l| l.starts_with("epochs\t76\t") && l.ends_with("\tcause\ta port has no whole ruling packet\tport\t1")),
+    );
+
     let (_, behind) = said(program, &["--slots", "2", "--delays", "0,5000", "--fail", "0:0-99999", "--epochs", "600"]);
     count.note("epochs are told rightly behind a line that failed and would be far ahead", lines::read(&behind).reports.first().map_or(false, |r| r.epoch < 10));
 
@@ -221,6 +231,8 @@ fn fixed(program: &Program, count: &mut Count) {
         status == Some(0) && text.ends_with("no byte was sure\n") && marks(&text, "held") > 140 && marks(&text, "doubtful") == 0
     });
     count.note("numbers that are not 0 to X-1, each once, are held and never doubtful", wrong);
+    let (_, shared) = said(program, &["--fixed", "--numbers", "0,2,1,2", "--ports", "3,1,2,0"]);
+    count.note("and ports with one number are named", shared.contains("\tcause\tnumbers of active and DNU ports repeat\tports\t0\t1\n"));
     let dark = (0..3).all(|port| {
         let (status, text) = said(program, &["--fixed", "--slots", "3", "--numbers", "2,0,1", "--fail", &format!("{port}:400-800")]);
         let read = lines::read(&text);

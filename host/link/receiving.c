@@ -92,14 +92,16 @@ int receiving_open(struct receiving *r, const struct choices *c)
     memset(r, 0, sizeof *r);
     r->ports = c->slots;
     r->payload = c->payload;
+    r->fixed = c->fixed;
     r->rows = LEVELSPRUCE_RECEIVER_ROWS(c->slots);
     r->store_bytes = LEVELSPRUCE_STORE_BYTES(c->slots, c->payload, c->window);
     r->out_bytes = c->vc12 ? LEVELSPRUCE_OUTPUT_BYTES_VC12(c->slots) : LEVELSPRUCE_OUTPUT_BYTES(c->slots, c->payload);
     r->state = malloc(r->rows * sizeof r->state[0]);
+    r->before = malloc(r->rows * sizeof r->before[0]);
     r->store = malloc(r->store_bytes);
     r->out = malloc(r->out_bytes);
     r->nothing = calloc(r->payload, 1);
-    if (r->state == NULL || r->store == NULL || r->out == NULL || r->nothing == NULL)
+    if (r->state == NULL || r->before == NULL || r->store == NULL || r->out == NULL || r->nothing == NULL)
         return -1;
     /* marks and states do not go by the payload, so one byte of it is enough to replay them */
     if (record_to(&r->recordings[0], c->record, r->payload, c) != 0 || record_to(&r->recordings[1], c->heads, 1, c) != 0)
@@ -131,17 +133,73 @@ void receiving_failed(struct receiving *r, uint32_t port)
         must(answer, "levelspruce_receiver_frame");
 }
 
+/* Whether the packet that rules a port is whole and good, and under that a word that carries bytes, or also DNU. Without LCAS all carry. */
+static int has_word(const uint8_t *seen, int fixed, int or_dnu)
+{
+    uint8_t word = seen[LEVELSPRUCE_SEEN_WORD];
+
+    return seen[LEVELSPRUCE_SEEN_WHOLE] && seen[LEVELSPRUCE_SEEN_ANSWER] == LEVELSPRUCE_ANSWER_DONE && !seen[LEVELSPRUCE_SEEN_OTHER]
+        && (fixed || word == LEVELSPRUCE_WORD_NORM || word == LEVELSPRUCE_WORD_EOS || (or_dnu && word == LEVELSPRUCE_WORD_DNU));
+}
+
+/* Whether another port has the number of this one, and both are active or DNU. */
+static int shares_number(const struct receiving *r, const uint8_t (*seen)[LEVELSPRUCE_SEEN_BYTES], uint32_t port)
+{
+    uint32_t other;
+
+    for (other = 0; other < r->ports; other++)
+        if (other != port && has_word(seen[port], r->fixed, 1) && has_word(seen[other], r->fixed, 1)
+            && seen[port][LEVELSPRUCE_SEEN_NUMBER] == seen[other][LEVELSPRUCE_SEEN_NUMBER])
+            return 1;
+    return 0;
+}
+
+/* Whether a cause applies to a port. GID, EOS and numbers that leave a gap are of the group, and of no one port. */
+static int is_cause_of(const struct receiving *r, uint8_t cause, const uint8_t (*seen)[LEVELSPRUCE_SEEN_BYTES], uint32_t port)
+{
+    switch (cause) {
+    case LEVELSPRUCE_CAUSE_REFUSED:
+        return seen[port][LEVELSPRUCE_SEEN_WHOLE] && (seen[port][LEVELSPRUCE_SEEN_ANSWER] != LEVELSPRUCE_ANSWER_DONE || seen[port][LEVELSPRUCE_SEEN_OTHER]);
+    case LEVELSPRUCE_CAUSE_LACKING:
+        return has_word(seen[port], r->fixed, 0) && !seen[port][LEVELSPRUCE_SEEN_HERE];
+    case LEVELSPRUCE_CAUSE_REPEATED:
+        return shares_number(r, seen, port);
+    case LEVELSPRUCE_CAUSE_UNSEEN:
+        return !seen[port][LEVELSPRUCE_SEEN_WHOLE];
+    default:
+        return 0;
+    }
+}
+
+/* The ports to which it applies, by what was seen before the fetch. */
+static uint64_t ports_of_cause(const struct receiving *r, uint8_t cause)
+{
+    uint8_t seen[LINES_MOST][LEVELSPRUCE_SEEN_BYTES];
+    uint64_t ports = 0;
+    uint32_t port;
+
+    if (cause == LEVELSPRUCE_CAUSE_NONE)
+        return 0;
+    must(levelspruce_receiver_seen((const uint8_t(*)[LEVELSPRUCE_ROW_BYTES])r->before, r->rows, seen, r->ports), "levelspruce_receiver_seen");
+    for (port = 0; port < r->ports; port++)
+        if (is_cause_of(r, cause, (const uint8_t(*)[LEVELSPRUCE_SEEN_BYTES])seen, port))
+            ports |= (uint64_t)1 << port;
+    return ports;
+}
+
 int receiving_fetch(struct receiving *r, struct report *report)
 {
     uint8_t record[LEVELSPRUCE_REPORT_BYTES];
     const uint8_t *count = record + LEVELSPRUCE_REPORT_COUNT;
 
+    memcpy(r->before, r->state, r->rows * sizeof r->state[0]);
     must(levelspruce_receiver_fetch(r->state, r->rows, r->store, r->store_bytes, r->out, r->out_bytes, record, sizeof record),
          "levelspruce_receiver_fetch");
     report->mark = record[LEVELSPRUCE_REPORT_MARK];
     report->number = record[LEVELSPRUCE_REPORT_EPOCH];
     report->x = record[LEVELSPRUCE_REPORT_X];
     report->cause = record[LEVELSPRUCE_REPORT_CAUSE];
+    report->ports = ports_of_cause(r, report->cause);
     report->bytes = (size_t)count[0] << 24 | (size_t)count[1] << 16 | (size_t)count[2] << 8 | count[3];
     return report->mark != LEVELSPRUCE_MARK_NONE;
 }
@@ -179,6 +237,7 @@ int receiving_close(struct receiving *r)
     int whole = record_end(&r->recordings[0]), heads = record_end(&r->recordings[1]);
 
     free(r->state);
+    free(r->before);
     free(r->store);
     free(r->out);
     free(r->nothing);

@@ -15,8 +15,9 @@ struct recording {
 
 struct receiving {
     uint32_t ports;
+    int fixed; /* the group has no LCAS */
     size_t payload;
-    uint8_t (*state)[LEVELSPRUCE_ROW_BYTES];
+    uint8_t (*state)[LEVELSPRUCE_ROW_BYTES], (*before)[LEVELSPRUCE_ROW_BYTES]; /* now, and before the last fetch */
     size_t rows;
     uint8_t *store;
     size_t store_bytes;
@@ -28,6 +29,7 @@ struct receiving {
 
 struct report {
     uint8_t mark, number, x, cause;
+    uint64_t ports; /* to which the cause applies, a bit each; none where it is not of single ports */
     size_t bytes; /* of out */
 };
 

@@ -15,6 +15,18 @@ void must(uint8_t answer, const char *call)
     exit(2);
 }
 
+/* The ports of a report's cause, where it has some. */
+static void says_these(uint64_t ports)
+{
+    uint32_t i;
+
+    if (ports != 0)
+        printf("\t%s", (ports & (ports - 1)) == 0 ? "port" : "ports");
+    for (i = 0; i < LINES_MOST; i++)
+        if (ports >> i & 1)
+            printf("\t%" PRIu32, i);
+}
+
 void says_end(struct says *s)
 {
     const struct alike *a = &s->alike;
@@ -30,6 +42,7 @@ void says_end(struct says *s)
         printf("\t%s\t%lu\t%s", a->first == a->last ? "bytes" : "bytes each", (unsigned long)a->bytes, a->right ? "as sent" : "not as sent");
     if (a->cause != LEVELSPRUCE_CAUSE_NONE)
         printf("\tcause\t%s", levelspruce_cause_text(a->cause));
+    says_these(a->ports);
     printf("\n");
     s->alike.some = 0;
 }
@@ -202,10 +215,10 @@ void says_behind(struct says *s, const uint32_t *behind)
     }
 }
 
-void says_report(struct says *s, uint64_t epoch, uint8_t mark, uint8_t cause, size_t bytes, int right)
+void says_report(struct says *s, uint64_t epoch, uint8_t mark, uint8_t cause, uint64_t ports, size_t bytes, int right)
 {
     struct alike *a = &s->alike;
-    int goes_on = a->some && !s->each && a->mark == mark && a->cause == cause && a->bytes == bytes && a->right == right && a->last + 1 == epoch;
+    int goes_on = a->some && !s->each && a->mark == mark && a->cause == cause && a->ports == ports && a->bytes == bytes && a->right == right && a->last + 1 == epoch;
 
     if (s->quiet)
         return;
@@ -214,6 +227,7 @@ void says_report(struct says *s, uint64_t epoch, uint8_t mark, uint8_t cause, si
         a->first = epoch;
         a->mark = mark;
         a->cause = cause;
+        a->ports = ports;
         a->bytes = bytes;
         a->right = right;
         a->some = 1;

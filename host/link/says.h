@@ -10,6 +10,7 @@
 struct alike {
     uint64_t first, last;
     uint8_t mark, cause;
+    uint64_t ports; /* of the cause, a bit each */
     size_t bytes;
     int right;
     int some; /* whether there is one */
@@ -54,8 +55,8 @@ void says_ports(struct says *s, const uint8_t (*ports)[LEVELSPRUCE_PORT_BYTES], 
 /* How many frames each port in step lies behind the foremost, of those of which it is another than when this was last called. */
 void says_behind(struct says *s, const uint32_t *behind);
 
-/* The report of an epoch, and why it is held or doubtful. Those that say the same stand in one line, which is printed before the next other one. */
-void says_report(struct says *s, uint64_t epoch, uint8_t mark, uint8_t cause, size_t bytes, int right);
+/* The report of an epoch, why it is held or doubtful, and by which ports. Those that say the same stand in one line, which is printed before the next other one. */
+void says_report(struct says *s, uint64_t epoch, uint8_t mark, uint8_t cause, uint64_t ports, size_t bytes, int right);
 
 /* Says the reports that are not said yet. */
 void says_end(struct says *s);

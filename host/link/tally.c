@@ -23,7 +23,7 @@ void tally_report(struct tally *t, uint64_t epoch, const struct report *report, 
     int right = carried != NULL && carried->bytes == report->bytes
         && client_sent(client, carried->from, bytes, report->bytes);
 
-    says_report(says, epoch, report->mark, report->cause, report->bytes, right);
+    says_report(says, epoch, report->mark, report->cause, report->ports, report->bytes, right);
     t->epochs[report->mark]++;
     t->bytes[report->mark] += report->bytes;
     t->doubtful_right += report->mark == LEVELSPRUCE_MARK_DOUBTFUL && right;
