@@ -67,7 +67,7 @@ module _ (out : List ℕ) where
   -- one call keeps what is printed and still to come; the last text has no more behind it
   pub record Keeps (last : Bool) (h g : Host) : Type 0 where
     pub fit : Fit g
-    pub whole : (more : List ℕ) (later : List (List ℕ)) → (last ≡ true → more ≡ []) → g .said ++ toCome g more later ≡ h .said ++ toCome h more later
+    pub whole : (more : List ℕ) (later : List (List ℕ)) → (last ≡ true → more ≡ []) → g .said ++ toCome out g more later ≡ h .said ++ toCome out h more later
 
 -- a host by its parts
 abbrev host : Phase → ℕ → ℕ → ℕ → ℕ → ℕ → ℕ → List (List ℕ) → List ℕ → List ℕ → List ℕ → List ℕ → List ℕ → Host
