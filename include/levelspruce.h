@@ -119,6 +119,7 @@ extern "C" {
 #define LEVELSPRUCE_PORT_BYTES 8    /* what is shown of a port */
 #define LEVELSPRUCE_REPLY_BYTES 2   /* a reply */
 #define LEVELSPRUCE_SEEN_BYTES 10   /* the packet that rules a port */
+#define LEVELSPRUCE_CAUSE_BYTES 2   /* why a report is held or doubtful */
 #define LEVELSPRUCE_HEARD_BYTES 4   /* what the far end says back */
 #define LEVELSPRUCE_SETTINGS 4      /* a receiver's settings: numbers, not bytes */
 #define LEVELSPRUCE_SENDER_SETTINGS_BYTES 5 /* a sender's settings */
@@ -1185,6 +1186,12 @@ uint8_t levelspruce_board_speak_whole(const uint8_t *board, size_t board_length,
 #define LEVELSPRUCE_CAUSE_UNSEEN 6   /* a port has no whole ruling packet */
 #define LEVELSPRUCE_CAUSE_NUMBERS 7  /* the numbers are not 0 to n - 1 */
 
+/* The bytes of what levelspruce_receiver_cause says: one of these causes, and
+ * the lowest port to which it applies. */
+#define LEVELSPRUCE_CAUSE_CLAUSE 0
+#define LEVELSPRUCE_CAUSE_PORT 1
+#define LEVELSPRUCE_CAUSE_NO_PORT 255 /* NONE, or NUMBERS: no one port's */
+
 /* Member states of a port, worked out at each report. */
 #define LEVELSPRUCE_PORT_IDLE 0
 #define LEVELSPRUCE_PORT_FAIL 1
@@ -1458,6 +1465,29 @@ uint8_t levelspruce_receiver_seen(const uint8_t (*state)[LEVELSPRUCE_ROW_BYTES],
                                   size_t state_length,
                                   uint8_t (*seen)[LEVELSPRUCE_SEEN_BYTES],
                                   size_t seen_length);
+
+/*
+ * Reads why the oldest epoch not yet reported would be held or doubtful, and
+ * which port is to blame. Read before a fetch: the cause is that of the report
+ * which the fetch gives, and after it the packets have moved on. The port is
+ * the lowest that was refused (REFUSED), that lacks a frame (LACKING), whose
+ * number a lower one has already (REPEATED), whose GID is not a lower one's
+ * (GID), that has EOS and is not the highest or is the highest and has none
+ * (EOS), or that has no whole packet (UNSEEN). Where no report is due the
+ * cause says what is not yet there, and is no report's.
+ *
+ *   cause   LEVELSPRUCE_CAUSE_BYTES bytes: at LEVELSPRUCE_CAUSE_CLAUSE one of
+ *           the causes NONE to NUMBERS, at LEVELSPRUCE_CAUSE_PORT the port, or
+ *           LEVELSPRUCE_CAUSE_NO_PORT
+ *
+ * Answers, the first that fits:
+ *   9  state_length or cause_length is wrong
+ *   0  both bytes are written
+ */
+LEVELSPRUCE_MUST_USE
+uint8_t levelspruce_receiver_cause(const uint8_t (*state)[LEVELSPRUCE_ROW_BYTES],
+                                   size_t state_length,
+                                   uint8_t *cause, size_t cause_length);
 
 /*
  * Reads the way back: what the far end says in the epoch before the oldest one

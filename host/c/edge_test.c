@@ -148,12 +148,13 @@ static int see_at_edges(uint8_t *open_state, uint8_t *open_out, uint8_t *open_st
             uint8_t *state = buffer_in(open_state, ROWS * LEVELSPRUCE_ROW_BYTES, at_end % 2);
             uint8_t(*rows)[LEVELSPRUCE_ROW_BYTES] = (void *)state;
             const uint8_t(*lent)[LEVELSPRUCE_ROW_BYTES] = (const uint8_t(*)[LEVELSPRUCE_ROW_BYTES])rows;
-            size_t ports = PORTS - less, four = 4 - less;
+            size_t ports = PORTS - less, two = LEVELSPRUCE_CAUSE_BYTES - less, four = 4 - less;
             int out_end = at_end / 2 % 2;
             uint8_t expected = less == 0 ? LEVELSPRUCE_ANSWER_DONE : LEVELSPRUCE_ANSWER_LENGTH;
 
             held = held && levelspruce_receiver_start(PORTS, P, W, STORE, rows, ROWS) == LEVELSPRUCE_ANSWER_DONE
                 && levelspruce_receiver_seen(lent, ROWS, (void *)buffer_in(open_out, ports * LEVELSPRUCE_SEEN_BYTES, out_end), ports) == expected
+                && levelspruce_receiver_cause(lent, ROWS, buffer_in(open_out, two, out_end), two) == expected
                 && levelspruce_receiver_heard(lent, ROWS, buffer_in(open_out, four, out_end), four) == expected
                 && levelspruce_receiver_behind(lent, ROWS, (void *)buffer_in(open_out, 4 * ports, out_end), ports) == expected
                 && levelspruce_receiver_settings(lent, ROWS, (void *)buffer_in(open_out, 4 * four, out_end), four) == expected

@@ -26,8 +26,11 @@ int main()
           levelspruce_receiver_start(1, 2, 16, LEVELSPRUCE_STORE_BYTES(1, 2, 16), receiver, LEVELSPRUCE_RECEIVER_ROWS(1)) == LEVELSPRUCE_ANSWER_DONE
               && levelspruce_receiver_ports(receiver, LEVELSPRUCE_RECEIVER_ROWS(1), ports, 1) == LEVELSPRUCE_ANSWER_DONE
               && ports[0][LEVELSPRUCE_PORT_STATE] == LEVELSPRUCE_PORT_IDLE);
-    uint8_t seen[1][LEVELSPRUCE_SEEN_BYTES], heard[LEVELSPRUCE_HEARD_BYTES], frames[LEVELSPRUCE_STORE_BYTES(1, 2, 16)] = { 0 };
+    uint8_t seen[1][LEVELSPRUCE_SEEN_BYTES], cause[LEVELSPRUCE_CAUSE_BYTES], heard[LEVELSPRUCE_HEARD_BYTES], frames[LEVELSPRUCE_STORE_BYTES(1, 2, 16)] = { 0 };
     uint32_t behind[1], settings[LEVELSPRUCE_SETTINGS];
+    check("a C++ program reads why the next report would not be sure, and the port",
+          levelspruce_receiver_cause(receiver, LEVELSPRUCE_RECEIVER_ROWS(1), cause, sizeof cause) == LEVELSPRUCE_ANSWER_DONE
+              && cause[LEVELSPRUCE_CAUSE_CLAUSE] == LEVELSPRUCE_CAUSE_UNSEEN && cause[LEVELSPRUCE_CAUSE_PORT] == 0);
     check("a C++ program reads what a receiver saw, what it heard, how far behind its port is and its settings, and begins it anew",
           levelspruce_receiver_seen(receiver, LEVELSPRUCE_RECEIVER_ROWS(1), seen, 1) == LEVELSPRUCE_ANSWER_DONE && seen[0][LEVELSPRUCE_SEEN_WHOLE] == 0
               && levelspruce_receiver_heard(receiver, LEVELSPRUCE_RECEIVER_ROWS(1), heard, sizeof heard) == LEVELSPRUCE_ANSWER_DONE

@@ -1,7 +1,8 @@
 /*
- * Tests of what the receiver says of itself, over the archive: seen, heard, behind, anew and both settings. Every answer, that a
- * refusal changes nothing, and a link of two slots over unequal delays with figures worked out by hand: what is seen before and after
- * a report, a damaged packet, one of another number, who is heard, how far a port lies behind, and a beginning anew.
+ * Tests of what the receiver says of itself, over the archive: seen, cause, heard, behind, anew and both settings. Every answer, that
+ * a refusal changes nothing, and a link of two slots over unequal delays with figures worked out by hand: what is seen before and after
+ * a report, a damaged packet, one of another number, who is heard, how far a port lies behind, and a beginning anew. And of each cause
+ * an epoch of two ports, with the port to blame.
  */
 #include <levelspruce.h>
 
@@ -62,6 +63,14 @@ static int seen_is(uint32_t port, const uint8_t *expected)
     uint8_t seen[PORTS][LEVELSPRUCE_SEEN_BYTES];
 
     return levelspruce_receiver_seen(state(), ROWS, seen, PORTS) == 0 && memcmp(seen[port], expected, sizeof seen[port]) == 0;
+}
+
+static int cause_is(uint8_t clause, uint8_t port)
+{
+    uint8_t cause[LEVELSPRUCE_CAUSE_BYTES];
+
+    return levelspruce_receiver_cause(state(), ROWS, cause, sizeof cause) == 0 && cause[LEVELSPRUCE_CAUSE_CLAUSE] == clause
+        && cause[LEVELSPRUCE_CAUSE_PORT] == port;
 }
 
 static int heard_is(uint8_t said, uint32_t epoch, uint8_t mst, uint8_t ack)
@@ -140,9 +149,11 @@ static void refusals(void)
         /* no rows are an empty group: it has no ports to read, and its other readings are zeros */
         held = held && levelspruce_receiver_seen(s, n, seen, PORTS) == 9 && levelspruce_receiver_behind(s, n, numbers, PORTS) == 9;
         held = held && (empty || levelspruce_receiver_heard(s, n, bytes, 4) == 9) && (empty || levelspruce_receiver_settings(s, n, numbers, 4) == 9);
+        held = held && (empty || levelspruce_receiver_cause(s, n, bytes, 2) == 9);
         held = held && levelspruce_receiver_anew((uint8_t(*)[LEVELSPRUCE_ROW_BYTES])(empty ? NULL : lent_bytes(&lent)), n, store, sizeof store) == 9;
     }
     held = held && levelspruce_receiver_seen(state(), ROWS, seen, PORTS - 1) == 9 && levelspruce_receiver_seen(state(), ROWS, seen, PORTS + 1) == 9;
+    held = held && levelspruce_receiver_cause(state(), ROWS, bytes, 1) == 9 && levelspruce_receiver_cause(state(), ROWS, bytes, 3) == 9 && levelspruce_receiver_cause(state(), ROWS, NULL, 0) == 9;
     held = held && levelspruce_receiver_heard(state(), ROWS, bytes, 3) == 9 && levelspruce_receiver_heard(state(), ROWS, bytes, 5) == 9 && levelspruce_receiver_heard(state(), ROWS, NULL, 0) == 9;
     held = held && levelspruce_receiver_behind(state(), ROWS, numbers, PORTS - 1) == 9 && levelspruce_receiver_behind(state(), ROWS, numbers, PORTS + 1) == 9;
     held = held && levelspruce_receiver_settings(state(), ROWS, numbers, 3) == 9 && levelspruce_receiver_settings(state(), ROWS, numbers, 5) == 9;
@@ -165,8 +176,9 @@ static void empty_group(void)
     int held = levelspruce_receiver_seen(NULL, 0, NULL, 0) == 0 && levelspruce_receiver_behind(NULL, 0, NULL, 0) == 0 && levelspruce_receiver_anew(NULL, 0, NULL, 0) == 0;
 
     held = held && levelspruce_receiver_heard(NULL, 0, bytes, 4) == 0 && bytes[0] == 0 && bytes[1] == 0 && bytes[2] == 0 && bytes[3] == 0;
+    held = held && levelspruce_receiver_cause(NULL, 0, bytes, 2) == 0 && bytes[0] == LEVELSPRUCE_CAUSE_NONE && bytes[1] == LEVELSPRUCE_CAUSE_NO_PORT;
     held = held && levelspruce_receiver_settings(NULL, 0, numbers, 4) == 0 && numbers[0] == 0 && numbers[1] == 0 && numbers[2] == 0 && numbers[3] == 0;
-    check("an empty group has no ports to read, nothing is heard, and its settings are zeros", held);
+    check("an empty group has no ports to read and no cause, nothing is heard, and its settings are zeros", held);
 }
 
 /* Tags from 0 on; port 1's frames come five frame times later, the greatest spread of W 32 is 16. Both ports start at MFI1 0. Port 0 is in
@@ -216,12 +228,77 @@ static void damaged(void)
     good[LEVELSPRUCE_SEEN_RS_ACK] = ack_of(6);
     check("a damaged packet is seen with 5 and nothing else of it", held && seen_is(0, refused) && seen_is(1, good));
     check("and the lowest port whose packet is good is heard", heard_is(1, 6, mst_of(6), ack_of(6)));
-    held = runs(109, 125, 5, both, COUNT(both)) && fetched(LEVELSPRUCE_MARK_HELD, 7);
+    held = runs(109, 125, 5, both, COUNT(both)) && cause_is(LEVELSPRUCE_CAUSE_REFUSED, 0) && fetched(LEVELSPRUCE_MARK_HELD, 7);
     check("where every packet is damaged nothing is heard", held && seen_is(0, refused) && seen_is(1, refused) && heard_is(0, 0, 0, 0));
     held = runs(125, 141, 5, NULL, 0) && fetched(LEVELSPRUCE_MARK_HELD, 8) && heard_is(1, 8, mst_of(8), ack_of(8));
     check("and after the next report that one's epoch is heard, held as it is", held);
     held = runs(141, 157, 5, NULL, 0) && fetched(LEVELSPRUCE_MARK_SURE, 9) && heard_is(1, 9, mst_of(9), ack_of(9));
     check("the one after it is sure", held);
+}
+
+/* What both ports' packets carry in every epoch, a bit of port 1's frame with tag 50 changed, or that port flagged from tag 60 on; and of
+ * epochs 4 and 5, whose reports come when tags 71 and 87 are here, cause and port. Both ports bring tags from 0 on: in step at 31, of epoch 2,
+ * so that epoch 3, tags 40 to 55, is gathered, and epoch 4, tags 56 to 71, is the first reported. */
+struct blame {
+    const char *what;
+    uint8_t word[PORTS], number[PORTS], gid[PORTS], damaged, flagged, cause[2], port[2];
+};
+
+static uint8_t blame_frame(const struct blame *b, uint32_t port, uint32_t tag)
+{
+    const uint8_t payload[P] = { 1, 2, 3 };
+    uint8_t h4[LEVELSPRUCE_PACKET_BYTES];
+
+    if (levelspruce_packet_write(epoch_of(tag), b->word[port], b->gid[port], 0, 0, b->number[port], 0, h4, sizeof h4) != 0)
+        return 255;
+    return levelspruce_receiver_frame(rows, ROWS, port, port == 1 && b->flagged && tag >= 60, (uint8_t)(h4[(tag + 8) % EPOCH] ^ (port == 1 && tag == 50 ? b->damaged : 0)),
+                                      payload, P, store, sizeof store);
+}
+
+static uint8_t mark_by(uint8_t cause)
+{
+    return cause == LEVELSPRUCE_CAUSE_NONE ? LEVELSPRUCE_MARK_SURE : cause < LEVELSPRUCE_CAUSE_UNSEEN ? LEVELSPRUCE_MARK_HELD : LEVELSPRUCE_MARK_DOUBTFUL;
+}
+
+static int blame_holds(const struct blame *b)
+{
+    uint32_t tag, port, report = 0;
+    int held = started();
+
+    for (tag = 0; tag < 88; tag++) {
+        for (port = 0; port < PORTS; port++) {
+            uint8_t answer = blame_frame(b, port, tag);
+
+            held = held && (answer == 0 || answer == 10 || answer == 12);
+        }
+        if (tag != 71 && tag != 87)
+            continue;
+        lend(&lent, &rows[0][0], sizeof rows);
+        held = held && cause_is(b->cause[report], b->port[report]) && memcmp(rows, lent_bytes(&lent), sizeof rows) == 0
+            && fetched(mark_by(b->cause[report]), 4 + report) && record[LEVELSPRUCE_REPORT_CAUSE] == b->cause[report];
+        report++;
+    }
+    return held && report == 2;
+}
+
+static void blamed(void)
+{
+    enum { NORM = LEVELSPRUCE_WORD_NORM, EOS = LEVELSPRUCE_WORD_EOS, NOBODY = LEVELSPRUCE_CAUSE_NO_PORT };
+    static const struct blame each[] = {
+        { "no cause and no port", { NORM, EOS }, { 0, 1 }, { 0, 0 }, 0, 0, { 0, 0 }, { NOBODY, NOBODY } },
+        { "a packet of port 1 refused", { NORM, EOS }, { 0, 1 }, { 0, 0 }, 0x10, 0, { 1, 0 }, { 1, NOBODY } },
+        { "port 1 lacks a frame, and has no whole packet then", { EOS, NORM }, { 1, 0 }, { 0, 0 }, 0, 1, { 2, 6 }, { 1, 1 } },
+        { "port 1 has the number of port 0", { EOS, NORM }, { 0, 0 }, { 0, 0 }, 0, 0, { 3, 3 }, { 1, 1 } },
+        { "port 1 has another GID", { NORM, EOS }, { 0, 1 }, { 0, 1 }, 0, 0, { 4, 4 }, { 1, 1 } },
+        { "port 0 has EOS and is not the highest", { EOS, NORM }, { 0, 1 }, { 0, 0 }, 0, 0, { 5, 5 }, { 0, 0 } },
+        { "port 1 is the highest and has no EOS", { NORM, NORM }, { 0, 1 }, { 0, 0 }, 0, 0, { 5, 5 }, { 1, 1 } },
+        { "numbers that are not 0 to 1 are no one port's", { NORM, EOS }, { 0, 2 }, { 0, 0 }, 0, 0, { 7, 7 }, { NOBODY, NOBODY } },
+    };
+    size_t i;
+
+    check("after a start no port has a whole packet, and port 0 is the lowest", started() && cause_is(LEVELSPRUCE_CAUSE_UNSEEN, 0));
+    for (i = 0; i < COUNT(each); i++)
+        check(each[i].what, blame_holds(&each[i]));
 }
 
 static uint8_t port_byte(uint32_t port, int which)
@@ -285,6 +362,7 @@ int main(void)
 {
     refusals();
     empty_group();
+    blamed();
     a_link();
     damaged();
     anew();

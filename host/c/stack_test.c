@@ -16,7 +16,7 @@ static uint8_t card[LEVELSPRUCE_CARD_BYTES], owned[LEVELSPRUCE_OWNED_BYTES];
 static uint8_t sender[LEVELSPRUCE_SENDER_BYTES], receiver[LEVELSPRUCE_RECEIVER_ROWS(PORTS)][LEVELSPRUCE_ROW_BYTES];
 static uint8_t h4[LEVELSPRUCE_PACKET_BYTES], bits[LEVELSPRUCE_PACKET_BYTES_VC12], frame[PORTS * P], member[PORTS * P], ports[PORTS][LEVELSPRUCE_PORT_BYTES];
 static uint8_t board[LEVELSPRUCE_BOARD_BYTES], list[LEVELSPRUCE_CHANGES_BYTES], ranks[LEVELSPRUCE_RANKS_BYTES], reply[LEVELSPRUCE_REPLY_BYTES];
-static uint8_t seen[PORTS][LEVELSPRUCE_SEEN_BYTES], heard[LEVELSPRUCE_HEARD_BYTES];
+static uint8_t seen[PORTS][LEVELSPRUCE_SEEN_BYTES], cause[LEVELSPRUCE_CAUSE_BYTES], heard[LEVELSPRUCE_HEARD_BYTES];
 static uint8_t fields[LEVELSPRUCE_FIELDS_BYTES], report[LEVELSPRUCE_REPORT_BYTES];
 static uint8_t store[LEVELSPRUCE_STORE_BYTES(PORTS, P, W)], out[LEVELSPRUCE_OUTPUT_BYTES(PORTS, P)];
 static unsigned answers; /* all of them, so that none is left out */
@@ -151,6 +151,7 @@ static void receiving_as(uint32_t kind)
     answers |= levelspruce_receiver_ports((const uint8_t(*)[LEVELSPRUCE_ROW_BYTES])receiver, LEVELSPRUCE_RECEIVER_ROWS(PORTS), ports, PORTS);
     answers |= levelspruce_receiver_reply((const uint8_t(*)[LEVELSPRUCE_ROW_BYTES])receiver, LEVELSPRUCE_RECEIVER_ROWS(PORTS), 0, reply, sizeof reply);
     answers |= levelspruce_receiver_seen((const uint8_t(*)[LEVELSPRUCE_ROW_BYTES])receiver, LEVELSPRUCE_RECEIVER_ROWS(PORTS), seen, PORTS);
+    answers |= levelspruce_receiver_cause((const uint8_t(*)[LEVELSPRUCE_ROW_BYTES])receiver, LEVELSPRUCE_RECEIVER_ROWS(PORTS), cause, sizeof cause);
     answers |= levelspruce_receiver_heard((const uint8_t(*)[LEVELSPRUCE_ROW_BYTES])receiver, LEVELSPRUCE_RECEIVER_ROWS(PORTS), heard, sizeof heard);
     answers |= levelspruce_receiver_behind((const uint8_t(*)[LEVELSPRUCE_ROW_BYTES])receiver, LEVELSPRUCE_RECEIVER_ROWS(PORTS), times, PORTS);
     answers |= levelspruce_receiver_settings((const uint8_t(*)[LEVELSPRUCE_ROW_BYTES])receiver, LEVELSPRUCE_RECEIVER_ROWS(PORTS), times, LEVELSPRUCE_SETTINGS);

@@ -106,6 +106,7 @@ extern "C" {
     fn levelspruce_receiver_ports(state: *const Row, state_length: usize, ports: *mut [u8; 8], ports_length: usize) -> u8;
     fn levelspruce_receiver_reply(state: *const Row, state_length: usize, epoch: u8, reply: *mut u8, reply_length: usize) -> u8;
     fn levelspruce_receiver_seen(state: *const Row, state_length: usize, seen: *mut [u8; 10], seen_length: usize) -> u8;
+    fn levelspruce_receiver_cause(state: *const Row, state_length: usize, cause: *mut u8, cause_length: usize) -> u8;
     fn levelspruce_receiver_heard(state: *const Row, state_length: usize, heard: *mut u8, heard_length: usize) -> u8;
     fn levelspruce_receiver_behind(state: *const Row, state_length: usize, behind: *mut u32, behind_length: usize) -> u8;
     fn levelspruce_receiver_anew(state: *mut Row, state_length: usize, store: *const u8, store_length: usize) -> u8;
@@ -370,6 +371,10 @@ pub fn receiver_reply(state: &[Row], epoch: u8, reply: &mut [u8]) -> u8 {
 
 pub fn receiver_seen(state: &[Row], seen: &mut [[u8; 10]]) -> u8 {
     unsafe { levelspruce_receiver_seen(state.as_ptr(), state.len(), seen.as_mut_ptr(), seen.len()) }
+}
+
+pub fn receiver_cause(state: &[Row], cause: &mut [u8]) -> u8 {
+    unsafe { levelspruce_receiver_cause(state.as_ptr(), state.len(), cause.as_mut_ptr(), cause.len()) }
 }
 
 pub fn receiver_heard(state: &[Row], heard: &mut [u8]) -> u8 {

@@ -405,6 +405,7 @@ pub fn compare(count: &mut Count, hosts: u64) {
     count.note("all that is read of a receiver beside its ports comes to pass there", reads);
     count.note("all that can happen to a receiver happens there", events && steps && waits && seen.marks.iter().all(|times| *times > 200));
     count.note("reports of each cause come up", seen.causes.iter().all(|times| *times > 0));
+    count.note("by each cause that blames a port one above the first comes up", read.blamed[1..7].iter().all(|times| *times > 0));
 
     let mut seen = Seen::default();
     let mut tests = Tests { frames: Test::new("frames on states that no call wrote"), fetches: Test::new("fetches from such states") };

@@ -255,7 +255,7 @@ static void read_out(struct lent *l, struct program *g)
     stands(state, 0, "reading out changed the state");
 }
 
-/* What it saw, what the far end says, how far ports lie behind, and its settings. */
+/* What it saw, why the next report is not sure, what the far end says, how far ports lie behind, and its settings. */
 static void read_more(struct lent *l, struct program *g)
 {
     static const struct kept nothing;
@@ -266,6 +266,16 @@ static void read_more(struct lent *l, struct program *g)
     if (answer != 0 && answer != 9)
         fail("an answer that what was seen does not have");
     stands(result, answer == 0 ? result.length : 0, "refused packets were written");
+    result = lend(RESULT, nothing, about(g, LEVELSPRUCE_CAUSE_BYTES));
+    answer = levelspruce_receiver_cause(rows, state.length / 16, result.bytes, result.length);
+    if (answer != 0 && answer != 9)
+        fail("an answer that a cause does not have");
+    stands(result, answer == 0 ? result.length : 0, "a refused cause was written");
+    /* a port is named by the causes 1 to 6, and by no other */
+    if (answer == 0 && (result.bytes[0] > LEVELSPRUCE_CAUSE_NUMBERS
+                        || (result.bytes[1] == LEVELSPRUCE_CAUSE_NO_PORT) != (result.bytes[0] == LEVELSPRUCE_CAUSE_NONE || result.bytes[0] == LEVELSPRUCE_CAUSE_NUMBERS)
+                        || (result.bytes[1] != LEVELSPRUCE_CAUSE_NO_PORT && result.bytes[1] >= LEVELSPRUCE_PORTS_MOST)))
+        fail("a cause that there is not, or a port that is not its");
     result = lend(RESULT, nothing, about(g, LEVELSPRUCE_HEARD_BYTES));
     answer = levelspruce_receiver_heard(rows, state.length / 16, result.bytes, result.length);
     if (answer != 0 && answer != 9)

@@ -1,5 +1,5 @@
-// What the receiver says of itself, for C: what it saw, what the far end says, how far each port lies behind, its settings; and receiving begun
-// anew. The sender's settings stand beside them.
+// What the receiver says of itself, for C: what it saw, why the next report is held or doubtful, what the far end says, how far each port lies
+// behind, its settings; and receiving begun anew. The sender's settings stand beside them.
 use crate::keeping;
 use crate::keeping::SENDER_BYTES;
 use packet::kinds;
@@ -8,6 +8,7 @@ ghost use mathlib.Core.Path.{_≡_};
 ghost use lib.ListN.{length};
 ghost use Rattle.receiver.specs.Anew.{anewAnswer, anewRows};
 ghost use Rattle.receiver.specs.Behind.{behindAnswer, behindOut};
+ghost use Rattle.receiver.specs.Cause.{causeAnswer, causeOut};
 ghost use Rattle.receiver.specs.Heard.{heardAnswer, heardOut};
 ghost use Rattle.receiver.specs.Seen.{seenAnswer, seenOut};
 ghost use Rattle.receiver.specs.Settings.{settingsAnswer, settingsOut};
@@ -21,6 +22,14 @@ pub extern "C" fn levelspruce_receiver_seen(state: &[[u8; 16]], seen: &mut [[u8;
         × (now (seen .exit) ≡ seenOut (now (state .entry)) (now (seen .entry))) ⌝ }
 {
     receiver::seen(state, seen)
+}
+
+#[no_mangle]
+pub extern "C" fn levelspruce_receiver_cause(state: &[[u8; 16]], cause: &mut [u8]) -> u8
+    ensures { λ r. ⌜ (r ≡ causeAnswer (now (state .entry)) (length (now (cause .entry))))
+        × (now (cause .exit) ≡ causeOut (now (state .entry)) (now (cause .entry))) ⌝ }
+{
+    receiver::cause(state, cause)
 }
 
 #[no_mangle]

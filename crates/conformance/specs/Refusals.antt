@@ -100,6 +100,7 @@ entries =
     ∷ row "receiver::ports" receiver.ports receiver.ports-copes
     ∷ row "receiver::reply" receiver.reply receiver.reply-copes
     ∷ row "receiver::seen" seeing.seen seeing.seen-copes
+    ∷ row "receiver::cause" seeing.cause seeing.cause-copes
     ∷ row "receiver::heard" seeing.heard seeing.heard-copes
     ∷ row "receiver::behind" seeing.behind seeing.behind-copes
     ∷ row "receiver::anew" seeing.anew seeing.anew-copes
@@ -166,6 +167,7 @@ entries =
     ∷ row "levelspruce_receiver_ports" receiver.ports receiver.ports-copes
     ∷ row "levelspruce_receiver_reply" receiver.reply receiver.reply-copes
     ∷ row "levelspruce_receiver_seen" seeing.seen seeing.seen-copes
+    ∷ row "levelspruce_receiver_cause" seeing.cause seeing.cause-copes
     ∷ row "levelspruce_receiver_heard" seeing.heard seeing.heard-copes
     ∷ row "levelspruce_receiver_behind" seeing.behind seeing.behind-copes
     ∷ row "levelspruce_receiver_anew" seeing.anew seeing.anew-copes

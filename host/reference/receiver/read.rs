@@ -1,12 +1,24 @@
-//! What the receiver says of itself: what it saw, what the far end says, how far each port lies behind, and its settings; and receiving
+//! What the receiver says of itself: what it saw, why the next report is not sure, what the far end says, how far each port lies behind, and its settings; and receiving
 //! begun anew. Plain, and on rows.
 
 use super::rows::{self, fit, Row};
-use super::{Port, Receiver, KIND_FIXED, KIND_VC12};
+use super::{is_active, is_numbered, Port, Receiver, EOS, IDLE, KIND_FIXED, KIND_VC12};
+use super::{CAUSE_EOS, CAUSE_GID, CAUSE_LACKING, CAUSE_REFUSED, CAUSE_REPEATED, CAUSE_UNSEEN};
 use crate::packet;
 
 /// What stands for a port that is not in step.
 pub const BEHIND_NONE: u32 = 65535;
+
+/// What stands for no port.
+pub const NOBODY: u8 = 255;
+
+/// A port's good packet: the port, word, GID and number.
+type Good = (usize, u8, u8, u8);
+
+/// The lowest of some ports that is unlike, or like, one below it.
+fn lowest_beside(ports: &[&Good], beside: impl Fn(&Good, &Good) -> bool) -> Option<usize> {
+    ports.iter().enumerate().find(|(k, port)| ports[..*k].iter().any(|below| beside(below, port))).map(|(_, port)| port.0)
+}
 
 /// A packet as its kind reads it: the answer and, under 0, epoch, word, GID, MST, RS-Ack and number.
 fn reading(kind: u32, nibbles: &[u8; 16]) -> (u8, [u8; 6]) {
@@ -40,6 +52,32 @@ impl Receiver {
             [1, answer, self.carries_other(port).into(), epoch, word, number, gid, mst, rs_ack, here]
         };
         self.ports.iter().map(seen).collect()
+    }
+
+    /// The clause that would decide the next report, and which port is to blame (docs/DECISIONS.md, D-9.11).
+    pub fn cause(&self) -> [u8; 2] {
+        let (cause, _, _) = self.judge();
+        let whole = self.whole();
+        let good: Vec<Good> = whole.iter().filter_map(|(i, packet)| packet.map(|(word, gid, number)| (*i, word, gid, number))).collect();
+        // each port of a fixed group is a member, by whatever number
+        let member = |word: u8, with: fn(u8) -> bool| self.kind == KIND_FIXED || with(word);
+        let active: Vec<&Good> = good.iter().filter(|g| member(g.1, is_active)).collect();
+        let numbered: Vec<&Good> = good.iter().filter(|g| member(g.1, is_numbered)).collect();
+        let not_idle: Vec<&Good> = good.iter().filter(|g| g.1 != IDLE).collect();
+        let highest = active.iter().map(|g| g.3).max();
+        let blamed = match cause {
+            CAUSE_REFUSED => whole.iter().find(|(_, packet)| packet.is_none()).map(|(i, _)| *i),
+            CAUSE_LACKING => active.iter().map(|g| g.0).find(|i| !self.ports[*i].brought()),
+            // "the one whose number a lower port has already"
+            CAUSE_REPEATED => lowest_beside(&numbered, |below, port| below.3 == port.3),
+            // "the one that is not as a lower port's"
+            CAUSE_GID => lowest_beside(&not_idle, |below, port| below.2 != port.2),
+            // "the lowest that has it and is not the highest, or is the highest and has none"
+            CAUSE_EOS => active.iter().find(|g| (g.1 == EOS) != (Some(g.3) == highest)).map(|g| g.0),
+            CAUSE_UNSEEN => self.ports.iter().position(|p| !p.whole.is_set()),
+            _ => None,
+        };
+        [cause, blamed.map_or(NOBODY, |i| i as u8)]
     }
 
     /// "1, and epoch, MST and RS-Ack of the lowest port whose ruling packet is whole and good; or 0 0 0 0"
@@ -95,6 +133,10 @@ fn fitting(rows: &[Row]) -> Result<Receiver, u8> {
 
 pub fn seen(rows: &[Row]) -> Result<Vec<[u8; 10]>, u8> {
     fitting(rows).map(|r| r.seen())
+}
+
+pub fn cause(rows: &[Row]) -> Result<[u8; 2], u8> {
+    fitting(rows).map(|r| r.cause())
 }
 
 pub fn heard(rows: &[Row]) -> Result<[u8; 4], u8> {

@@ -1,4 +1,4 @@
--- What the host reads of a receiver beside ports and reply, by rows worked out apart: what it saw, what the far end says, how far ports lie behind, its settings, and receiving begun anew. With wrong readings, and rows on which each breaks.
+-- What the host reads of a receiver beside ports and reply, by rows worked out apart: what it saw, why the next report is held, what the far end says, how far ports lie behind, its settings, and receiving begun anew. With wrong readings, and rows on which each breaks.
 use mathlib.Core.Path.{_≡_, refl}
 use mathlib.Core.List.{List, [], _∷_}
 use Prim.Native.Nat.{ℕ}
@@ -7,6 +7,7 @@ use Rattle.counting.specs.Words.{the}
 use Rattle.packet.specs.Kinds.{distanceOf}
 use Rattle.phases.specs.Beginning.{foremost, latest}
 use Rattle.receiver.specs.Behind.{behindAnswer, behindOut}
+use Rattle.receiver.specs.Cause.{causeAnswer, causeOut}
 use Rattle.receiver.specs.Heard.{goodAt, heardAnswer, heardOut, saidAt}
 use Rattle.receiver.specs.Seen.{seenAnswer, seenOut}
 use Rattle.receiver.specs.Settings.{settingsAnswer, settingsOut}
@@ -120,6 +121,37 @@ fixed-seen :
     × (heardOut (seven 2) (9 ∷ 9 ∷ 9 ∷ 9 ∷ []) ≡ 1 ∷ 5 ∷ 0 ∷ 0 ∷ [])
 unfolding allOpen
 fixed-seen = (refl, refl, refl)
+
+-- Why, and the lowest port to which it applies. Of the seven the first was refused; of a fixed group the last has no whole packet, which comes first there.
+cause :
+    (causeOut (seven 0) (9 ∷ 9 ∷ []) ≡ 1 ∷ 0 ∷ [])
+    × (causeOut (seven 2) (9 ∷ 9 ∷ []) ≡ 6 ∷ 6 ∷ [])
+    × (causeAnswer (seven 0) 2 ≡ 0)
+    × (causeAnswer (seven 0) 1 ≡ 9)
+    × (causeOut (seven 0) (9 ∷ []) ≡ 9 ∷ [])
+    × (causeOut [] (9 ∷ 9 ∷ []) ≡ 0 ∷ 255 ∷ [])
+unfolding allOpen
+cause = (refl, refl, refl, refl, refl, refl)
+
+-- a port alone, and one beside a first with EOS 9 under GID 0, all of whose frames are here
+abbrev one : (ruling : List ℕ) → List (List ℕ)
+one ruling = port 0 (step 32 0 1) ruling 1 (putGroup (replicate 6 (replicate 16 8)) (group 0 1 64 6))
+
+abbrev second : (ruling : List ℕ) (whole here : ℕ) → List (List ℕ)
+second ruling whole here = port 0 (step 32 0 1) eos 1 (port 1 (step 32 0 whole) ruling here (putGroup (replicate 11 (replicate 16 8)) (group 0 2 64 6)))
+
+-- Each clause by itself. The second port was refused; lacks a frame of its NORM 3; has 9 too; has GID 1 beside 0; has no whole packet. NORM 3 alone is the
+-- highest and no EOS. EOS 9 alone is not 0 to n-1, which is no one port's.
+each-cause :
+    (causeOut (second wrong 1 1) (9 ∷ 9 ∷ []) ≡ 1 ∷ 1 ∷ [])
+    × (causeOut (second norm 1 0) (9 ∷ 9 ∷ []) ≡ 2 ∷ 1 ∷ [])
+    × (causeOut (second eos 1 1) (9 ∷ 9 ∷ []) ≡ 3 ∷ 1 ∷ [])
+    × (causeOut (second norm 1 1) (9 ∷ 9 ∷ []) ≡ 4 ∷ 1 ∷ [])
+    × (causeOut (one norm) (9 ∷ 9 ∷ []) ≡ 5 ∷ 0 ∷ [])
+    × (causeOut (second norm 0 1) (9 ∷ 9 ∷ []) ≡ 6 ∷ 1 ∷ [])
+    × (causeOut (one eos) (9 ∷ 9 ∷ []) ≡ 7 ∷ 255 ∷ [])
+unfolding allOpen
+each-cause = (refl, refl, refl, refl, refl, refl, refl)
 
 -- The fourth port is the lowest whose packet is good.
 heard :

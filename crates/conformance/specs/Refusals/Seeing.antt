@@ -14,6 +14,7 @@ use Rattle.packet.specs.Kinds.{frames, tags}
 use Rattle.phases.specs.Sizes.{knownKind, portsIn, sized, storeFor}
 use Rattle.receiver.specs.Anew.{anewAnswer, anewFits, anewRows}
 use Rattle.receiver.specs.Behind.{behindAnswer, behindOut}
+use Rattle.receiver.specs.Cause.{causeAnswer, causeFit, causeOut}
 use Rattle.receiver.specs.Heard.{heardAnswer, heardFit, heardOut}
 use Rattle.receiver.specs.Lengths.{rowsFit}
 use Rattle.receiver.specs.Seen.{seenAnswer, seenOut}
@@ -30,6 +31,15 @@ seen (state, out) =
 pub seen-copes : (x : List (List ℕ) × List (List ℕ)) → Copes (seen x)
 unfolding seenAnswer seenOut shownFit rowsFit portsIn knownKind sized frames tags
 seen-copes (state, out) = copes _ (λ l. rw l, λ l. rw l (refl, refl, refl))
+
+abbrev pub cause : List (List ℕ) × List ℕ → Call
+cause (state, out) =
+    stateless (Unless 9 (rowsOf (portsOf (groupAt state)) (length state) && length out == 2) ∷ [])
+    (causeAnswer state (length out)) (out ∷ []) (causeOut state out ∷ [])
+
+pub cause-copes : (x : List (List ℕ) × List ℕ) → Copes (cause x)
+unfolding causeAnswer causeOut causeFit rowsFit portsIn knownKind sized frames tags
+cause-copes (state, out) = copes _ (λ l. rw l, λ l. rw l (refl, refl, refl))
 
 abbrev pub heard : List (List ℕ) × List ℕ → Call
 heard (state, out) =
