@@ -1226,7 +1226,7 @@ uint8_t levelspruce_board_speak_whole(const uint8_t *board, size_t board_length,
  * all but HERE are 0; where its answer is not 0, EPOCH to RS_ACK are 0. Of a
  * fixed group GID, MST and RS_ACK are 0. */
 #define LEVELSPRUCE_SEEN_WHOLE 0  /* 1 where all frames of the packet came */
-#define LEVELSPRUCE_SEEN_ANSWER 1 /* 0, 5, 6 or 7, as of levelspruce_packet_read */
+#define LEVELSPRUCE_SEEN_ANSWER 1 /* 0, 5, 6 or 7, as of reading a packet of its kind */
 #define LEVELSPRUCE_SEEN_OTHER 2  /* 1 where it carries another MFI2 than the receiver's own count; the packet is then judged as one with 5; 0 of VC-12, whose step rule has the count */
 #define LEVELSPRUCE_SEEN_EPOCH 3  /* the epoch that it carries */
 #define LEVELSPRUCE_SEEN_WORD 4
@@ -1381,8 +1381,8 @@ uint8_t levelspruce_receiver_frame(uint8_t (*state)[LEVELSPRUCE_ROW_BYTES],
                                    size_t store_length);
 
 /*
- * Fetches the next report, if one is due. Each report is given once, in the
- * order of epochs.
+ * Fetches the next report, if one is due. From a beginning until receiving
+ * stops each report is given once, in the order of epochs.
  *
  *   store    the store, which is only read
  *   out      at least LEVELSPRUCE_OUTPUT_BYTES(ports, payload) bytes, of VC-12
@@ -1495,9 +1495,12 @@ uint8_t levelspruce_receiver_cause(const uint8_t (*state)[LEVELSPRUCE_ROW_BYTES]
  * epoch just reported, its MST and its RS-Ack, from the lowest port whose
  * packet came whole and good; or four zeros where there is none. Hand it to
  * levelspruce_sender_report, or levelspruce_card_report, of the sender that
- * sends the other way. Reports come once and in order, so an RS-Ack from before
- * a turn never comes after it. Of VC-12 the epoch is 0 to 31, and MST speaks of
- * the numbers 8 * (epoch % 8) to that plus 7.
+ * sends the other way. From a beginning until receiving stops, reports come
+ * once and in order, so an RS-Ack from before a turn does not come after it.
+ * Where receiving begins anew on slower lines alone, epochs can come once more,
+ * with the RS-Ack of then. Of VC-12 the epoch is 0 to 31, and MST speaks of the
+ * numbers 8 * (epoch % 8) to that plus 7. Of a fixed group MST and RS-Ack are 0
+ * and say nothing: hand nothing on.
  *
  *   heard   LEVELSPRUCE_HEARD_BYTES bytes, by the LEVELSPRUCE_HEARD_ places
  *

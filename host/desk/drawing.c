@@ -16,6 +16,7 @@ struct fields {
 /* Lines that are alike: the first of them, how many there are, the last one's epoch and line, and from each line to the next how many. */
 static struct {
     struct fields first;
+    uint8_t cause[LEVELSPRUCE_CAUSE_BYTES];
     unsigned long count, epoch, line, apart;
 } run;
 
@@ -57,10 +58,12 @@ static int follows(unsigned long epoch, unsigned long before)
 }
 
 /* Whether the line belongs to the run. */
-static int is_alike(const struct fields *next)
+static int is_alike(const struct fields *next, const uint8_t *cause)
 {
     unsigned long line;
 
+    if (memcmp(cause, run.cause, sizeof run.cause) != 0)
+        return 0;
     if (run.count == 0 || next->line == 0 || next->line != run.first.line || next->epoch != run.first.epoch || next->count != run.first.count)
         return 0;
     for (size_t i = 0; i < next->count; i++)
@@ -76,6 +79,15 @@ static int is_alike(const struct fields *next)
 static const char *words(const struct fields *refusal)
 {
     return number(refusal->field[1]) == LEVELSPRUCE_ANSWER_LINE ? "malformed" : "settings out of range";
+}
+
+/* Why reports are not sure, behind all that the replay prints of them. */
+static void print_cause(void)
+{
+    if (run.cause[LEVELSPRUCE_CAUSE_CLAUSE] != LEVELSPRUCE_CAUSE_NONE)
+        printf("\tcause\t%s", levelspruce_cause_text(run.cause[LEVELSPRUCE_CAUSE_CLAUSE]));
+    if (run.cause[LEVELSPRUCE_CAUSE_PORT] != LEVELSPRUCE_CAUSE_NO_PORT)
+        printf("\tport\t%d", run.cause[LEVELSPRUCE_CAUSE_PORT]);
 }
 
 static void print_run(void)
@@ -100,19 +112,28 @@ static void print_run(void)
         printf("\tcount\t%lu", run.count);
     if (run.count > 0 && strcmp(first->field[0], "answer") == 0)
         printf("\t%s", words(first));
-    if (run.count > 0)
+    if (run.count > 0) {
+        print_cause();
         putchar('\n');
+    }
     run.count = 0;
 }
 
-static void count(const struct fields *fields)
+static int is_mark(const char *field, uint32_t mark)
+{
+    return strcmp(field, levelspruce_mark_name(mark)) == 0;
+}
+
+static void count(const struct fields *fields, uint8_t cause)
 {
     if (fields->epoch != 0 && fields->count > 2) {
-        const char *mark = fields->field[2];
+        int doubtful = is_mark(fields->field[2], LEVELSPRUCE_MARK_DOUBTFUL), held = is_mark(fields->field[2], LEVELSPRUCE_MARK_HELD);
 
-        counts.sure += strcmp(mark, levelspruce_mark_name(LEVELSPRUCE_MARK_SURE)) == 0;
-        counts.doubtful += strcmp(mark, levelspruce_mark_name(LEVELSPRUCE_MARK_DOUBTFUL)) == 0;
-        counts.held += strcmp(mark, levelspruce_mark_name(LEVELSPRUCE_MARK_HELD)) == 0;
+        counts.sure += is_mark(fields->field[2], LEVELSPRUCE_MARK_SURE);
+        counts.doubtful += doubtful;
+        counts.held += held;
+        counts.doubtful_by[cause % CAUSES] += doubtful;
+        counts.held_by[cause % CAUSES] += held;
     } else if (strcmp(fields->field[0], "answer") == 0) {
         counts.refused++;
         counts.malformed += number(fields->field[1]) == LEVELSPRUCE_ANSWER_LINE;
@@ -121,15 +142,16 @@ static void count(const struct fields *fields)
     }
 }
 
-void draw(const char *line, size_t length)
+void draw(const char *line, size_t length, const uint8_t *cause)
 {
     static struct fields next;
 
     part(&next, line, length);
-    count(&next);
-    if (!is_alike(&next)) {
+    count(&next, cause[LEVELSPRUCE_CAUSE_CLAUSE]);
+    if (!is_alike(&next, cause)) {
         print_run();
         part(&run.first, line, length);
+        memcpy(run.cause, cause, sizeof run.cause);
         run.apart = 0;
     } else {
         run.apart = number(next.field[next.line]) - run.line;

@@ -2,13 +2,14 @@
  * desk FILE..: runs a recording again (docs/MANUAL.md, 'At the desk'), whose parts are these files in order, - being standard input. It lends
  * what the first line asks for, prints what the receiver reports, and draws together what is alike:
  *
- *   epoch   24  held  bytes  0     line   1153
+ *   epoch   24  held  bytes  0     line   1153  cause  an active port lacks a frame  port  1
  *   epochs  25  to  60  sure  bytes  1024  lines  1185  to  2305  count  36
  *   port    1   FAIL  1
  *   answer  13  line  77  malformed
  *
  * A line with a count stands for so many, whose epochs follow one another and whose lines lie evenly from the first to the last. At the
- * end it says how many epochs were sure, doubtful and held, how often each port changed, and how many lines were malformed.
+ * end it says how many epochs were sure, doubtful and held, and by which cause, how often each port changed, and how many lines were
+ * malformed.
  *
  * Fields are parted by tabs. Status 0; 1 where a line was refused; 2 for a file that cannot be read, or an output that cannot be written.
  */
@@ -30,6 +31,10 @@ static uint8_t replay[LEVELSPRUCE_REPLAY_BYTES], rows[LEVELSPRUCE_RECEIVER_ROWS(
 static uint8_t *store, *out, said[LEVELSPRUCE_REPLAY_ROOM];
 static size_t store_length, out_length;
 static int begun;
+
+/* The rows as the turn was lent them: what its report went by. */
+static uint8_t before[LEVELSPRUCE_RECEIVER_ROWS(LEVELSPRUCE_PORTS_MOST)][LEVELSPRUCE_ROW_BYTES];
+static size_t ports = 1; /* the group's, when a report has come */
 
 /* Ends the program where it cannot go on. */
 static void stop(const char *why, const char *name)
@@ -62,13 +67,30 @@ static void begin(void)
     begun = 1;
 }
 
+/* Why the report that the turn gave is not sure. The group has as many ports as its rows are asked for. */
+static void read_cause(uint8_t *cause)
+{
+    while (levelspruce_receiver_cause((const uint8_t(*)[LEVELSPRUCE_ROW_BYTES])before, LEVELSPRUCE_RECEIVER_ROWS(ports), cause, LEVELSPRUCE_CAUSE_BYTES)
+           != LEVELSPRUCE_ANSWER_DONE)
+        if (++ports > LEVELSPRUCE_PORTS_MOST)
+            stop("the cause of a report was refused", NULL);
+}
+
+/* The lines of one turn. A turn gives one report at most, and its line is the first. */
 static void take(const uint8_t *lines, size_t written)
 {
+    static const uint8_t none[LEVELSPRUCE_CAUSE_BYTES] = { LEVELSPRUCE_CAUSE_NONE, LEVELSPRUCE_CAUSE_NO_PORT };
+    static const char report[] = "epoch\t";
     const uint8_t *end = lines + written, *next;
 
     for (; lines < end; lines = next + 1) {
+        uint8_t cause[LEVELSPRUCE_CAUSE_BYTES];
+
         next = memchr(lines, '\n', (size_t)(end - lines));
-        draw((const char *)lines, (size_t)(next - lines));
+        memcpy(cause, none, sizeof cause);
+        if (strncmp((const char *)lines, report, sizeof report - 1) == 0)
+            read_cause(cause);
+        draw((const char *)lines, (size_t)(next - lines), cause);
     }
 }
 
@@ -79,6 +101,7 @@ static void run_text(uint32_t last)
     uint8_t wants = 0;
 
     while (!wants) {
+        memcpy(before, rows, sizeof before);
         if (levelspruce_replay_turn(replay, sizeof replay, text, length, &at, last, rows, sizeof rows / sizeof *rows, store, store_length,
                                     out, out_length, said, sizeof said, &written, &wants)
             != LEVELSPRUCE_ANSWER_DONE)
@@ -110,9 +133,19 @@ static void run_part(const char *name)
         stop("cannot read the file", name);
 }
 
+static void print_mark(const char *mark, unsigned long many, const unsigned long *by_cause)
+{
+    printf("%s\t%lu\n", mark, many);
+    for (uint32_t cause = 0; cause < CAUSES; cause++)
+        if (by_cause[cause] > 0)
+            printf("%s\tcause\t%s\t%lu\n", mark, levelspruce_cause_text(cause), by_cause[cause]);
+}
+
 static void print_counts(const struct counts *counts)
 {
-    printf("sure\t%lu\ndoubtful\t%lu\nheld\t%lu\n", counts->sure, counts->doubtful, counts->held);
+    printf("sure\t%lu\n", counts->sure);
+    print_mark("doubtful", counts->doubtful, counts->doubtful_by);
+    print_mark("held", counts->held, counts->held_by);
     for (size_t port = 0; port < LEVELSPRUCE_PORTS_MOST; port++)
         if (counts->changes[port] > 0)
             printf("port\t%lu\tchanges\t%lu\n", (unsigned long)port, counts->changes[port]);

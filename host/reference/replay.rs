@@ -33,6 +33,10 @@ pub trait Receives: Sized {
     fn frame(&mut self, port: u32, flagged: bool, h4: u8, payload: &[u8], store: &mut [u8]) -> u8;
     fn fetch(&mut self, store: &[u8], output: &mut [u8]) -> (u8, Report);
     fn ports(&self) -> Vec<Shown>;
+    /// Cause and port of the report that a fetch would give, in a form that has them.
+    fn cause(&self) -> Option<[u8; 2]> {
+        None
+    }
 }
 
 impl Receives for Plain {
@@ -55,6 +59,10 @@ impl Receives for Plain {
 
     fn ports(&self) -> Vec<Shown> {
         self.ports()
+    }
+
+    fn cause(&self) -> Option<[u8; 2]> {
+        Some(self.cause())
     }
 }
 
@@ -202,10 +210,11 @@ pub(crate) fn frame(line: &[u8], ports: u32, payload: &mut [u8]) -> Option<(u32,
 
 impl<R: Receives> Group<R> {
     /// A frame handed once, then reports until none is due.
-    fn take(&mut self, frame: (u32, u8, bool), number: u64, said: &mut Vec<u8>) {
+    fn take(&mut self, frame: (u32, u8, bool), number: u64, said: &mut Vec<u8>, mut causes: Option<&mut Vec<[u8; 2]>>) {
         let (port, h4, flagged) = frame;
         self.receiver.frame(port, flagged, h4, &self.payload, &mut self.store);
         loop {
+            let cause = causes.as_ref().and_then(|_| self.receiver.cause());
             let (_, report) = self.receiver.fetch(&self.store, &mut self.output);
             let mark = match report.mark {
                 NONE_DUE => return,
@@ -214,6 +223,9 @@ impl<R: Receives> Group<R> {
                 _ => "sure",
             };
             said.extend(format!("epoch\t{}\t{}\tbytes\t{}\tline\t{}\n", report.epoch, mark, report.bytes, number).bytes());
+            if let Some(causes) = &mut causes {
+                causes.extend(cause);
+            }
             let now = states(&self.receiver);
             for (port, ((state, number), before)) in now.iter().zip(&self.states).enumerate() {
                 if (*state, *number) != *before {
@@ -241,11 +253,13 @@ pub struct Replay<R> {
     phase: Phase<R>,
     lines: u64,
     store_most: usize,
+    /// Of each report cause and port, where they are asked for.
+    causes: Option<Vec<[u8; 2]>>,
 }
 
 impl<R: Receives> Replay<R> {
     pub fn new(store_most: usize) -> Replay<R> {
-        Replay { phase: Phase::Settings, lines: 0, store_most }
+        Replay { phase: Phase::Settings, lines: 0, store_most, causes: None }
     }
 
     /// One line, without its end; what is printed is put behind what was said.
@@ -262,7 +276,7 @@ impl<R: Receives> Replay<R> {
                 }
             },
             Phase::Running(group) => match frame(line, group.ports, &mut group.payload) {
-                Some(frame) => group.take(frame, number, said),
+                Some(frame) => group.take(frame, number, said, self.causes.as_mut()),
                 None => refuse(MALFORMED),
             },
             Phase::Ended => {}
@@ -270,12 +284,22 @@ impl<R: Receives> Replay<R> {
     }
 }
 
-/// The whole output of a recording, whose last line may lack its end.
-pub fn whole<R: Receives>(recording: &[u8], store_most: usize) -> Vec<u8> {
-    let mut replay = Replay::<R>::new(store_most);
+fn run<R: Receives>(mut replay: Replay<R>, recording: &[u8]) -> (Vec<u8>, Replay<R>) {
     let mut said = Vec::new();
     for line in recording.split_inclusive(|b| *b == b'\n') {
         replay.line(line.strip_suffix(b"\n").unwrap_or(line), &mut said);
     }
-    said
+    (said, replay)
+}
+
+/// The whole output of a recording, whose last line may lack its end.
+pub fn whole<R: Receives>(recording: &[u8], store_most: usize) -> Vec<u8> {
+    run(Replay::<R>::new(store_most), recording).0
+}
+
+/// The same, and of each report its cause and the port to blame.
+pub fn whole_and_causes(recording: &[u8], store_most: usize) -> (Vec<u8>, Vec<[u8; 2]>) {
+    let replay = Replay::<Plain> { causes: Some(Vec::new()), ..Replay::new(store_most) };
+    let (said, replay) = run(replay, recording);
+    (said, replay.causes.unwrap_or_default())
 }

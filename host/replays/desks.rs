@@ -1,9 +1,9 @@
 //! The program for a desk beside the reference and beside the replay program: what it draws together, spread out again, is what they
-//! print, and its counts are those of these lines.
+//! print, but for the cause and the port behind the line of a report that is not sure; and its counts are those of these lines.
 
 use crate::Count;
-use reference::receiver::Receiver as Plain;
-use reference::replay::whole;
+use reference::receiver::read::NOBODY;
+use reference::replay::whole_and_causes;
 use std::collections::BTreeMap;
 use std::process::Command;
 
@@ -12,6 +12,37 @@ const STORE_MOST: usize = 64 * 2048 * 2341;
 
 fn number(field: &str) -> u64 {
     field.parse().expect("a number")
+}
+
+/// The causes in words, by their numbers.
+const CAUSES: [&str; 8] = [
+    "none",
+    "a ruling packet was refused",
+    "an active port lacks a frame",
+    "numbers of active and DNU ports repeat",
+    "GID differs among ports that are not IDLE",
+    "EOS is not on the highest active port alone",
+    "a port has no whole ruling packet",
+    "the numbers are not 0 to n - 1",
+];
+
+/// A cause and its port, as they stand behind a line.
+fn words_of(why: [u8; 2]) -> String {
+    let port = if why[1] == NOBODY { String::new() } else { format!("\tport\t{}", why[1]) };
+    format!("cause\t{}{}", CAUSES[usize::from(why[0])], port)
+}
+
+/// What stands behind a line from the word 'cause' on, and the line without it.
+fn part_cause(line: &str) -> (&str, Option<&str>) {
+    match line.find("\tcause\t") {
+        Some(at) => (&line[..at], Some(&line[at + 1..])),
+        None => (line, None),
+    }
+}
+
+/// A report that is not sure says why, and no other line does.
+fn says_why(line: &str) -> bool {
+    line.starts_with("epoch\t") && line.split('\t').nth(2) != Some("sure")
 }
 
 /// One line, spread out; epochs are counted up to so many.
@@ -48,24 +79,39 @@ fn spread_line(line: &str, epochs: u64) -> Vec<String> {
         .collect()
 }
 
+/// How many reports have a mark, and those that are not sure by their cause.
+fn counts_of_mark(lines: &[(String, Option<String>)], mark: &str) -> String {
+    let marked: Vec<_> = lines.iter().filter(|(line, _)| line.starts_with("epoch\t") && line.split('\t').nth(2) == Some(mark)).collect();
+    let mut text = format!("{}\t{}\n", mark, marked.len());
+    for cause in CAUSES {
+        let many = marked.iter().filter(|(_, why)| why.as_ref().map_or(false, |why| why.split('\t').nth(1) == Some(cause))).count();
+        if many > 0 {
+            text += &format!("{}\tcause\t{}\t{}\n", mark, cause, many);
+        }
+    }
+    text
+}
+
 /// The counts of these lines, as the program prints them.
-fn counts_of(lines: &[String]) -> String {
-    let marked = |mark: &str| lines.iter().filter(|line| line.starts_with("epoch") && line.split('\t').nth(2) == Some(mark)).count();
+fn counts_of(lines: &[(String, Option<String>)]) -> String {
     let mut changes: BTreeMap<u64, usize> = BTreeMap::new();
-    for line in lines.iter().filter(|line| line.starts_with("port\t")) {
+    for (line, _) in lines.iter().filter(|(line, _)| line.starts_with("port\t")) {
         *changes.entry(number(line.split('\t').nth(1).expect("a port"))).or_default() += 1;
     }
-    let mut text = format!("sure\t{}\ndoubtful\t{}\nheld\t{}\n", marked("sure"), marked("doubtful"), marked("held"));
+    let mut text: String = ["sure", "doubtful", "held"].iter().map(|mark| counts_of_mark(lines, mark)).collect();
     for (port, many) in changes {
         text += &format!("port\t{}\tchanges\t{}\n", port, many);
     }
-    text + &format!("malformed\t{}\n", lines.iter().filter(|line| line.starts_with("answer\t13\t")).count())
+    text + &format!("malformed\t{}\n", lines.iter().filter(|(line, _)| line.starts_with("answer\t13\t")).count())
 }
 
 #[derive(Default)]
 pub struct Drawn {
     pub lines: usize,
     pub printed: usize,
+    /// Reports that say why they are not sure, and those of them that the reference was asked about.
+    pub whys: usize,
+    pub found: usize,
 }
 
 pub struct Desk<'a> {
@@ -73,17 +119,33 @@ pub struct Desk<'a> {
 }
 
 impl Desk<'_> {
-    /// On the files of a recording it prints these lines, drawn together, with their counts and the status that they ask for.
-    pub fn prints(&self, files: &[String], expected: &str, epochs: u64, drawn: &mut Drawn) -> bool {
+    /// On the files of a recording it prints these lines, drawn together, with their counts and the status that they ask for. Each report
+    /// that is not sure says why, by these causes and ports where they are known, and no other line does.
+    pub fn prints(&self, files: &[String], expected: &str, causes: Option<&[[u8; 2]]>, epochs: u64, drawn: &mut Drawn) -> bool {
         let output = Command::new(&self.words[0]).args(&self.words[1..]).args(files).output().expect("the program for a desk starts");
         let text = String::from_utf8_lossy(&output.stdout).into_owned();
         let counts = if text.starts_with("sure\t") { 0 } else { text.find("\nsure\t").expect("counts at the end") + 1 };
-        let lines: Vec<String> = text[..counts].lines().flat_map(|line| spread_line(line, epochs)).collect();
+        let spread = |line| {
+            let (line, why) = part_cause(line);
+            spread_line(line, epochs).into_iter().map(move |line| (line, why.map(String::from)))
+        };
+        let lines: Vec<(String, Option<String>)> = text[..counts].lines().flat_map(spread).collect();
         let wanted: Vec<&str> = expected.lines().collect();
+        let reports = lines.iter().filter(|(line, _)| line.starts_with("epoch\t"));
+        let by_reference = causes.map_or(true, |causes| {
+            reports.clone().count() == causes.len()
+                && reports.zip(causes).all(|((_, why), cause)| *why == (cause[0] > 0).then(|| words_of(*cause)))
+        });
+        let whys = lines.iter().filter(|(_, why)| why.is_some()).count();
+        drawn.whys += whys;
+        drawn.found += causes.map_or(0, |_| whys);
         drawn.lines += lines.len();
         drawn.printed += text[..counts].lines().count();
         let status = i32::from(wanted.iter().any(|line| line.starts_with("answer\t")));
-        let same = lines == wanted && text[counts..] == counts_of(&lines) && output.status.code() == Some(status) && output.stderr.is_empty();
+        let same = lines.iter().map(|(line, _)| line.as_str()).eq(wanted)
+            && lines.iter().all(|(line, why)| why.is_some() == says_why(line))
+            && by_reference
+            && text[counts..] == counts_of(&lines) && output.status.code() == Some(status) && output.stderr.is_empty();
         if !same {
             println!("differs\tdesk\tfiles {:?}\nreplay\t{}\ndesk\t{}", files, expected.escape_debug(), text.escape_debug());
         }
@@ -92,7 +154,8 @@ impl Desk<'_> {
 
     /// The same of a recording, whole and cut at a line, beside the reference with as much store as is asked for.
     pub fn runs(&self, folder: &str, recording: &[u8], drawn: &mut Drawn) -> bool {
-        let expected = String::from_utf8_lossy(&whole::<Plain>(recording, STORE_MOST)).into_owned();
+        let (expected, causes) = whole_and_causes(recording, STORE_MOST);
+        let expected = String::from_utf8_lossy(&expected).into_owned();
         let first = recording.split(|b| *b == b'\n').next().unwrap_or_default();
         let epochs = if first.windows(4).any(|name| name == b"VC12") { 32 } else { 256 };
         let ends: Vec<usize> = (0..recording.len()).filter(|i| recording[*i] == b'\n').collect();
@@ -103,7 +166,8 @@ impl Desk<'_> {
             path
         };
         let parts = [file("0", &recording[..cut]), file("1", &recording[cut..])];
-        self.prints(&[file("whole", recording)], &expected, epochs, drawn) && self.prints(&parts, &expected, epochs, drawn)
+        self.prints(&[file("whole", recording)], &expected, Some(&causes), epochs, drawn)
+            && self.prints(&parts, &expected, Some(&causes), epochs, drawn)
     }
 }
 
@@ -114,4 +178,5 @@ pub fn held(count: &mut Count, desk: &Desk, folder: &str, recordings: &[Vec<u8>]
     println!("desk\trecordings {}\tlines {}\tdrawn together in {}", recordings.len(), drawn.lines, drawn.printed);
     count.note("what the program for a desk draws together, spread out again, is the reference's output", held);
     count.note("and it draws some together", drawn.printed < drawn.lines);
+    count.note("with the reference's cause and port where a report is not sure", held && drawn.found > 20);
 }

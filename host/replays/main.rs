@@ -220,6 +220,7 @@ fn main() {
         if desk.is_some() {
             println!("desk\tlinks {}\tlines {}\tdrawn together in {}", LINKS, drawn.lines, drawn.printed);
             count.note("the program for a desk prints what the replay program prints of them, drawn together", compared.iter().all(|c| c.drawn) && 2 * drawn.printed < drawn.lines);
+            count.note("and says why of each report that is not sure, and of no other line", compared.iter().all(|c| c.drawn) && drawn.whys > 100);
         }
 
         if let Some(words) = commands.next() {
