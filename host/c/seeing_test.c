@@ -358,6 +358,33 @@ static void settings(void)
     check("a wait that opens and the bit that is remembered show", held);
 }
 
+/* Port 1 lies 100 frames behind and outside the window. Port 0 fails, so receiving stops, and begins on port 1 alone: epochs that were reported come once more. */
+static void heard_again(void)
+{
+    const uint8_t nothing[P] = { 0 };
+    uint8_t heard[LEVELSPRUCE_HEARD_BYTES] = { 0 };
+    uint32_t time, last = 0, again = 0;
+    int held = levelspruce_receiver_start(PORTS, P, W, sizeof store, rows, ROWS) == 0;
+
+    for (time = 8; time < 800 && again == 0; time++) {
+        if (time >= 600)
+            held &= levelspruce_receiver_frame(rows, ROWS, 0, 1, 0, nothing, P, store, sizeof store) == LEVELSPRUCE_ANSWER_FAILED;
+        else
+            hand(0, time, 0);
+        if (time < 200)
+            held &= levelspruce_receiver_frame(rows, ROWS, 1, 1, 0, nothing, P, store, sizeof store) == LEVELSPRUCE_ANSWER_FAILED;
+        else
+            hand(1, time - 100, 0);
+        while (again == 0 && levelspruce_receiver_fetch(rows, ROWS, store, sizeof store, out, sizeof out, record, sizeof record) == 0 && record[LEVELSPRUCE_REPORT_MARK] != 0) {
+            held &= levelspruce_receiver_heard(state(), ROWS, heard, sizeof heard) == 0;
+            again = record[LEVELSPRUCE_REPORT_EPOCH] < last ? record[LEVELSPRUCE_REPORT_EPOCH] : 0;
+            last = again == 0 ? record[LEVELSPRUCE_REPORT_EPOCH] : last;
+        }
+    }
+    check("where receiving begins on a slower line alone, epochs are heard once more, with what they said then",
+          held && again != 0 && again < last && heard[LEVELSPRUCE_HEARD_EPOCH] == again && heard[LEVELSPRUCE_HEARD_RS_ACK] == ack_of(again) && ack_of(again) != ack_of(last));
+}
+
 int main(void)
 {
     refusals();
@@ -367,5 +394,6 @@ int main(void)
     damaged();
     anew();
     settings();
+    heard_again();
     return tally();
 }
