@@ -1,10 +1,4 @@
-#!/usr/bin/env python3
-"""c-face-test: shows that c-face catches what it is there to catch, and nothing else."""
-import sys
-
-sys.dont_write_bytecode = True
-from cases import try_all
-
+"""Shows that c-face catches what it is there to catch, and nothing else."""
 SOURCE = '#[no_mangle]\npub extern "C" fn f(x: u32, s: &[u8], t: &mut [u8]) -> u8 {\n    0\n}\nfn inner(x: u8) -> u8 {\n    x\n}\n'
 HEADER = "/* uint8_t gone(uint32_t x); */\nLEVELSPRUCE_MUST_USE\nuint8_t f(uint32_t x, const uint8_t *s, size_t s_length,\n          uint8_t *t, size_t t_length);\n"
 ROWS = 'rows = row "f" f f-copes ∷ []\n'
@@ -16,7 +10,7 @@ TOLD = 'pub extern "C" fn f(s: &[u8], n: &mut usize) -> u8 {\n    0\n}\n'
 TOLD_HEADER = "LEVELSPRUCE_MUST_USE\nuint8_t f(const uint8_t *s, size_t s_length, size_t *n);\n"
 
 # name; source; header; rows; what the check must say ('' if all is well)
-CASES = [
+TEXTS = [
     ("a header that fits", SOURCE, HEADER, ROWS, ""),
     ("two buffers in another order", SOURCE, "uint8_t f(uint32_t x, uint8_t *t, size_t t_length, const uint8_t *s, size_t s_length);\n", ROWS, "the header has"),
     ("a buffer that is not const", SOURCE, HEADER.replace("const ", ""), ROWS, "the header has"),
@@ -50,4 +44,4 @@ OF_CRATES = [
     ("one call of two crates", {**TWO, "crates/c_cards/src/lib.rt": OTHER + SOURCE}, "f\tis a C call twice"),
     ("a call of a crate of which the library is not made", {**TWO, "crates/one/src/lib.rt": OTHER}, "g\tis a C call of one"),
 ]
-try_all("c-face", [(name, dict(zip(PATHS, texts)), wanted) for name, *texts, wanted in CASES] + OF_CRATES)
+CASES = [(name, dict(zip(PATHS, texts)), wanted) for name, *texts, wanted in TEXTS] + OF_CRATES

@@ -1,4 +1,3 @@
-#!/usr/bin/env python3
 """rules [FOLDER]: docs/RULES.md leads from each rule to what states, proves and tries it.
 
 - What it names is there, as named.py says.
@@ -6,15 +5,10 @@
 - Every file of definitions that cites a rule is named. A file of definitions stands in a crate's specs/ and declares
   something; laws, theorems, proofs, wrong readings, samples and the tables of conformance do not count. It cites a rule
   where a comment has '(01', 'the minutes', 'R-' and a number, a request's number, or words in quotes.
-
-FOLDER is the repository's top; where it is not given, the current folder.
 """
-import pathlib
 import re
-import sys
 
-sys.dont_write_bytecode = True
-from named import named, tell
+from checks.named import named
 
 CITES = re.compile(r"^\s*--.*(\(01|the minutes|\bR-\d|\b2026-\d\d|(?<!\w)'[^']+')", re.M)
 APART = {"Laws", "Theorems", "Proofs", "Wrong", "Samples", "Clauses", "Refusals"}
@@ -34,15 +28,11 @@ def rows(top):
     return {row for path in top.glob("crates/conformance/specs/**/*.antt") for row in re.findall(r'name = "([^"]+)"', path.read_text())}
 
 
-def main():
-    top = pathlib.Path(sys.argv[1] if len(sys.argv) > 1 else ".")
+def check(top):
     count, wrong = named(top, "RULES.md")
     text = " ".join((top / "docs/RULES.md").read_text().split())
     there = rows(top)
     cited = re.findall(r'"([^"]+)"', text)
     wrong += [f"no row is named {row}" for row in cited if row not in there]
     wrong += [f"{path} is not named" for path in definitions(top) if path not in text]
-    return tell(f"docs/RULES.md leads to every rule\tnames and paths {count}\trows {len(cited)}", wrong)
-
-
-sys.exit(main())
+    return f"docs/RULES.md leads to every rule\tnames and paths {count}\trows {len(cited)}", wrong

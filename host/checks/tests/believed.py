@@ -1,12 +1,6 @@
-#!/usr/bin/env python3
-"""believed-test: shows that believed catches what it is there to catch, and nothing else."""
-import pathlib
-import subprocess
-import sys
-import tempfile
-
-sys.dont_write_bytecode = True
-from cases import TOOLS, try_all
+"""Shows that believed catches what it is there to catch, and nothing else."""
+from checks import believed
+from checks.tests.cases import folder
 
 RULES, PROMISES, PAGE, MOVE = "docs/RULES.md", "docs/PROMISES.md", "docs/BELIEVED.md", "host/data/still-to-move.txt"
 RULE, THEOREM, LAWS = "crates/one/specs/Rule.antt", "crates/one/specs/Theorems/Sums.antt", "crates/one/specs/Laws/Sums.antt"
@@ -19,14 +13,10 @@ AMONG = "must be believed, and stands among proofs"
 
 
 def listed(files):
-    """The files with the page that the tool writes of them."""
-    with tempfile.TemporaryDirectory() as room:
-        for name, text in files.items():
-            path = pathlib.Path(room, name)
-            path.parent.mkdir(parents=True, exist_ok=True)
-            path.write_text(text)
-        subprocess.run([sys.executable, str(TOOLS / "believed"), "-w", room], check=True)
-        return {**files, PAGE: pathlib.Path(room, PAGE).read_text()}
+    """The files with the page that -w writes of them."""
+    with folder(files) as top:
+        believed.write(top)
+        return {**files, PAGE: (top / PAGE).read_text()}
 
 
 def with_files(**changed):
@@ -74,5 +64,3 @@ CASES = [
     ("a definition among laws in another contract", of_a_function(""), ""),
     ("pages that name nothing", listed({RULES: "# Rules\n", PROMISES: "", RULE: TWICE}), "the pages name no demand and no request"),
 ]
-
-try_all("believed", CASES)

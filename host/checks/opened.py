@@ -1,4 +1,3 @@
-#!/usr/bin/env python3
 """opened [FOLDER]: the opener of each crate is whole, and files of definitions use the plain notation.
 
 - A crate's specs/Opened.antt has one name, which computed examples unfold. Its `unfolding` clause names every
@@ -8,15 +7,11 @@
   Clauses nor in Inner (by what payload's loops are proved), nor in a file of such a name.
 - Such a file has none of the kit's `cond`, `eqb`, `ltb` and `leb`, but ground's Plain, which gives them their other names.
   Laws among definitions may have them.
-
-FOLDER is the repository's top; where it is not given, the current folder.
 """
 import pathlib
 import re
-import sys
 
-sys.dont_write_bytecode = True
-from specs import House
+from checks.specs import House
 
 APART = {"Laws", "Theorems", "Proofs", "Wrong", "Samples", "Examples", "Clauses", "Opened", "Inner"}
 NONE = ("conformance", "groups", "invariant", "none_due", "sure_add")
@@ -47,8 +42,7 @@ def names_opened(file):
     return opened
 
 
-def main():
-    top = pathlib.Path(sys.argv[1] if len(sys.argv) > 1 else ".")
+def check(top):
     house = House(top)
     wrong, count = [], 0
     for crate in sorted({name.split("/")[0] for name in house.files}):
@@ -67,11 +61,4 @@ def main():
                     wrong += [f"crates/{name}:{d.line}\t{d.name} is written with {kit}" for kit in KIT if kit in said]
     if count == 0:
         wrong.append("no definition was found")
-    for line in wrong:
-        print(f"wrong\t{line}")
-    print(f"{'failed' if wrong else 'ok'}\tevery opener is whole, and definitions are in plain notation\tdefinitions {count}")
-    print(f"{0 if wrong else 1} passed, {1 if wrong else 0} failed")
-    sys.exit(1 if wrong else 0)
-
-
-main()
+    return f"every opener is whole, and definitions are in plain notation\tdefinitions {count}", wrong

@@ -1,4 +1,4 @@
-"""Reads the files of specs/ as declarations, and says what each names. Used by believed and opened.
+"""Reads the files of specs/ as declarations, and says what each names. Used by believed, opened and others.
 
 A declaration's text is its signature with the parameters of the modules round it; of a definition also its clauses. Names
 that the text binds itself (parameters, λ, let, the left side of a clause, fields) are no references.
@@ -45,21 +45,21 @@ class Declaration:
         return bool(self.marks & {"unfoldable", "abbrev", "data", "record"}) or self.target in THINGS
 
 
-def code(text, comment="--"):
-    """The text's lines with their comments blank."""
-    blank = r"(^|(?<=\s))--(?=\s|$).*$" if comment == "--" else r"//.*$"
-    return re.sub("(?m)" + blank, "", text).split("\n")
+def code(path):
+    """A file's text with its comments blank."""
+    comment = r"//.*$" if path.suffix == ".rt" else r"(^|(?<=\s))--(?=\s|$).*$"
+    return re.sub("(?m)" + comment, "", path.read_text())
 
 
 class File:
-    """A file of specs/: what it declares and what its use lines bring in."""
+    """A file of specs/, its comments blank: what it declares and what its use lines bring in."""
 
     def __init__(self, name, text):
         self.name = name
         self.brought, self.opened, self.handed_on = {}, {}, {}
         self.declarations = []
         modules, current, in_header, unfolding = [], None, False, False
-        for number, line in enumerate(code(text), 1):
+        for number, line in enumerate(text.split("\n"), 1):
             if not line.strip():
                 continue
             indent = len(line) - len(line.lstrip())
@@ -152,10 +152,10 @@ class House:
         self.files, self.types = {}, {}
         for path in sorted(self.top.glob("crates/*/specs/**/*.antt")):
             name = path.relative_to(self.top / "crates").as_posix()
-            self.files[name] = File(name, path.read_text())
+            self.files[name] = File(name, code(path))
         for path in sorted(self.top.glob("crates/*/src/**/*.rt")):
             crate = path.relative_to(self.top / "crates").parts[0]
-            text = "\n".join(code(path.read_text(), "//"))
+            text = code(path)
             for found in re.finditer(r"(?ms)^\s*(?:pub(?:\(crate\))? )?(?:struct|enum) (\w+)[^{;]*(?:\{.*?^\s*\}|\([^)]*\);)", text):
                 lines = [l for l in found[0].split("\n") if l.strip() and not l.strip().startswith("#")]
                 self.types[crate, found[1]] = (path.relative_to(self.top / "crates").as_posix(), len(lines))

@@ -1,12 +1,11 @@
-#!/usr/bin/env python3
-"""moved-test: shows that moved tells what differs between two commits of a made-up repository, and nothing else."""
+"""Shows that moved tells what differs between two commits of a made-up repository, and nothing else."""
 import os
 import pathlib
 import subprocess
 import sys
 import tempfile
 
-SCRIPT = pathlib.Path(__file__).resolve().with_name("moved")
+CHECK = pathlib.Path(__file__).resolve().parents[2] / "check"
 SPECS, SOURCE, PROOF = "crates/one/specs/Laws.antt", "crates/one/src/lib.rt", "crates/one/proofs/call/Proof.antt"
 LAW = "pub law : (n : ℕ) → n ≡ n\nlaw n = refl\n"
 BOXED = "pub record Said : Type 0 where\n  pub it : ℕ\n\nmodule _ (n : ℕ)\n    (h : n ≡ 1)\n  where\n  pub inner : n ≡ 1\n  inner = h\n\n  module _ (m : ℕ) where\n    pub deep : m ≡ m\n    deep = refl\n"
@@ -55,7 +54,7 @@ def commit(room, files):
 
 def moved(room, *words):
     path = f"{room}/bin:{os.environ['PATH']}"
-    return subprocess.run([sys.executable, str(SCRIPT), *words], cwd=room, env={**os.environ, "PATH": path}, stdout=subprocess.PIPE,
+    return subprocess.run([sys.executable, str(CHECK), "moved", *words], cwd=room, env={**os.environ, "PATH": path}, stdout=subprocess.PIPE,
                           stderr=subprocess.PIPE, universal_newlines=True)
 
 
@@ -70,25 +69,13 @@ def in_repository(before, after, *words):
         return moved(room, *words)
 
 
-def main():
-    counts = {True: 0, False: 0}
-
-    def check(name, done, held):
-        counts[held] += 1
-        print(f"{'ok' if held else 'failed'}\tmoved on {name}")
-        if not held:
-            print(done.stdout + done.stderr, end="")
-
+def results():
+    """Each test's name, whether it held, and what was said."""
     for name, before, after, wanted in CASES:
         done = in_repository(before, after, "HEAD~1", "HEAD")
         said = [" ".join(line.split("\t")[1:4]) for line in done.stdout.splitlines()]
-        check(name, done, done.returncode == 0 and said == wanted)
+        yield name, done.returncode == 0 and said == wanted, done.stdout + done.stderr
     done = in_repository({SPECS: LAW}, {SPECS: LAW + BOXED}, "--check", "HEAD~1", "HEAD")
-    check("the seconds of both", done, f"one\tseconds\t{len(LAW.encode())}\tthen\t{len((LAW + BOXED).encode())}\n" in done.stdout)
+    yield "the seconds of both", f"one\tseconds\t{len(LAW.encode())}\tthen\t{len((LAW + BOXED).encode())}\n" in done.stdout, done.stdout + done.stderr
     done = in_repository({}, {}, "HEAD", "other")
-    check("a commit that is not there", done, done.returncode == 1 and done.stderr == "there is no commit 'other' here\n")
-    print(f"{counts[True]} passed, {counts[False]} failed")
-    sys.exit(1 if counts[False] else 0)
-
-
-main()
+    yield "a commit that is not there", done.returncode == 1 and done.stderr == "there is no commit 'other' here\n", done.stdout + done.stderr

@@ -1,10 +1,4 @@
-#!/usr/bin/env python3
-"""promised-names-test: shows that promised-names catches what it is there to catch, and nothing else."""
-import sys
-
-sys.dont_write_bytecode = True
-from cases import try_all
-
+"""Shows that promised-names catches what it is there to catch, and nothing else."""
 FILES = {
     "crates/one/specs/Theorems/Laws.antt": "pub first : ℕ\nfirst = 1\n  pub inner (n : ℕ) :\n    n ≡ n\npub record Said (n : ℕ) : Type 0 where\n-- gone : ℕ\n",
     "crates/one/specs/Table.antt": "unfoldable pub tableOf : ℕ → ℕ\ntableOf n = first\n",
@@ -15,7 +9,7 @@ FILES = {
 }
 
 # name; the page; what the check must say ('' if all is well)
-CASES = [
+TEXTS = [
     ("a name of a file", "`first` of crates/one/specs/Theorems/Laws.antt.", ""),
     ("names of a file", "`first`, `Said` and `inner` of crates/one/specs/Theorems/Laws.antt", ""),
     ("a name over two lines", "the law `first`\nof crates/one/specs/Theorems/Laws.antt", ""),
@@ -46,4 +40,4 @@ CASES = [
     ("a page that names nothing", "words", "names nothing"),
 ]
 
-try_all("promised-names", [(name, {**FILES, "docs/PROMISES.md": page + "\n"}, wanted) for name, page, wanted in CASES])
+CASES = [(name, {**FILES, "docs/PROMISES.md": page + "\n"}, wanted) for name, page, wanted in TEXTS]

@@ -1,10 +1,4 @@
-#!/usr/bin/env python3
-"""refusals-test: shows that refusals catches what it is there to catch, and nothing else."""
-import sys
-
-sys.dont_write_bytecode = True
-from cases import try_all
-
+"""Shows that refusals catches what it is there to catch, and nothing else."""
 SOURCE = """impl Answer {
     pub fn number(self) -> u8
         ensures { λ r. ⌜ r ≡ numberOf self ⌝ }
@@ -111,5 +105,3 @@ CASES = [
     ("two rows of one name", files(table=TABLE.replace('"one::add"', '"one::write"')), "one::write\thas two rows"),
     ("no table", files(table=""), "no row found"),
 ]
-
-try_all("refusals", CASES)

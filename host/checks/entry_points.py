@@ -1,4 +1,3 @@
-#!/usr/bin/env python3
 """entry-points [FOLDER]: every public function promises all of its results, or docs/PROMISES.md says why not.
 
 A public function (a `pub fn`, also one with extern "C" or in an impl block, of crates/*/src) needs an exception if it
@@ -11,15 +10,10 @@ The main function of a program is no entry point.
 An exception is an item of the list under the line '## Exceptions' of docs/PROMISES.md:
     - `crate::module::function`: the reason
 A method is `crate::module::Type::method`; src/lib.rt adds no module. An exception that no function needs is a fault too.
-
-FOLDER is the repository's top; where it is not given, the current folder.
 """
-import pathlib
 import re
-import sys
 
-sys.dont_write_bytecode = True
-from contracts import functions, lent, module_path, parted
+from checks.contracts import functions, lent, module_path, parted
 
 PARTS = r"[\s(){}\[\],;.:⌜⌝⟦⟧«»λ]"  # what parts the names of antt, which may hold signs and primes
 
@@ -72,11 +66,10 @@ def exceptions(page):
     return names, odd
 
 
-def main():
-    top = pathlib.Path(sys.argv[1] if len(sys.argv) > 1 else ".")
+def check(top):
     page = top / "docs" / "PROMISES.md"
     named, odd = exceptions(page.read_text() if page.exists() else "")
-    public, needed, wrong = 0, set(), []
+    public, needed, wrong, notes = 0, set(), [], []
     for src in sorted(top.glob("crates/*/src")):
         for file in sorted(src.rglob("*.rt")):
             try:
@@ -93,18 +86,11 @@ def main():
                     continue
                 needed.add(name)
                 if name in named:
-                    print(f"exception\t{name}\t{'; '.join(why)}")
+                    notes.append(f"exception\t{name}\t{'; '.join(why)}")
                 else:
                     wrong.append(f"{name}\t{'; '.join(why)}\tand docs/PROMISES.md names no exception")
     wrong += [f"{name}\tan exception in docs/PROMISES.md that no public function needs" for name in named if name not in needed]
     wrong += [f"{line}\tan item under '## Exceptions' with no name or no reason" for line in odd]
     if public == 0:
         wrong.append("no public function found\tthis check would hold of anything")
-    for line in wrong:
-        print(f"wrong\t{line}")
-    print(f"{'failed' if wrong else 'ok'}\tentry points promise all of their results\tpublic functions {public}\texceptions {len(needed)}")
-    print(f"{0 if wrong else 1} passed, {1 if wrong else 0} failed")
-    sys.exit(1 if wrong else 0)
-
-
-main()
+    return f"entry points promise all of their results\tpublic functions {public}\texceptions {len(needed)}", wrong, notes

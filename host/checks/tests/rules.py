@@ -1,10 +1,4 @@
-#!/usr/bin/env python3
-"""rules-test: shows that rules catches what it is there to catch, and nothing else."""
-import sys
-
-sys.dont_write_bytecode = True
-from cases import try_all
-
+"""Shows that rules catches what it is there to catch, and nothing else."""
 FILES = {
     "crates/one/specs/Table.antt": "-- 'Add, from IDLE' (01, 'The table')\nunfoldable pub tableOf : ℕ → ℕ\n",
     "crates/one/specs/Lib.antt": "pub mod Table\n",
@@ -17,7 +11,7 @@ FILES = {
 SAID = "- Adding. Stated: `tableOf` of crates/one/specs/Table.antt. "
 
 # name; the page; more files; what the check must say ('' if all is well)
-CASES = [
+TEXTS = [
     ("a rule with its definition", SAID, {}, ""),
     ("a row", SAID + 'Tried: "P1 written".', {}, ""),
     ("a row over two lines", SAID + 'Tried: "P1\n  written".', {}, ""),
@@ -35,4 +29,4 @@ CASES = [
     ("a page that names nothing", "words", {"crates/one/specs/Table.antt": ""}, "names nothing"),
 ]
 
-try_all("rules", [(name, {**FILES, **more, "docs/RULES.md": page + "\n"}, wanted) for name, page, more, wanted in CASES])
+CASES = [(name, {**FILES, **more, "docs/RULES.md": page + "\n"}, wanted) for name, page, more, wanted in TEXTS]

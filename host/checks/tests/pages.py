@@ -1,15 +1,9 @@
-#!/usr/bin/env python3
-"""pages-test: shows that pages catches what it is there to catch, and nothing else."""
-import sys
-
-sys.dont_write_bytecode = True
-from cases import try_all
-
+"""Shows that pages catches what it is there to catch, and nothing else."""
 FILES = {"crates/one/specs/Table.antt": "", "crates/one/must-fail/wrong.edit": "", "docs/WORDS.md": "words\n"}
 LONG = "word " * 30
 
 # name; the page; what the check must say ('' if all is well)
-CASES = [
+TEXTS = [
     ("a page with no link", "words\n", ""),
     ("a link", "[crates/one/specs/Table.antt](../crates/one/specs/Table.antt)\n", ""),
     ("a link by a short name", "[one/Table](../crates/one/specs/Table.antt), [specs/Table.antt](../crates/one/specs/Table.antt)\n", ""),
@@ -33,4 +27,4 @@ CASES = [
     ("a long line behind a code block", "```c\nx\n```\n" + LONG + "\n", "docs/PAGE.md:4 has"),
 ]
 
-try_all("pages", [(name, {**FILES, "docs/PAGE.md": page}, wanted) for name, page, wanted in CASES])
+CASES = [(name, {**FILES, "docs/PAGE.md": page}, wanted) for name, page, wanted in TEXTS]

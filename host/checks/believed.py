@@ -1,4 +1,3 @@
-#!/usr/bin/env python3
 """believed [FOLDER]: what must be believed stands where definitions stand, and docs/BELIEVED.md lists it.
 believed -w [FOLDER]: writes that page. believed -s [FOLDER]: the strays, one a line.
 believed -d NAME [FOLDER]: each definition that the statement of a theorem needs, with its lines, one a line.
@@ -13,19 +12,15 @@ name, and the types of src/ (specs.py). That has to be read to know what is prov
 - The strays that are still to be moved are the lines of host/data/still-to-move.txt. That list only shrinks: one of it that
   is no stray any more is a fault too.
 - docs/BELIEVED.md is as -w writes it.
-
-FOLDER is the repository's top; where it is not given, the current folder.
 """
 import collections
 import pathlib
 import re
-import sys
 import textwrap
 
-sys.dont_write_bytecode = True
-import named
-from contracts import functions, module_path
-from specs import TOKEN, File, House
+from checks import named
+from checks.contracts import functions, module_path
+from checks.specs import TOKEN, File, House
 
 PAGES = ("RULES.md", "PROMISES.md")
 APART = {"Laws", "Proofs", "Theorems"}
@@ -34,7 +29,8 @@ ELSE = "Every other rule and promise"
 CONTRACTS = "Contracts of public functions"
 INTRO = """# What must be believed
 
-Made by host/tools/believed, which the gate asks whether this page is current; `host/tools/believed -w` writes it anew.
+Made by host/checks/believed.py, which the gate asks whether this page is current; `host/check believed -w` writes it
+anew.
 
 A theorem says what its statement says, and a statement is read with the definitions that it names, those that they name
 in turn, and the types of the code. These lines have to be believed to know what is proved. Laws, proofs and every other
@@ -43,7 +39,7 @@ definition need not be read, since the check reads them. The kit's own words (li
 Below are the theorems that [docs/RULES.md](RULES.md) and [docs/PROMISES.md](PROMISES.md) name, by demand and request;
 one that serves several is under each. Last come the definitions that the contracts of public functions name. Behind a
 crate stands the number of its lines, without comments and empty lines, then the number in each file below its specs/
-(in src/ the lines of types). `host/tools/believed -d NAME` prints the definitions behind one theorem.
+(in src/ the lines of types). `host/check believed -d NAME` prints the definitions behind one theorem.
 """
 
 
@@ -188,7 +184,13 @@ def page(house, pages):
     return "\n".join(said + bodies) + "\n"
 
 
-def tell_one(house, pages, name):
+def read(top):
+    house = House(top)
+    return house, Pages(top, house)
+
+
+def tell_one(top, name):
+    house, pages = read(top)
     roots = [d for d in pages.all.values() if d.name == name]
     for one in sorted(house.closure(roots).values(), key=lambda d: ("", d) if isinstance(d, tuple) else (d.file, ("", d.line))):
         if isinstance(one, tuple):
@@ -197,23 +199,21 @@ def tell_one(house, pages, name):
             print(f"crates/{one.file}:{one.line}", one.name, f"{one.lines} lines", sep="\t")
 
 
-def main():
-    words = sys.argv[1:]
-    option = words.pop(0) if words and words[0].startswith("-") else ""
-    name = words.pop(0) if option == "-d" else ""
-    top = pathlib.Path(words[0] if words else ".")
-    house = House(top)
-    pages = Pages(top, house)
-    if option == "-d":
-        tell_one(house, pages, name)
-        return 0
+def tell_strays(top):
+    print("\n".join(strays(*read(top))))
+
+
+def write(top):
+    (top / "docs/BELIEVED.md").write_text(page(*read(top)))
+    return True
+
+
+OPTIONS = {"-w": (0, write), "-s": (0, tell_strays), "-d": (1, tell_one)}
+
+
+def check(top):
+    house, pages = read(top)
     found = strays(house, pages)
-    if option == "-s":
-        print("\n".join(found))
-        return 0
-    if option == "-w":
-        (top / "docs/BELIEVED.md").write_text(page(house, pages))
-        return 0
     listed = top / "host/data/still-to-move.txt"
     known = [l for l in listed.read_text().splitlines() if l and not l.startswith("#")] if listed.exists() else []
     wrong = [f"crates/{stray.replace(' ', ': ')} {what}" for stray, what in found.items() if stray not in known]
@@ -222,8 +222,5 @@ def main():
         wrong.append("the pages name no demand and no request")
     written = top / "docs/BELIEVED.md"
     if not written.exists() or written.read_text() != page(house, pages):
-        wrong.append("docs/BELIEVED.md is not current: host/tools/believed -w writes it")
-    return named.tell(f"what must be believed stands among definitions\ttheorems and definitions named {len(pages.all)}\tstill to move {len(known)}", wrong)
-
-
-sys.exit(main())
+        wrong.append("docs/BELIEVED.md is not current: host/check believed -w writes it")
+    return f"what must be believed stands among definitions\ttheorems and definitions named {len(pages.all)}\tstill to move {len(known)}", wrong

@@ -1,4 +1,3 @@
-#!/usr/bin/env python3
 """uncited [FOLDER]: what stands in crates/ and nothing names.
 
 - A name that a `use` line brings into a file and that the file does not name again.
@@ -6,25 +5,17 @@
   examples are there for their own sake (files and folders of these names, and crates/conformance), and so are equations by
   refl among definitions.
 - A function of src/ that is not public and that nothing calls. What is public is held by promised-names.
-
-FOLDER is the repository's top; where it is not given, the current folder.
 """
 import collections
-import pathlib
 import re
-import sys
+
+from checks.specs import code
 
 OWN_SAKE = ("Theorems", "Wrong", "Samples", "Examples")
 USE = re.compile(r"(?m)^[ \t]*((?:pub |ghost |unfoldable )*)use\s+([^\s{;]+?)(?:\.\{([^}]*)\}|\s+as\s+([^\s;]+))?[ \t]*;?[ \t]*$")
 LAW = re.compile(r"(?m)^( *)(pub )?([^\s(){}:]+)(?: \{[^}]*\})? :(?=\s)")
 FUNCTION = re.compile(r"(?m)^\s*fn (\w+)")
 NO_LAW = ("abbrev", "unfoldable", "record", "data", "axiom", "module", "mod", "use")
-
-
-def code(path):
-    """A file's text with its comments blank."""
-    comment = r"//.*$" if path.suffix == ".rt" else r"(^|(?<=\s))--(?=\s|$).*$"
-    return re.sub("(?m)" + comment, "", path.read_text())
 
 
 def words(text):
@@ -68,8 +59,7 @@ def laws(text, inside):
         yield at + 1, name, public, len(begins)
 
 
-def main():
-    top = pathlib.Path(sys.argv[1] if len(sys.argv) > 1 else ".")
+def check(top):
     texts = {path: code(path) for end in ("antt", "rt") for path in sorted(top.glob(f"crates/*/*/**/*.{end}"))}
     bodies = {path: USE.sub("", text) for path, text in texts.items()}
     said = {path: words(body) for path, body in bodies.items()}
@@ -95,11 +85,4 @@ def main():
                 calls = sum(len(re.findall(rf"(?<!fn )\b{name}\b", other)) for at, other in texts.items() if at.suffix == ".rt" and inside.parts[0] in at.parts)
                 if not calls and name != "main":
                     faults.append(f"{shown}\tnothing calls\t{name}")
-    for fault in faults:
-        print(fault)
-    print("failed" if faults else "ok", "all that stands in crates is named", sep="\t")
-    print("0 passed, 1 failed" if faults else "1 passed, 0 failed")
-    sys.exit(1 if faults else 0)
-
-
-main()
+    return f"all that stands in crates is named\tfiles {len(texts)}", faults

@@ -1,15 +1,10 @@
-#!/usr/bin/env python3
 """call-places [FOLDER]: CONTRIBUTING.md says where a C call has its places, and has one set of seconds.
 
 - Under 'A new call in C' each file is named, by itself or by a folder above it, in which the name of a C call stands; and what is
   named there is there.
 - No crate of crates.txt has its seconds twice on the page, as 'NAME 12' or as 'NAME (12 s)'.
-
-FOLDER is the repository's top; where it is not given, the current folder.
 """
-import pathlib
 import re
-import sys
 
 PATH = re.compile(r"(?<![\w/.-])(?:crates|docs|host|include|debian)/[\w./-]*\w|\b[A-Z]+\.md\b|`(?:run|install)`")
 
@@ -48,16 +43,8 @@ def seconds(top, page):
     return wrong if any(times.values()) else ["no seconds found\tthis check would hold of anything"]
 
 
-def main():
-    top = pathlib.Path(sys.argv[1] if len(sys.argv) > 1 else ".")
+def check(top):
     page = (top / "CONTRIBUTING.md").read_text()
     wrong, count = places(top, page)
     wrong += seconds(top, page)
-    for line in wrong:
-        print(f"wrong\t{line}")
-    print(f"{'failed' if wrong else 'ok'}\tCONTRIBUTING.md names each place of a C call, and each crate's seconds once\tplaces {count}")
-    print(f"{0 if wrong else 1} passed, {1 if wrong else 0} failed")
-    sys.exit(1 if wrong else 0)
-
-
-main()
+    return f"CONTRIBUTING.md names each place of a C call, and each crate's seconds once\tplaces {count}", wrong

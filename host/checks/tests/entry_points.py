@@ -1,14 +1,8 @@
-#!/usr/bin/env python3
-"""entry-points-test: shows that entry-points catches what it is there to catch, and nothing else."""
-import sys
-
-sys.dont_write_bytecode = True
-from cases import try_all
-
+"""Shows that entry-points catches what it is there to catch, and nothing else."""
 WHOLE = "pub fn whole(x: u8) -> u8\n    ensures { λ r. ⌜ r ≡ x ⌝ }\n{\n    x\n}\n"
 
 # What stands in crates/one/src/lib.rt beside a whole promise; the page; what the check must say ('' if all is well).
-CASES = [
+TEXTS = [
     ("a whole promise", "", "", ""),
     ("a private function", "fn inner(x: u8) -> u8 {\n    x\n}", "", ""),
     ("a function of the crate alone", "pub(crate) fn inner(x: u8) -> u8 {\n    x\n}", "", ""),
@@ -63,5 +57,5 @@ OTHERS = [
     ("no function at all", {"crates/one/src/lib.rt": ""}, "no public function found"),
 ]
 
-beside = [(name, {"crates/one/src/lib.rt": WHOLE + source, "docs/PROMISES.md": page}, wanted) for name, source, page, wanted in CASES]
-try_all("entry-points", beside + OTHERS)
+beside = [(name, {"crates/one/src/lib.rt": WHOLE + source, "docs/PROMISES.md": page}, wanted) for name, source, page, wanted in TEXTS]
+CASES = beside + OTHERS

@@ -1,10 +1,4 @@
-#!/usr/bin/env python3
-"""uncited-test: shows that uncited catches what it is there to catch, and nothing else."""
-import sys
-
-sys.dont_write_bytecode = True
-from cases import try_all
-
+"""Shows that uncited catches what it is there to catch, and nothing else."""
 LAW = "pub law : (n : ℕ) → n ≡ n\nlaw n = refl\n"
 CITES = "use Rattle.one.specs.Laws.{law}\n\npub other : 0 ≡ 0\nother = law 0\n"
 LAWS, THEOREM, CODE = "crates/one/specs/Laws.antt", "crates/two/specs/Theorems.antt", "crates/one/src/lib.rt"
@@ -37,5 +31,3 @@ CASES = [
     ("a function that is called", {CODE: "fn one() -> u8\n{\n    1\n}\n\npub fn two() -> u8\n{\n    one() + one()\n}\n"}, ""),
     ("a function that nothing calls", {CODE: "fn one() -> u8\n{\n    1\n}\n"}, f"{CODE}\tnothing calls\tone"),
 ]
-
-try_all("uncited", CASES)

@@ -1,4 +1,3 @@
-#!/usr/bin/env python3
 """moved OLD NEW [OLD-OUTPUT NEW-OUTPUT]: what differs between two commits, crate by crate.
 moved --check OLD NEW: the same, and proves both from nothing for the seconds; that takes some minutes each.
 
@@ -17,8 +16,7 @@ import subprocess
 import sys
 import tempfile
 
-sys.dont_write_bytecode = True
-from contracts import functions, module_path
+from checks.contracts import functions, module_path
 
 START = re.compile(r"((?:unfoldable |abbrev |axiom |pub )*)(?:(data|record) )?(\S+)(?: \{[^}]*\})?(?: \(.*?\))* :(?: |$)")
 
@@ -105,11 +103,7 @@ def proved(commit):
         return "".join(said)
 
 
-def main():
-    words = sys.argv[1:]
-    if words == ["--help"]:
-        print(__doc__, end="")
-        return
+def main(words):
     check = words[:1] == ["--check"]
     commits, outputs = words[check:check + 2], words[check + 2:]
     if len(commits) != 2 or len(outputs) not in ([0] if check else [0, 2]) or any(c.startswith("-") for c in commits):
@@ -133,6 +127,3 @@ def main():
         for log in sorted(pathlib.Path("target/log").glob("*.out")):
             for crate, took in seconds(log.read_text()).items():
                 print(crate, "seconds", "not measured", "then", took, sep="\t")
-
-
-main()

@@ -109,12 +109,3 @@ def named(top, name):
     if page.count == 0:
         wrong.append(f"docs/{name} names nothing")
     return page.count, wrong
-
-
-def tell(what, wrong):
-    """The lines of a check, and its exit status."""
-    for line in wrong:
-        print(f"wrong\t{line}")
-    print(f"{'failed' if wrong else 'ok'}\t{what}")
-    print(f"{0 if wrong else 1} passed, {1 if wrong else 0} failed")
-    return 1 if wrong else 0

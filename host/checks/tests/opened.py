@@ -1,10 +1,4 @@
-#!/usr/bin/env python3
-"""opened-test: shows that opened catches what it is there to catch, and nothing else."""
-import sys
-
-sys.dont_write_bytecode = True
-from cases import try_all
-
+"""Shows that opened catches what it is there to catch, and nothing else."""
 FILE, OPENED = "crates/one/specs/Rule.antt", "crates/one/specs/Opened.antt"
 RULE = "unfoldable pub twice : ℕ → ℕ\ntwice n = n + n\n"
 OPENER = "use Rattle.one.specs.Rule.{%s}\n\nunfoldable pub oneOpen : ℕ\nunfolding %s\noneOpen = 0\n"
@@ -32,5 +26,3 @@ CASES = [
     ("the notation itself", {FILE: RULE, OPENED: WHOLE, "crates/ground/specs/Plain.antt": "abbrev pub _==_ : ℕ → ℕ → Bool\nm == n = eqb m n\n"}, ""),
     ("no definition", {}, "no definition was found"),
 ]
-
-try_all("opened", CASES)

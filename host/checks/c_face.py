@@ -1,18 +1,13 @@
-#!/usr/bin/env python3
 """c-face [FOLDER]: the C header says of each call what the crates of C calls have: c_face, c_cards and c_recordings.
 
 A contract names its parameters and C passes them by place, so nothing proved holds the two together. This does: for
 each `pub extern "C" fn` of their src/, include/levelspruce.h declares the same parameters in the same order, with
 the mark that its answer must be used, and the table of refusals in crates/conformance has a row of its name; and the
 header declares nothing else but texts, which are C (host/library) and return no number.
-FOLDER is the repository's top; where it is not given, the current folder.
 """
-import pathlib
 import re
-import sys
 
-sys.dont_write_bytecode = True
-from contracts import functions, module_path, without_comments
+from checks.contracts import functions, module_path, without_comments
 
 FACES = ("c_face", "c_cards", "c_recordings")  # as host/tools/platform.sh has them
 NUMBERS = {"u8": "uint8_t", "u16": "uint16_t", "u32": "uint32_t", "u64": "uint64_t", "usize": "size_t"}
@@ -52,8 +47,7 @@ def declared(top):
         yield call[2], ([" ".join(p.split()) for p in call[3].split(",") if p.strip() != "void"], bool(call[1]))
 
 
-def main():
-    top = pathlib.Path(sys.argv[1] if len(sys.argv) > 1 else ".")
+def check(top):
     found, header = list(called(top)), dict(declared(top))
     calls = {n: p for _, n, p in found}
     rows = "".join(p.read_text() for p in sorted((top / "crates/conformance/specs").rglob("*.antt")))
@@ -66,11 +60,4 @@ def main():
     wrong += [f"{n}\thas no row in the table of refusals" for n in calls if f'row "{n}"' not in rows]
     if not calls:
         wrong.append("no C call found\tthis check would hold of anything")
-    for line in wrong:
-        print(f"wrong\t{line}")
-    print(f"{'failed' if wrong else 'ok'}\tthe header is the crates' C face\tcalls {len(calls)}")
-    print(f"{0 if wrong else 1} passed, {1 if wrong else 0} failed")
-    sys.exit(1 if wrong else 0)
-
-
-main()
+    return f"the header is the crates' C face\tcalls {len(calls)}", wrong

@@ -1,4 +1,3 @@
-#!/usr/bin/env python3
 """pages [-w] [FOLDER]: links of the pages lead to files of the tree, and their prose keeps within 120 columns.
 
 - Each link of README.md and the other pages of the top, of docs/ and of host/README.md leads to a file or folder.
@@ -6,16 +5,9 @@
   the last of them.
 - No line is longer than 120 but in code blocks, tables and headings. With -w paragraphs and items that have such a line are
   wrapped first.
-
-FOLDER is the repository's top; where it is not given, the current folder.
 """
 import os
-import pathlib
 import re
-import sys
-
-sys.dont_write_bytecode = True
-from named import tell
 
 WIDTH = 120
 LINK = re.compile(r"\[([^\]\[]*)\]\(([^()\s]*)\)")
@@ -94,15 +86,17 @@ def faults(top, page):
             yield f"{page.relative_to(top)}: {said} leads to {place}"
 
 
-def main():
-    wraps = sys.argv[1:2] == ["-w"]
-    top = pathlib.Path([*sys.argv[1 + wraps:], "."][0])
-    for page in pages(top) if wraps else []:
+def wrap(top):
+    for page in pages(top):
         page.write_text(wrapped(page.read_text()))
+    return True
+
+
+OPTIONS = {"-w": (0, wrap)}
+
+
+def check(top):
     found = pages(top)
     count = sum(len(LINK.findall(page.read_text())) for page in found)
     wrong = [fault for page in found for fault in faults(top, page)] if found else ["no page was found"]
-    return tell(f"links of the pages lead to files, and prose is within {WIDTH} columns\tpages {len(found)}\tlinks {count}", wrong)
-
-
-sys.exit(main())
+    return f"links of the pages lead to files, and prose is within {WIDTH} columns\tpages {len(found)}\tlinks {count}", wrong

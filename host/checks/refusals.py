@@ -1,4 +1,3 @@
-#!/usr/bin/env python3
 """refusals [FOLDER]: each row of the table of refusals is of its entry point's contract.
 
 The table (crates/conformance/specs/Refusals.antt) has rows `row "NAME" CALL PROOF`. A call is defined in a file beside
@@ -10,15 +9,10 @@ own terms. So, with the call's parameters named by place as the function's are, 
 - each slice lent to be changed is in LENT, and what stands for it in LEFT is what the `ensures` has for it afterwards; or
   it is GIVEN, and RETURNED is; of several numbers that are lent so, GIVEN and RETURNED are tuples, in one order;
 - any other RETURNED, or each part of a tuple, is a part of the result, and where the answer is a part there is a RETURNED.
-
-FOLDER is the repository's top; where it is not given, the current folder.
 """
-import pathlib
 import re
-import sys
 
-sys.dont_write_bytecode = True
-from contracts import functions, lent, module_path, parted
+from checks.contracts import functions, lent, module_path, parted
 
 TOKEN = re.compile(r"\(|\)|,|[^\s(),]+")
 
@@ -191,8 +185,7 @@ def faults(f, call, numbers):
     return wrong
 
 
-def main():
-    top = pathlib.Path(sys.argv[1] if len(sys.argv) > 1 else ".")
+def check(top):
     table = top / "crates/conformance/specs/Refusals.antt"
     text = table.read_text() if table.exists() else ""
     files = {short: file for file, short in re.findall(r"^use (\w+) as (\w+)$", text, re.M)}
@@ -217,11 +210,4 @@ def main():
     wrong += [f"{name}\thas two rows" for name in sorted({n for n, _, _ in rows if [m for m, _, _ in rows].count(n) > 1})]
     if not rows:
         wrong.append("no row found\tthis check would hold of anything")
-    for line in wrong:
-        print(f"wrong\t{line}")
-    print(f"{'failed' if wrong else 'ok'}\teach row of the table of refusals is of its entry point's contract\trows {len(rows)}")
-    print(f"{0 if wrong else 1} passed, {1 if wrong else 0} failed")
-    sys.exit(1 if wrong else 0)
-
-
-main()
+    return f"each row of the table of refusals is of its entry point's contract\trows {len(rows)}", wrong

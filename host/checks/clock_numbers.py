@@ -1,4 +1,3 @@
-#!/usr/bin/env python3
 """clock-numbers [FOLDER]: outside crates/packet no proof unfolds the numbers of a kind's clock, and outside packet and step none names VC-12's kind.
 
 - The numbers are `frames`, `epochs`, `tags` and `lead` of packet's Kinds. What stands above knows them by packet's laws,
@@ -12,23 +11,16 @@
 - `vc12Kind` is named in packet and step, which have the cases on the kind, in the proofs of phases' `is_sized` and of receiver's `arrive` with its laws (Arriving),
   which ask for it once so that the compiler folds the rest (store's `packet_in` does so too, by packet's law `h4-row`), in recording, which reads its name, in
   mending's Following, which says whose lines have a count of H4, and where runs are computed as above. What stands elsewhere is proved once over the kind.
-
-FOLDER is the repository's top; where it is not given, the current folder.
 """
-import pathlib
 import re
-import sys
+
+from checks.specs import code
 
 NUMBERS = ("frames", "epochs", "tags", "lead")
 OWN = ("packet", "conformance")
 COMPUTED = ("Wrong", "Samples", "Examples", "Opened")
 VC12 = "vc12Kind"
 CASES = ("packet", "step", "conformance")
-
-
-def code(path):
-    """A file's text with its comments blank."""
-    return re.sub(r"(?m)(^|(?<=\s))--(?=\s|$).*$", "", path.read_text())
 
 
 def computed(path):
@@ -76,8 +68,7 @@ def openers(text):
     return {name.split()[-1]: name.split()[0] for names in listed for name in names.split(",") if name.split()}
 
 
-def main():
-    top = pathlib.Path(sys.argv[1] if len(sys.argv) > 1 else ".")
+def check(top):
     wrong, count = [], 0
     for crate in sorted(top.glob("crates/*")):
         for path in sorted(crate.rglob("*.antt")):
@@ -98,11 +89,4 @@ def main():
                         wrong.append(f"{path.relative_to(top)}:{line}\tunfolds {number}")
     if count == 0:
         wrong.append("no clause was found")
-    for line in wrong:
-        print(f"wrong\t{line}")
-    print(f"{'failed' if wrong else 'ok'}\toutside packet no proof unfolds the numbers of a clock, nor names VC-12\tclauses {count}")
-    print(f"{0 if wrong else 1} passed, {1 if wrong else 0} failed")
-    sys.exit(1 if wrong else 0)
-
-
-main()
+    return f"outside packet no proof unfolds the numbers of a clock, nor names VC-12\tclauses {count}", wrong

@@ -1,10 +1,4 @@
-#!/usr/bin/env python3
-"""call-places-test: shows that call-places catches what it is there to catch, and nothing else."""
-import sys
-
-sys.dont_write_bytecode = True
-from cases import try_all
-
+"""Shows that call-places catches what it is there to catch, and nothing else."""
 FILES = {
     "crates.txt": "# NAME: DEP\none:\ntwo: one\n",
     "include/levelspruce.h": "uint8_t levelspruce_call(uint32_t x);\n",
@@ -16,7 +10,7 @@ LOOP = "# Changing it\n\nSeconds: one 3, two 40.\n\n"
 CALL = "## A new call in C\n\nIts declaration in include/levelspruce.h, its test in host/c.\n\n## How it reads\n\nhost/fuzz\n"
 
 # name; the page; more files; what the check must say ('' if all is well)
-CASES = [
+TEXTS = [
     ("a page that fits", LOOP + CALL, {}, ""),
     ("a file by itself", LOOP + CALL.replace("host/c", "host/c/call_test.c"), {}, ""),
     ("a script at the top", LOOP + CALL.replace("host/c.", "host/c, and `run`."), {"run": "levelspruce_call"}, ""),
@@ -29,4 +23,4 @@ CASES = [
     ("a number behind another word", LOOP + "phase_two 7, twos 8.\n\n" + CALL, {}, ""),
 ]
 
-try_all("call-places", [(name, {**FILES, **more, "CONTRIBUTING.md": page}, wanted) for name, page, more, wanted in CASES])
+CASES = [(name, {**FILES, **more, "CONTRIBUTING.md": page}, wanted) for name, page, more, wanted in TEXTS]

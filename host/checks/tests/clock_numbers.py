@@ -1,10 +1,4 @@
-#!/usr/bin/env python3
-"""clock-numbers-test: shows that clock-numbers catches what it is there to catch, and nothing else."""
-import sys
-
-sys.dont_write_bytecode = True
-from cases import try_all
-
+"""Shows that clock-numbers catches what it is there to catch, and nothing else."""
 GOOD = "law : (kind : ℕ) → 0 < frames kind\nunfolding placeOf\nlaw kind = frames-some kind\n"
 CASED = "cased : ℕ → ℕ\ncased kind = if kind == vc12Kind then 1 else 0\n"
 
@@ -14,7 +8,7 @@ def opened(*names):
 
 
 # name; a file and its text; what the check must say ('' if all is well)
-CASES = [
+TEXTS = [
     ("a law that cites", "crates/one/specs/Laws.antt", GOOD, ""),
     ("a law of packet", "crates/packet/specs/Laws/Epochs.antt", opened("frames", "tags"), ""),
     ("a function's proof in packet", "crates/packet/proofs/kinds/place_of/Proof.antt", opened("frames"), ""),
@@ -62,4 +56,4 @@ CASES = [
 
 KEPT = {"crates/two/specs/Laws.antt": GOOD}
 
-try_all("clock-numbers", [(name, {**({} if path.startswith("docs") else KEPT), path: text}, wanted) for name, path, text, wanted in CASES])
+CASES = [(name, {**({} if path.startswith("docs") else KEPT), path: text}, wanted) for name, path, text, wanted in TEXTS]
