@@ -1,4 +1,4 @@
-"""check                           all checks of the tree, each counted
+"""check [NAME..]                  checks of the tree, all of them or those named, each counted
 check NAME [WORD..] [FOLDER]    one of them; check NAME --help says what it asks for, and its other words
 check --tests [NAME..]          shows that each check, or those named, catches what it is there to catch, and nothing else
 
@@ -91,8 +91,8 @@ def main(words):
         return 2
     if name == "--tests":
         return tests(names)
-    if not name:
-        return tally([holds(one_name, pathlib.Path(".")) for one_name in CHECKS])
+    if all(word in CHECKS for word in words):
+        return tally([holds(one_name, pathlib.Path(".")) for one_name in words or CHECKS])
     if words[1:] in (["--help"], ["-h"]):
         print(module(name).__doc__, end="")
         return 0

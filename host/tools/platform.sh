@@ -12,12 +12,6 @@ texts=target/staticlib/texts.o
 # proved_of CRATE: what rt writes of it
 proved_of() { echo "target/staticlib/lib$1.a"; }
 
-# over CRATE..: what a program is linked with that calls these alone
-over() {
-    echo "$texts"
-    for one_face in "$@"; do proved_of "$one_face"; done
-}
-
 # The toolchain's folder. Where rt is not on PATH, it is the one that was there at the last proof.
 kit() {
     if command -v rt >/dev/null; then
