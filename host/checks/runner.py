@@ -14,7 +14,7 @@ import pathlib
 import traceback
 
 CHECKS = ("entry-points", "c-face", "refusals", "promised-names", "rules", "pages", "clock-numbers", "uncited", "opened", "believed", "call-places")
-TOOLS = ("moved",)
+TOOLS = ("moved", "unpinned")
 TESTED = ("runner",) + CHECKS + TOOLS
 
 
