@@ -1,4 +1,5 @@
 # Sourced after platform.sh and at-hand.sh: builds what host/Makefile knows, and the library's version.
+# shellcheck disable=SC2034
 
 strict='-Wall -Wextra -Werror -pedantic -Iinclude'
 sanitizers='-fsanitize=address,undefined -fno-sanitize-recover=all -g'
