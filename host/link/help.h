@@ -1,3 +1,5 @@
+/* ./run and the man page read these lines as they stand */
+/* clang-format off */
 "link [CHOICE..]: an example link, from a sender to a receiver.\n"
 "A sender, its lines, a receiver, and the reply carried back to the sender. A\n"
 "file or the built-in text goes in. What happens is printed one fact a line,\n"

@@ -27,13 +27,25 @@ sanitized_run() {
 # builds_and_runs_c COMPILER WORD..: and whether the program runs here.
 builds_and_runs_c() { builds_c "$@" && sanitized_run "$room/try" >/dev/null 2>&1; }
 
-# has_archive_compiler: whether there is a C compiler for the archive's processor, if need be once it is installed; a line
-# says so if not. Makes a folder $room where there is none.
+# Makes a folder $room where there is none.
+has_room() {
+    [ -z "${room:-}" ] || return 0
+    room=$(mktemp -d) || exit 2
+    trap 'rm -rf "$room"' EXIT
+}
+
+# has_make: whether make is there, if need be once it is installed; a line says so if not.
+has_make() {
+    ! command -v make >/dev/null || return 0
+    has_room
+    at_hand make command -v make >/dev/null && return
+    echo 'make is not here, and could not be installed' >&2
+    return 1
+}
+
+# has_archive_compiler: likewise of a C compiler for the archive's processor.
 has_archive_compiler() {
-    if [ -z "${room:-}" ]; then
-        room=$(mktemp -d) || exit 2
-        trap 'rm -rf "$room"' EXIT
-    fi
+    has_room
     # shellcheck disable=SC2154,SC2086
     at_hand "$archive_packages" builds_c $archive_compiler && return
     echo "no C compiler is here, and none could be installed: $archive_compiler" >&2

@@ -1,6 +1,7 @@
 # Sourced by ./run and by the installed programs, which say by $helps where the helps are, by $from from where the caller
 # names files, and by version which version it is: a program's help, the file that it is lent, and whether its answers could be
 # written.
+# shellcheck disable=SC2154
 
 # helped NAME CALLED WORD: where the word asks for it, prints the help of a program that is called so, or the version, and ends.
 helped() {

@@ -4,6 +4,7 @@
 # The archive holds x86-64 code. On x86-64 all programs link it. On Arm, C programs that link it are built by a cross
 # compiler and run under the toolchain's emulator; programs that are built for the machine itself (Rust, sanitizers,
 # C++) link an object of the same proved module.
+# shellcheck disable=SC2034
 
 faces='c_face c_cards c_recordings'        # the crates of the C calls; the first has all that a link needs
 archive=target/staticlib/liblevelspruce.a  # the library: all of their calls and the texts, which are C
@@ -11,12 +12,6 @@ texts=target/staticlib/texts.o
 
 # proved_of CRATE: what rt writes of it
 proved_of() { echo "target/staticlib/lib$1.a"; }
-
-# over CRATE..: what a program is linked with that calls these alone
-over() {
-    echo "$texts"
-    for one_face in "$@"; do proved_of "$one_face"; done
-}
 
 # The toolchain's folder. Where rt is not on PATH, it is the one that was there at the last proof.
 kit() {
@@ -57,7 +52,7 @@ aarch64)
     ;;
 *)
     archive_compiler=gcc
-    archive_ar=ar
+    archive_ar='ar'
     archive_objdump=objdump
     archive_packages='gcc libc6-dev'
     shared_compiler=gcc

@@ -13,10 +13,10 @@ counted() {
     } 2>&1 | tee "$room/said"
     tally=$(tail -n 1 "$room/said" | sed -n 's/^\([0-9]\{1,\}\) passed, \([0-9]\{1,\}\) failed$/\1 \2/p')
     if [ -z "$tally" ]; then
-        printf 'failed\t%s\tended with status %s and no tally\n' "$1" "$(cat "$room/status")"
+        printf 'failed\t%s\tended with status %s and no tally\n' "$*" "$(cat "$room/status")"
         tally='0 1'
     elif [ "$(cat "$room/status")" != 0 ] && [ "${tally#* }" = 0 ]; then
-        printf 'failed\t%s\tended with status %s\n' "$1" "$(cat "$room/status")"
+        printf 'failed\t%s\tended with status %s\n' "$*" "$(cat "$room/status")"
         tally="${tally% *} 1"
     fi
     passed=$((passed + ${tally% *})) failed=$((failed + ${tally#* }))
