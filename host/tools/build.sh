@@ -90,7 +90,7 @@ build_mend() {
 build_desk() {
     mkdir -p target/host
     # shellcheck disable=SC2046,SC2086
-    $archive_compiler -std=c99 $strict -O2 host/desk/*.c $(over c_face c_recordings) -o target/host/desk
+    $archive_compiler -std=c99 $strict -O2 host/desk/*.c $(over c_recordings) -o target/host/desk
 }
 
 # build_own NAME SOURCE COMPILER WORD..: a C or C++ program for this machine's own processor.
