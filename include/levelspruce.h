@@ -125,7 +125,7 @@ extern "C" {
 #define LEVELSPRUCE_SENDER_SETTINGS_BYTES 5 /* a sender's settings */
 #define LEVELSPRUCE_PLAN_BYTES 65   /* a plan of which paths to join */
 #define LEVELSPRUCE_REPLAY_BYTES 17 /* how far a recording has been replayed */
-#define LEVELSPRUCE_REPLAY_ROOM 1160 /* what one turn of a replay prints, at most */
+#define LEVELSPRUCE_REPLAY_ROOM 1219 /* what one turn of a replay prints, at most */
 
 /* Of a receiver: the rows of its state, and the bytes of its store and of the
  * least output. */
@@ -1746,6 +1746,10 @@ uint8_t levelspruce_replay_begin(uint8_t *state, size_t state_length);
  *
  * Lend rows and store as the last turn left them. Whatever stood in them before
  * the first line, the same is printed: a group that starts clears them.
+ *
+ * A report that is held or doubtful says why behind its line's number: 'cause',
+ * the words of levelspruce_cause_text, and where it is one port's 'port' and the
+ * lowest, as levelspruce_receiver_cause would have said before the fetch.
  *
  * A refused line is no refusal of the call: 'answer', the number, 'line' and the
  * line's number are printed. 13 is a malformed line; of the first line the

@@ -6,17 +6,17 @@
 
 enum { FIELDS_MOST = 24, LINE_MOST = 256 };
 
-/* A line's fields; `epoch` and `line` are the places of the numbers behind these two words, or 0. */
+/* A line's fields; `epoch` and `line` are the places of the numbers behind these two words, or 0. `why` is what a report that is not sure
+ * says behind the word 'cause', or empty. */
 struct fields {
     char text[LINE_MOST];
-    const char *field[FIELDS_MOST];
+    const char *field[FIELDS_MOST], *why;
     size_t count, epoch, line;
 };
 
 /* Lines that are alike: the first of them, how many there are, the last one's epoch and line, and from each line to the next how many. */
 static struct {
     struct fields first;
-    uint8_t cause[LEVELSPRUCE_CAUSE_BYTES];
     unsigned long count, epoch, line, apart;
 } run;
 
@@ -27,6 +27,18 @@ static unsigned long number(const char *field)
     return strtoul(field, NULL, 10);
 }
 
+/* What stands behind the word 'cause', which is cut off with its tab. */
+static const char *part_why(char *line)
+{
+    static const char tab_cause[] = "\tcause\t";
+    char *found = strstr(line, tab_cause);
+
+    if (found == NULL)
+        return "";
+    *found = '\0';
+    return found + sizeof tab_cause - 1;
+}
+
 static void part(struct fields *fields, const char *line, size_t length)
 {
     char *at = fields->text;
@@ -35,6 +47,7 @@ static void part(struct fields *fields, const char *line, size_t length)
         length = LINE_MOST - 1;
     memcpy(fields->text, line, length);
     fields->text[length] = '\0';
+    fields->why = part_why(fields->text);
     fields->count = fields->epoch = fields->line = 0;
     while (at != NULL && fields->count < FIELDS_MOST) {
         char *tab = strchr(at, '\t');
@@ -58,13 +71,13 @@ static int follows(unsigned long epoch, unsigned long before)
 }
 
 /* Whether the line belongs to the run. */
-static int is_alike(const struct fields *next, const uint8_t *cause)
+static int is_alike(const struct fields *next)
 {
     unsigned long line;
 
-    if (memcmp(cause, run.cause, sizeof run.cause) != 0)
+    if (run.count == 0 || strcmp(next->why, run.first.why) != 0)
         return 0;
-    if (run.count == 0 || next->line == 0 || next->line != run.first.line || next->epoch != run.first.epoch || next->count != run.first.count)
+    if (next->line == 0 || next->line != run.first.line || next->epoch != run.first.epoch || next->count != run.first.count)
         return 0;
     for (size_t i = 0; i < next->count; i++)
         if (i != next->line && (i == 0 || i != next->epoch) && strcmp(next->field[i], run.first.field[i]) != 0)
@@ -79,15 +92,6 @@ static int is_alike(const struct fields *next, const uint8_t *cause)
 static const char *words(const struct fields *refusal)
 {
     return number(refusal->field[1]) == LEVELSPRUCE_ANSWER_LINE ? "malformed" : "settings out of range";
-}
-
-/* Why reports are not sure, behind all that the replay prints of them. */
-static void print_cause(void)
-{
-    if (run.cause[LEVELSPRUCE_CAUSE_CLAUSE] != LEVELSPRUCE_CAUSE_NONE)
-        printf("\tcause\t%s", levelspruce_cause_text(run.cause[LEVELSPRUCE_CAUSE_CLAUSE]));
-    if (run.cause[LEVELSPRUCE_CAUSE_PORT] != LEVELSPRUCE_CAUSE_NO_PORT)
-        printf("\tport\t%d", run.cause[LEVELSPRUCE_CAUSE_PORT]);
 }
 
 static void print_run(void)
@@ -112,10 +116,10 @@ static void print_run(void)
         printf("\tcount\t%lu", run.count);
     if (run.count > 0 && strcmp(first->field[0], "answer") == 0)
         printf("\t%s", words(first));
-    if (run.count > 0) {
-        print_cause();
+    if (run.count > 0 && *first->why != '\0')
+        printf("\tcause\t%s", first->why);
+    if (run.count > 0)
         putchar('\n');
-    }
     run.count = 0;
 }
 
@@ -124,16 +128,31 @@ static int is_mark(const char *field, uint32_t mark)
     return strcmp(field, levelspruce_mark_name(mark)) == 0;
 }
 
-static void count(const struct fields *fields, uint8_t cause)
+/* The number of the cause whose words these are, up to a tab; 0 where there are none. */
+static uint32_t cause_of(const char *why)
+{
+    size_t length = strcspn(why, "\t");
+
+    for (uint32_t cause = 1; cause < CAUSES; cause++) {
+        const char *text = levelspruce_cause_text(cause);
+
+        if (strlen(text) == length && memcmp(text, why, length) == 0)
+            return cause;
+    }
+    return LEVELSPRUCE_CAUSE_NONE;
+}
+
+static void count(const struct fields *fields)
 {
     if (fields->epoch != 0 && fields->count > 2) {
         int doubtful = is_mark(fields->field[2], LEVELSPRUCE_MARK_DOUBTFUL), held = is_mark(fields->field[2], LEVELSPRUCE_MARK_HELD);
+        uint32_t cause = cause_of(fields->why);
 
         counts.sure += is_mark(fields->field[2], LEVELSPRUCE_MARK_SURE);
         counts.doubtful += doubtful;
         counts.held += held;
-        counts.doubtful_by[cause % CAUSES] += doubtful;
-        counts.held_by[cause % CAUSES] += held;
+        counts.doubtful_by[cause] += doubtful;
+        counts.held_by[cause] += held;
     } else if (strcmp(fields->field[0], "answer") == 0) {
         counts.refused++;
         counts.malformed += number(fields->field[1]) == LEVELSPRUCE_ANSWER_LINE;
@@ -142,16 +161,15 @@ static void count(const struct fields *fields, uint8_t cause)
     }
 }
 
-void draw(const char *line, size_t length, const uint8_t *cause)
+void draw(const char *line, size_t length)
 {
     static struct fields next;
 
     part(&next, line, length);
-    count(&next, cause[LEVELSPRUCE_CAUSE_CLAUSE]);
-    if (!is_alike(&next, cause)) {
+    count(&next);
+    if (!is_alike(&next)) {
         print_run();
         part(&run.first, line, length);
-        memcpy(run.cause, cause, sizeof run.cause);
         run.apart = 0;
     } else {
         run.apart = number(next.field[next.line]) - run.line;

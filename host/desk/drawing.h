@@ -16,9 +16,8 @@ struct counts {
     unsigned long changes[LEVELSPRUCE_PORTS_MOST];
 };
 
-/* Takes one line as a turn has written it, without its end; of a report with its cause, as levelspruce_receiver_cause says it, and of any
- * other line with none. */
-void draw(const char *line, size_t length, const uint8_t *cause);
+/* Takes one line as a turn has written it, without its end. */
+void draw(const char *line, size_t length);
 
 /* Prints what is not printed yet, and gives the counts. */
 const struct counts *drawn(void);

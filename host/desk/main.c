@@ -32,10 +32,6 @@ static uint8_t *store, *out, said[LEVELSPRUCE_REPLAY_ROOM];
 static size_t store_length, out_length;
 static int begun;
 
-/* The rows as the turn was lent them: what its report went by. */
-static uint8_t before[LEVELSPRUCE_RECEIVER_ROWS(LEVELSPRUCE_PORTS_MOST)][LEVELSPRUCE_ROW_BYTES];
-static size_t ports = 1; /* the group's, when a report has come */
-
 /* Ends the program where it cannot go on. */
 static void stop(const char *why, const char *name)
 {
@@ -67,30 +63,14 @@ static void begin(void)
     begun = 1;
 }
 
-/* Why the report that the turn gave is not sure. The group has as many ports as its rows are asked for. */
-static void read_cause(uint8_t *cause)
-{
-    while (levelspruce_receiver_cause((const uint8_t(*)[LEVELSPRUCE_ROW_BYTES])before, LEVELSPRUCE_RECEIVER_ROWS(ports), cause, LEVELSPRUCE_CAUSE_BYTES)
-           != LEVELSPRUCE_ANSWER_DONE)
-        if (++ports > LEVELSPRUCE_PORTS_MOST)
-            stop("the cause of a report was refused", NULL);
-}
-
-/* The lines of one turn. A turn gives one report at most, and its line is the first. */
+/* The lines of one turn. */
 static void take(const uint8_t *lines, size_t written)
 {
-    static const uint8_t none[LEVELSPRUCE_CAUSE_BYTES] = { LEVELSPRUCE_CAUSE_NONE, LEVELSPRUCE_CAUSE_NO_PORT };
-    static const char report[] = "epoch\t";
     const uint8_t *end = lines + written, *next;
 
     for (; lines < end; lines = next + 1) {
-        uint8_t cause[LEVELSPRUCE_CAUSE_BYTES];
-
         next = memchr(lines, '\n', (size_t)(end - lines));
-        memcpy(cause, none, sizeof cause);
-        if (strncmp((const char *)lines, report, sizeof report - 1) == 0)
-            read_cause(cause);
-        draw((const char *)lines, (size_t)(next - lines), cause);
+        draw((const char *)lines, (size_t)(next - lines));
     }
 }
 
@@ -101,7 +81,6 @@ static void run_text(uint32_t last)
     uint8_t wants = 0;
 
     while (!wants) {
-        memcpy(before, rows, sizeof before);
         if (levelspruce_replay_turn(replay, sizeof replay, text, length, &at, last, rows, sizeof rows / sizeof *rows, store, store_length,
                                     out, out_length, said, sizeof said, &written, &wants)
             != LEVELSPRUCE_ANSWER_DONE)

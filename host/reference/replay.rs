@@ -1,6 +1,7 @@
 //! A recording run again. Written from the requests (2026-05, and 2026-01 for VC-12), their readings and 01.
 
 use crate::packet::DONE;
+use crate::receiver::read::NOBODY;
 use crate::receiver::{
     clock, fast, Receiver as Plain, Report, Shown, DOUBTFUL, HELD, KIND_FIXED, KIND_H4, KIND_VC12, NONE, NONE_DUE, PAYLOAD_VC12, STATE_FAIL,
     STATE_IDLE,
@@ -33,10 +34,8 @@ pub trait Receives: Sized {
     fn frame(&mut self, port: u32, flagged: bool, h4: u8, payload: &[u8], store: &mut [u8]) -> u8;
     fn fetch(&mut self, store: &[u8], output: &mut [u8]) -> (u8, Report);
     fn ports(&self) -> Vec<Shown>;
-    /// Cause and port of the report that a fetch would give, in a form that has them.
-    fn cause(&self) -> Option<[u8; 2]> {
-        None
-    }
+    /// Cause and port of the report that a fetch would give; NOBODY where it is no one port's.
+    fn cause(&self) -> [u8; 2];
 }
 
 impl Receives for Plain {
@@ -61,8 +60,8 @@ impl Receives for Plain {
         self.ports()
     }
 
-    fn cause(&self) -> Option<[u8; 2]> {
-        Some(self.cause())
+    fn cause(&self) -> [u8; 2] {
+        self.cause()
     }
 }
 
@@ -82,6 +81,31 @@ impl Receives for fast::Receiver {
 
     fn ports(&self) -> Vec<Shown> {
         self.ports()
+    }
+
+    fn cause(&self) -> [u8; 2] {
+        self.cause()
+    }
+}
+
+/// "The epoch's line of a held or doubtful report names cause and port in words", by the causes' numbers.
+const CAUSES: [&str; 8] = [
+    "none",
+    "a ruling packet was refused",
+    "an active port lacks a frame",
+    "numbers of active and DNU ports repeat",
+    "GID differs among ports that are not IDLE",
+    "EOS is not on the highest active port alone",
+    "a port has no whole ruling packet",
+    "the numbers are not 0 to n - 1",
+];
+
+/// Behind a report's line: nothing if it is sure.
+fn why(mark: u8, cause: u8, port: u8) -> String {
+    match (mark, port) {
+        (HELD | DOUBTFUL, NOBODY) => format!("\tcause\t{}", CAUSES[usize::from(cause)]),
+        (HELD | DOUBTFUL, _) => format!("\tcause\t{}\tport\t{}", CAUSES[usize::from(cause)], port),
+        _ => String::new(),
     }
 }
 
@@ -210,11 +234,11 @@ pub(crate) fn frame(line: &[u8], ports: u32, payload: &mut [u8]) -> Option<(u32,
 
 impl<R: Receives> Group<R> {
     /// A frame handed once, then reports until none is due.
-    fn take(&mut self, frame: (u32, u8, bool), number: u64, said: &mut Vec<u8>, mut causes: Option<&mut Vec<[u8; 2]>>) {
+    fn take(&mut self, frame: (u32, u8, bool), number: u64, said: &mut Vec<u8>) {
         let (port, h4, flagged) = frame;
         self.receiver.frame(port, flagged, h4, &self.payload, &mut self.store);
         loop {
-            let cause = causes.as_ref().and_then(|_| self.receiver.cause());
+            let [_, port] = self.receiver.cause();
             let (_, report) = self.receiver.fetch(&self.store, &mut self.output);
             let mark = match report.mark {
                 NONE_DUE => return,
@@ -222,10 +246,8 @@ impl<R: Receives> Group<R> {
                 DOUBTFUL => "doubtful",
                 _ => "sure",
             };
-            said.extend(format!("epoch\t{}\t{}\tbytes\t{}\tline\t{}\n", report.epoch, mark, report.bytes, number).bytes());
-            if let Some(causes) = &mut causes {
-                causes.extend(cause);
-            }
+            let why = why(report.mark, report.cause, port);
+            said.extend(format!("epoch\t{}\t{}\tbytes\t{}\tline\t{}{}\n", report.epoch, mark, report.bytes, number, why).bytes());
             let now = states(&self.receiver);
             for (port, ((state, number), before)) in now.iter().zip(&self.states).enumerate() {
                 if (*state, *number) != *before {
@@ -253,13 +275,11 @@ pub struct Replay<R> {
     phase: Phase<R>,
     lines: u64,
     store_most: usize,
-    /// Of each report cause and port, where they are asked for.
-    causes: Option<Vec<[u8; 2]>>,
 }
 
 impl<R: Receives> Replay<R> {
     pub fn new(store_most: usize) -> Replay<R> {
-        Replay { phase: Phase::Settings, lines: 0, store_most, causes: None }
+        Replay { phase: Phase::Settings, lines: 0, store_most }
     }
 
     /// One line, without its end; what is printed is put behind what was said.
@@ -276,7 +296,7 @@ impl<R: Receives> Replay<R> {
                 }
             },
             Phase::Running(group) => match frame(line, group.ports, &mut group.payload) {
-                Some(frame) => group.take(frame, number, said, self.causes.as_mut()),
+                Some(frame) => group.take(frame, number, said),
                 None => refuse(MALFORMED),
             },
             Phase::Ended => {}
@@ -284,22 +304,11 @@ impl<R: Receives> Replay<R> {
     }
 }
 
-fn run<R: Receives>(mut replay: Replay<R>, recording: &[u8]) -> (Vec<u8>, Replay<R>) {
-    let mut said = Vec::new();
+/// The whole output of a recording, whose last line may lack its end.
+pub fn whole<R: Receives>(recording: &[u8], store_most: usize) -> Vec<u8> {
+    let (mut replay, mut said) = (Replay::<R>::new(store_most), Vec::new());
     for line in recording.split_inclusive(|b| *b == b'\n') {
         replay.line(line.strip_suffix(b"\n").unwrap_or(line), &mut said);
     }
-    (said, replay)
-}
-
-/// The whole output of a recording, whose last line may lack its end.
-pub fn whole<R: Receives>(recording: &[u8], store_most: usize) -> Vec<u8> {
-    run(Replay::<R>::new(store_most), recording).0
-}
-
-/// The same, and of each report its cause and the port to blame.
-pub fn whole_and_causes(recording: &[u8], store_most: usize) -> (Vec<u8>, Vec<[u8; 2]>) {
-    let replay = Replay::<Plain> { causes: Some(Vec::new()), ..Replay::new(store_most) };
-    let (said, replay) = run(replay, recording);
-    (said, replay.causes.unwrap_or_default())
+    said
 }

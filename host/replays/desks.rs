@@ -1,9 +1,9 @@
 //! The program for a desk beside the reference and beside the replay program: what it draws together, spread out again, is what they
-//! print, but for the cause and the port behind the line of a report that is not sure; and its counts are those of these lines.
+//! print; and its counts are those of these lines.
 
 use crate::Count;
-use reference::receiver::read::NOBODY;
-use reference::replay::whole_and_causes;
+use reference::receiver::Receiver;
+use reference::replay::whole;
 use std::collections::BTreeMap;
 use std::process::Command;
 
@@ -14,9 +14,8 @@ fn number(field: &str) -> u64 {
     field.parse().expect("a number")
 }
 
-/// The causes in words, by their numbers.
-const CAUSES: [&str; 8] = [
-    "none",
+/// The causes in words, in the order of their numbers.
+const CAUSES: [&str; 7] = [
     "a ruling packet was refused",
     "an active port lacks a frame",
     "numbers of active and DNU ports repeat",
@@ -25,12 +24,6 @@ const CAUSES: [&str; 8] = [
     "a port has no whole ruling packet",
     "the numbers are not 0 to n - 1",
 ];
-
-/// A cause and its port, as they stand behind a line.
-fn words_of(why: [u8; 2]) -> String {
-    let port = if why[1] == NOBODY { String::new() } else { format!("\tport\t{}", why[1]) };
-    format!("cause\t{}{}", CAUSES[usize::from(why[0])], port)
-}
 
 /// What stands behind a line from the word 'cause' on, and the line without it.
 fn part_cause(line: &str) -> (&str, Option<&str>) {
@@ -109,9 +102,8 @@ fn counts_of(lines: &[(String, Option<String>)]) -> String {
 pub struct Drawn {
     pub lines: usize,
     pub printed: usize,
-    /// Reports that say why they are not sure, and those of them that the reference was asked about.
+    /// Reports that say why they are not sure.
     pub whys: usize,
-    pub found: usize,
 }
 
 pub struct Desk<'a> {
@@ -120,8 +112,8 @@ pub struct Desk<'a> {
 
 impl Desk<'_> {
     /// On the files of a recording it prints these lines, drawn together, with their counts and the status that they ask for. Each report
-    /// that is not sure says why, by these causes and ports where they are known, and no other line does.
-    pub fn prints(&self, files: &[String], expected: &str, causes: Option<&[[u8; 2]]>, epochs: u64, drawn: &mut Drawn) -> bool {
+    /// that is not sure says why, and no other line does.
+    pub fn prints(&self, files: &[String], expected: &str, epochs: u64, drawn: &mut Drawn) -> bool {
         let output = Command::new(&self.words[0]).args(&self.words[1..]).args(files).output().expect("the program for a desk starts");
         let text = String::from_utf8_lossy(&output.stdout).into_owned();
         let counts = if text.starts_with("sure\t") { 0 } else { text.find("\nsure\t").expect("counts at the end") + 1 };
@@ -131,20 +123,12 @@ impl Desk<'_> {
         };
         let lines: Vec<(String, Option<String>)> = text[..counts].lines().flat_map(spread).collect();
         let wanted: Vec<&str> = expected.lines().collect();
-        let reports = lines.iter().filter(|(line, _)| line.starts_with("epoch\t"));
-        let by_reference = causes.map_or(true, |causes| {
-            reports.clone().count() == causes.len()
-                && reports.zip(causes).all(|((_, why), cause)| *why == (cause[0] > 0).then(|| words_of(*cause)))
-        });
-        let whys = lines.iter().filter(|(_, why)| why.is_some()).count();
-        drawn.whys += whys;
-        drawn.found += causes.map_or(0, |_| whys);
+        drawn.whys += lines.iter().filter(|(_, why)| why.is_some()).count();
         drawn.lines += lines.len();
         drawn.printed += text[..counts].lines().count();
         let status = i32::from(wanted.iter().any(|line| line.starts_with("answer\t")));
-        let same = lines.iter().map(|(line, _)| line.as_str()).eq(wanted)
+        let same = lines.iter().map(|(line, why)| (line.as_str(), why.as_deref())).eq(wanted.into_iter().map(part_cause))
             && lines.iter().all(|(line, why)| why.is_some() == says_why(line))
-            && by_reference
             && text[counts..] == counts_of(&lines) && output.status.code() == Some(status) && output.stderr.is_empty();
         if !same {
             println!("differs\tdesk\tfiles {:?}\nreplay\t{}\ndesk\t{}", files, expected.escape_debug(), text.escape_debug());
@@ -154,8 +138,7 @@ impl Desk<'_> {
 
     /// The same of a recording, whole and cut at a line, beside the reference with as much store as is asked for.
     pub fn runs(&self, folder: &str, recording: &[u8], drawn: &mut Drawn) -> bool {
-        let (expected, causes) = whole_and_causes(recording, STORE_MOST);
-        let expected = String::from_utf8_lossy(&expected).into_owned();
+        let expected = String::from_utf8_lossy(&whole::<Receiver>(recording, STORE_MOST)).into_owned();
         let first = recording.split(|b| *b == b'\n').next().unwrap_or_default();
         let epochs = if first.windows(4).any(|name| name == b"VC12") { 32 } else { 256 };
         let ends: Vec<usize> = (0..recording.len()).filter(|i| recording[*i] == b'\n').collect();
@@ -166,8 +149,8 @@ impl Desk<'_> {
             path
         };
         let parts = [file("0", &recording[..cut]), file("1", &recording[cut..])];
-        self.prints(&[file("whole", recording)], &expected, Some(&causes), epochs, drawn)
-            && self.prints(&parts, &expected, Some(&causes), epochs, drawn)
+        self.prints(&[file("whole", recording)], &expected, epochs, drawn)
+            && self.prints(&parts, &expected, epochs, drawn)
     }
 }
 
@@ -178,5 +161,5 @@ pub fn held(count: &mut Count, desk: &Desk, folder: &str, recordings: &[Vec<u8>]
     println!("desk\trecordings {}\tlines {}\tdrawn together in {}", recordings.len(), drawn.lines, drawn.printed);
     count.note("what the program for a desk draws together, spread out again, is the reference's output", held);
     count.note("and it draws some together", drawn.printed < drawn.lines);
-    count.note("with the reference's cause and port where a report is not sure", held && drawn.found > 20);
+    count.note("with the reference's cause and port where a report is not sure", held && drawn.whys > 20);
 }

@@ -79,7 +79,7 @@ pub fn compared(folder: &str, link: &[String], replay: &[String], desk: Option<&
     };
     let link_text = run(link, &choices.split(' ').collect::<Vec<_>>());
     let replay_text = run(replay, &[&file]);
-    let drawn = desk.map_or(true, |desk| desk.prints(&[file.clone()], &replay_text, None, epochs, drawn));
+    let drawn = desk.map_or(true, |desk| desk.prints(&[file.clone()], &replay_text, epochs, drawn));
     let (of_link, of_replay) = (reports(&link_text, first, epochs), reports(&replay_text, 0, epochs));
 
     let alike = |(a, b): (&Report, &Report)| a.epoch == b.epoch && a.mark == b.mark && a.bytes == b.bytes;

@@ -55,7 +55,7 @@ use Rattle.recording.specs.declared.record.Record.the-variants.{Long, Malformed
 use Rattle.recording.specs.Record.{lineRecord, recordBy, recordIn}
 use Rattle.replaying.specs.declared.replay.Phase.the-variants as P
 use Rattle.replaying.specs.declared.replay.Replay.{Replay}
-use Rattle.replaying.specs.Output.{reportText}
+use Rattle.replaying.specs.Output.{placeText, reportText}
 use Rattle.replaying.specs.Turn.{framedTurn}
 use Rattle.step.specs.declared.run.Run.{Run}
 use Rattle.step.specs.OwnCount.{ownRuling}
@@ -137,15 +137,27 @@ shown =
     }
     ∷ record {
       name = "a sure report of epoch 7 with 01 02 03 04 as its count, behind which port 0 has come to OK 0, port 1 stays OK 4, and port 2 is FAIL 1";
-      given = reportText (3 ∷ 7 ∷ 2 ∷ 0 ∷ 1 ∷ 2 ∷ 3 ∷ 4 ∷ []) 9 (255 ∷ 516 ∷ 512 ∷ []) (512 ∷ 516 ∷ 257 ∷ []) 3;
+      given = reportText (3 ∷ 7 ∷ 2 ∷ 0 ∷ 1 ∷ 2 ∷ 3 ∷ 4 ∷ []) 255 9 (255 ∷ 516 ∷ 512 ∷ []) (512 ∷ 516 ∷ 257 ∷ []) 3;
       said = ascii "epoch\t7\tsure\tbytes\t16909060\tline\t9\nport\t0\tOK\t0\nport\t2\tFAIL\t1\n";
       equal = refl;
     }
     ∷ record {
-      name = "a held report and a doubtful one, behind which port 0 is IDLE";
+      name = "a held report, a packet of port 12 refused; and a doubtful one, port 1 with no whole packet, behind which port 0 is IDLE";
       given =
-          reportText (1 ∷ 255 ∷ 0 ∷ 0 ∷ 0 ∷ 0 ∷ 0 ∷ 0 ∷ []) 10 [] [] 0 ++ reportText (2 ∷ 0 ∷ 1 ∷ 0 ∷ 0 ∷ 0 ∷ 0 ∷ 16 ∷ []) 11 (512 ∷ []) (255 ∷ []) 1;
-      said = ascii "epoch\t255\theld\tbytes\t0\tline\t10\nepoch\t0\tdoubtful\tbytes\t16\tline\t11\nport\t0\tIDLE\t255\n";
+          reportText (1 ∷ 255 ∷ 0 ∷ 1 ∷ 0 ∷ 0 ∷ 0 ∷ 0 ∷ []) 12 10 [] [] 0 ++ reportText (2 ∷ 0 ∷ 1 ∷ 6 ∷ 0 ∷ 0 ∷ 0 ∷ 16 ∷ []) 1 11 (512 ∷ []) (255 ∷ []) 1;
+      said =
+          ascii
+          "epoch\t255\theld\tbytes\t0\tline\t10\tcause\ta ruling packet was refused\tport\t12\nepoch\t0\tdoubtful\tbytes\t16\tline\t11\tcause\ta port has no whole ruling packet\tport\t1\nport\t0\tIDLE\t255\n";
+      equal = refl;
+    }
+    ∷ record {
+      name = "the other causes of a report: with a port, and numbers with a gap, which are no one port's";
+      given =
+          placeText 1 8 2 0 ++ placeText 1 8 3 63 ++ placeText 1 8 4 7 ++ placeText 1 8 5 9 ++ placeText 2 8 7 255;
+      said =
+          ascii "8\tcause\tan active port lacks a frame\tport\t0\n8\tcause\tnumbers of active and DNU ports repeat\tport\t63\n"
+          ++ ascii "8\tcause\tGID differs among ports that are not IDLE\tport\t7\n8\tcause\tEOS is not on the highest active port alone\tport\t9\n"
+          ++ ascii "8\tcause\tthe numbers are not 0 to n - 1\n";
       equal = refl;
     }
     ∷ record {

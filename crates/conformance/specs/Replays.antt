@@ -1,15 +1,19 @@
--- Examples of request 2026-05, a recording run again, worked out apart: one port, P 1, 72 frames of IDLE packets from MFI1 0 and MFI2 0 on, to the first report. And two wrong
+-- Examples of request 2026-05, a recording run again, worked out apart: one port, P 1, 72 frames of IDLE packets from MFI1 0 and MFI2 0 on, to the first report. And three wrong
 -- readings, which this run breaks.
 use mathlib.Core.Path.{_≡_, refl}
 use mathlib.Core.List.{List, [], _∷_, _++_}
 use Prim.Native.Nat.{ℕ}
 use lib.ListN.{drop, replicate, take}
+use Rattle.ground.specs.Plain.{if_then_else_}
 use Rattle.recording.specs.declared.record.Record.{Record}
 use Rattle.recording.specs.declared.record.Record.the-variants as R
 use Rattle.replaying.specs.declared.replay.Phase.{Phase}
 use Rattle.replaying.specs.declared.replay.Phase.the-variants as P
+use Rattle.replaying.specs.Output.{reportText, statesIn}
 use Rattle.replaying.specs.Replay.{beginning}
 use Rattle.replaying.specs.Runs.{Desk, deskAfter, framed, lineIn, reported, saidTo, standing}
+use Rattle.replaying.specs.Turn.{blamedIn, fetchRecordBy, fetchRowsBy, isDue}
+use Rattle.rows.specs.Rows.{rowsFor}
 use Rattle.text.specs.Ascii.{ascii}
 use Rattle.text.specs.Text.{linesOf}
 use Rattle.conformance.specs.Rows.{Equal, Row, equal-rows}
@@ -52,21 +56,46 @@ flaggedLine P.Fetching d l = d
 flaggedLine P.Skipping d l = d
 flaggedLine P.Ended d l = d
 
+-- the port read behind the fetch, when the next epoch is the oldest
+abbrev lateReport : Desk → List ℕ
+lateReport d =
+    let after = fetchRowsBy (d .replay) (d .rows) (d .store) out in
+    if isDue (d .replay) (d .rows) (d .store) out
+    then reportText (fetchRecordBy (d .replay) (d .rows) (d .store) out) (blamedIn (take (rowsFor (d .replay .ports)) after)) (d .replay .line) (statesIn (d .replay .kind) (d .rows)) (statesIn (d .replay .kind) after) (d .replay .ports)
+    else []
+
+abbrev lateRecord : (d : Desk) (l : List ℕ) (read : Record) → List ℕ
+lateRecord d l (R.Frame port h4 flag place next) = lateReport (framed out d l port h4 flag place)
+lateRecord d l (R.Malformed next) = saidTo out d l
+lateRecord d l R.Long = []
+lateRecord d l R.Unfinished = []
+lateRecord d l R.End = []
+
+abbrev lateLine : (phase : Phase) (d : Desk) (l : List ℕ) → List ℕ
+lateLine P.Settings d l = saidTo out d l
+lateLine P.Reading d l = lateRecord d l (lineIn out d l)
+lateLine P.Fetching d l = []
+lateLine P.Skipping d l = []
+lateLine P.Ended d l = []
+
 -- how a line is taken
 pub data Taking : Type 0 where
   Right : Taking
   Forgetful : Taking
   Flagging : Taking
+  Late : Taking
 
 abbrev said : (taking : Taking) (d : Desk) (l : List ℕ) → List ℕ
 said Right d l = saidTo out d l
 said Forgetful d l = []
 said Flagging d l = saidTo out d l
+said Late d l = lateLine (d .replay .phase) d l
 
 abbrev next : (taking : Taking) (d : Desk) (l : List ℕ) → Desk
 next Right d l = deskAfter out d l
 next Forgetful d l = forgetful (d .replay .phase) d l
 next Flagging d l = flaggedLine (d .replay .phase) d l
+next Late d l = deskAfter out d l
 
 abbrev output : (t : Taking) (d : Desk) (ls : List (List ℕ)) → List ℕ
 output t d [] = []
@@ -88,6 +117,10 @@ lines = linesOf (ascii "1\t1\t16\n0\t00\t0\tAB\n0\t01\t0\tAB\n0\t52\t0\tAB\n0\t0
 abbrev fixedLines : List (List ℕ)
 fixedLines = linesOf (ascii "1\t1\t16\tkind\tFIXED\n0\t00\t0\tAB\n0\t01\t0\tAB\n0\t02\t0\tAB\n0\t03\t0\tAB\n0\t04\t0\tAB\n0\t05\t0\tAB\n0\t06\t0\tAB\n0\t07\t0\tAB\n0\t08\t0\tAB\n0\t09\t0\tAB\n0\t0A\t0\tAB\n0\t0B\t0\tAB\n0\t0C\t0\tAB\n0\t0D\t0\tAB\n0\t0E\t0\tAB\n0\t0F\t0\tAB\n0\t00\t0\tAB\n0\t11\t0\tAB\n0\t02\t0\tAB\n0\t03\t0\tAB\n0\t04\t0\tAB\n0\t05\t0\tAB\n0\t06\t0\tAB\n0\t07\t0\tAB\n0\t08\t0\tAB\n0\t09\t0\tAB\n0\t0A\t0\tAB\n0\t0B\t0\tAB\n0\t0C\t0\tAB\n0\t0D\t0\tAB\n0\t0E\t0\tAB\n0\t0F\t0\tAB\n0\t00\t0\tAB\n0\t21\t0\tAB\n0\t02\t0\tAB\n0\t03\t0\tAB\n0\t04\t0\tAB\n0\t05\t0\tAB\n0\t06\t0\tAB\n0\t07\t0\tAB\n0\t08\t0\tAB\n0\t09\t0\tAB\n0\t0A\t0\tAB\n0\t0B\t0\tAB\n0\t0C\t0\tAB\n0\t0D\t0\tAB\n0\t0E\t0\tAB\n0\t0F\t0\tAB\n0\t00\t0\tAB\n0\t31\t0\tAB\n0\t02\t0\tAB\n0\t03\t0\tAB\n0\t04\t0\tAB\n0\t05\t0\tAB\n0\t06\t0\tAB\n0\t07\t0\tAB\n0\t08\t0\tAB\n0\t09\t0\tAB\n0\t0A\t0\tAB\n0\t0B\t0\tAB\n0\t0C\t0\tAB\n0\t0D\t0\tAB\n0\t0E\t0\tAB\n0\t0F\t0\tAB\n0\t00\t0\tAB\n0\t41\t0\tAB\n0\t02\t0\tAB\n0\t03\t0\tAB\n0\t04\t0\tAB\n0\t05\t0\tAB\n0\t06\t0\tAB\n0\t07\t0\tAB\n")
 
+-- 72 frames of packets with EOS and SQ 1
+abbrev second : List (List ℕ)
+second = linesOf (ascii "1\t1\t16\n0\t00\t0\tAB\n0\t01\t0\tAB\n0\t32\t0\tAB\n0\t03\t0\tAB\n0\t04\t0\tAB\n0\t05\t0\tAB\n0\tA6\t0\tAB\n0\tB7\t0\tAB\n0\tF8\t0\tAB\n0\tF9\t0\tAB\n0\t0A\t0\tAB\n0\t0B\t0\tAB\n0\t0C\t0\tAB\n0\t0D\t0\tAB\n0\t0E\t0\tAB\n0\t1F\t0\tAB\n0\t00\t0\tAB\n0\t11\t0\tAB\n0\t32\t0\tAB\n0\t03\t0\tAB\n0\t04\t0\tAB\n0\t05\t0\tAB\n0\tC6\t0\tAB\n0\t07\t0\tAB\n0\tF8\t0\tAB\n0\tF9\t0\tAB\n0\t0A\t0\tAB\n0\t0B\t0\tAB\n0\t0C\t0\tAB\n0\t0D\t0\tAB\n0\t0E\t0\tAB\n0\t1F\t0\tAB\n0\t00\t0\tAB\n0\t21\t0\tAB\n0\t32\t0\tAB\n0\t03\t0\tAB\n0\t04\t0\tAB\n0\t05\t0\tAB\n0\t76\t0\tAB\n0\tD7\t0\tAB\n0\tF8\t0\tAB\n0\tF9\t0\tAB\n0\t0A\t0\tAB\n0\t0B\t0\tAB\n0\t0C\t0\tAB\n0\t0D\t0\tAB\n0\t0E\t0\tAB\n0\t1F\t0\tAB\n0\t00\t0\tAB\n0\t31\t0\tAB\n0\t32\t0\tAB\n0\t03\t0\tAB\n0\t04\t0\tAB\n0\t05\t0\tAB\n0\t16\t0\tAB\n0\t67\t0\tAB\n0\tF8\t0\tAB\n0\tF9\t0\tAB\n0\t0A\t0\tAB\n0\t0B\t0\tAB\n0\t0C\t0\tAB\n0\t0D\t0\tAB\n0\t0E\t0\tAB\n0\t1F\t0\tAB\n0\t00\t0\tAB\n0\t41\t0\tAB\n0\t32\t0\tAB\n0\t03\t0\tAB\n0\t04\t0\tAB\n0\t05\t0\tAB\n0\t06\t0\tAB\n0\t07\t0\tAB\n")
+
 -- with a line that is none behind line 41
 abbrev torn : List (List ℕ)
 torn = take 41 lines ++ (ascii "0\t0" ∷ drop 41 lines)
@@ -106,8 +139,9 @@ table =
     ∷ record { name = "numbers for two ports where there is one: 13"; given = replayed Right 32 (ascii "1\t1\t16\thold-off\t5\t5" ∷ drop 1 lines) []; said = ascii "answer\t13\tline\t1\n"; equal = refl }
     ∷ record { name = "a hold-off of 5,001 and a kind that is none: 13 before 4"; given = replayed Right 32 (ascii "1\t1\t16\thold-off\t5001\tkind\tK4" ∷ drop 1 lines) []; said = ascii "answer\t13\tline\t1\n"; equal = refl }
     ∷ record { name = "the 72 frames with both times: an IDLE port waits for nothing"; given = replayed Right 32 (ascii "1\t1\t16\twait-to-restore\t2\tkind\tH4\thold-off\t5" ∷ drop 1 lines) []; said = ascii "epoch\t4\tsure\tbytes\t0\tline\t73\n"; equal = refl }
-    ∷ record { name = "the 72 frames as those of a fixed group: no word is FIXED, and it is held"; given = replayed Right 32 (ascii "1\t1\t16\tkind\tFIXED" ∷ drop 1 lines) []; said = ascii "epoch\t4\theld\tbytes\t0\tline\t73\n"; equal = refl }
+    ∷ record { name = "the 72 frames as those of a fixed group: no word is FIXED, and it is held"; given = replayed Right 32 (ascii "1\t1\t16\tkind\tFIXED" ∷ drop 1 lines) []; said = ascii "epoch\t4\theld\tbytes\t0\tline\t73\tcause\ta ruling packet was refused\tport\t0\n"; equal = refl }
     ∷ record { name = "72 frames of a fixed group of one: sure, and its port is OK"; given = replayed Right 32 fixedLines []; said = ascii "epoch\t4\tsure\tbytes\t16\tline\t73\nport\t0\tOK\t0\n"; equal = refl }
+    ∷ record { name = "72 frames of the one member with SQ 1: doubtful, and no one port's"; given = replayed Right 32 second []; said = ascii "epoch\t4\tdoubtful\tbytes\t16\tline\t73\tcause\tthe numbers are not 0 to n - 1\nport\t0\tOK\t1\n"; equal = refl }
     ∷ []
 
 pub examples : Equal table
@@ -122,3 +156,10 @@ forgetful-breaks = (refl, refl)
 flagging-breaks : (replayed Flagging 32 torn [] ≡ ascii "answer\t13\tline\t42\n") × (replayed Right 32 torn [] ≡ ascii "answer\t13\tline\t42\nepoch\t4\tsure\tbytes\t0\tline\t74\n")
 unfolding allOpen replayed
 flagging-breaks = (refl, refl)
+
+-- the port is that of the report: behind the fetch the rows speak of the next epoch, whose packet is not whole
+late-breaks :
+    (replayed Late 32 second [] ≡ ascii "epoch\t4\tdoubtful\tbytes\t16\tline\t73\tcause\tthe numbers are not 0 to n - 1\tport\t0\nport\t0\tOK\t1\n")
+    × (replayed Right 32 second [] ≡ ascii "epoch\t4\tdoubtful\tbytes\t16\tline\t73\tcause\tthe numbers are not 0 to n - 1\nport\t0\tOK\t1\n")
+unfolding allOpen replayed
+late-breaks = (refl, refl)

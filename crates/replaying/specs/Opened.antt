@@ -4,15 +4,15 @@ use Rattle.bytes.specs.Bytes.{indexAfter, indexOf}
 use Rattle.recording.specs.Opened.{recordingOpen}
 use Rattle.receiver.specs.Opened.{receiverOpen}
 use Rattle.replaying.specs.Deeds.{wantsWithin}
-use Rattle.replaying.specs.Output.{answerText, countIn, epochText, markText, portText, reportText, stateAt, stateLine, stateText, statesIn}
+use Rattle.replaying.specs.Output.{answerText, blamedText, causeText, countIn, epochText, markText, placeText, portText, reportText, stateAt, stateLine, stateText, statesIn, whyText}
 use Rattle.replaying.specs.Printing.{eventsOf}
 use Rattle.replaying.specs.Runs.{called, calls, deskAfter, saidTo, wholeOutput}
-use Rattle.replaying.specs.Turn.{answeredSaid, answeredTurn, fetchOutBy, fetchRecordBy, fetchRowsBy, fetchedSaid, fetchedTurn, framedRows, framedStore, framedTurn, isLent, openRows, openSaid, openTurn, openWithRows, openWithSaid, openWithTurn, payloadAt, placed, readOnTurn, readRows, readSaid, readStore, readTurn, recordNow, reportOf, reportOut, reportRows, reportSaid, reportTurn, reportedTurn, skipTurn, startable, startedRows, timesFit, turnOf, turnOut, turnRows, turnSaid, turnStore}
+use Rattle.replaying.specs.Turn.{answeredSaid, answeredTurn, blamedIn, fetchOutBy, fetchRecordBy, fetchRowsBy, fetchedSaid, fetchedTurn, framedRows, framedStore, framedTurn, isLent, openRows, openSaid, openTurn, openWithRows, openWithSaid, openWithTurn, payloadAt, placed, readOnTurn, readRows, readSaid, readStore, readTurn, recordNow, reportOf, reportOut, reportRows, reportSaid, reportTurn, reportedTurn, skipTurn, startable, startedRows, timesFit, turnOf, turnOut, turnRows, turnSaid, turnStore}
 use Rattle.replaying.specs.Lengths.{inRange, lengthsIn, lengthsOf}
 
 unfoldable pub replayingOpen : ℕ
-unfolding recordingOpen receiverOpen indexAfter indexOf wantsWithin answerText countIn epochText markText portText reportText stateAt stateLine
-    stateText statesIn eventsOf called calls deskAfter saidTo wholeOutput answeredSaid answeredTurn fetchOutBy fetchRecordBy fetchRowsBy fetchedSaid
+unfolding recordingOpen receiverOpen indexAfter indexOf wantsWithin answerText blamedText causeText countIn epochText markText placeText portText reportText stateAt stateLine
+    stateText statesIn whyText eventsOf called calls deskAfter saidTo wholeOutput answeredSaid answeredTurn blamedIn fetchOutBy fetchRecordBy fetchRowsBy fetchedSaid
     fetchedTurn framedRows framedStore framedTurn isLent openRows openSaid openTurn openWithRows openWithSaid openWithTurn payloadAt placed readOnTurn
     readRows readSaid readStore readTurn recordNow reportOf reportOut reportRows reportSaid reportTurn reportedTurn skipTurn startable startedRows
     timesFit turnOf turnOut turnRows turnSaid turnStore inRange lengthsIn lengthsOf

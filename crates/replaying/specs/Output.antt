@@ -1,4 +1,6 @@
 -- The lines that are printed (2026-05): 'each epoch's report with mark and byte count, and each change of port state, in the order they arise'.
+-- Behind mark and byte count a held or doubtful report names why, and the port.
+use mathlib.Core.Bool.{_||_}
 use mathlib.Core.List.{List, [], _++_}
 use Prim.Native.Nat.{ℕ, zero, suc, _+_, _*_, _/_, _%_}
 use lib.ListN.{getD}
@@ -23,9 +25,31 @@ stateText state = if state == 0 then ascii "IDLE" else if state == 1 then ascii 
 unfoldable pub answerText : ℕ → ℕ → Bytes
 answerText number line = ended (ascii "answer") TAB ++ ended (decimalText number) TAB ++ ended (ascii "line") TAB ++ ended (numberText line) LINE-END
 
-unfoldable pub epochText : (epoch : Epoch) (mark bytes line : ℕ) → Bytes
-epochText epoch mark bytes line =
-    ended (ascii "epoch") TAB ++ ended (decimalText epoch) TAB ++ ended (markText mark) TAB ++ ended (ascii "bytes") TAB ++ ended (numberText bytes) TAB ++ ended (ascii "line") TAB ++ ended (numberText line) LINE-END
+-- the clauses 1 to 7 of crates/judge/specs/Cause.antt
+unfoldable pub causeText : ℕ → Bytes
+causeText cause =
+    if cause == 1 then ascii "a ruling packet was refused"
+    else if cause == 2 then ascii "an active port lacks a frame"
+    else if cause == 3 then ascii "numbers of active and DNU ports repeat"
+    else if cause == 4 then ascii "GID differs among ports that are not IDLE"
+    else if cause == 5 then ascii "EOS is not on the highest active port alone"
+    else if cause == 6 then ascii "a port has no whole ruling packet"
+    else ascii "the numbers are not 0 to n - 1"
+
+-- the lowest port to which a cause applies; 255: it is no one port's
+unfoldable pub blamedText : ℕ → Bytes
+blamedText port = if port == 255 then ascii "\n" else ascii "\tport\t" ++ ended (decimalText port) LINE-END
+
+unfoldable pub whyText : (cause port : ℕ) → Bytes
+whyText cause port = ended (ascii "cause") TAB ++ causeText cause ++ blamedText port
+
+-- a line's number, and behind it why a report is held or doubtful
+unfoldable pub placeText : (mark line cause port : ℕ) → Bytes
+placeText mark line cause port = if mark == 1 || mark == 2 then ended (numberText line) TAB ++ whyText cause port else ended (numberText line) LINE-END
+
+unfoldable pub epochText : (epoch : Epoch) (mark bytes line cause port : ℕ) → Bytes
+epochText epoch mark bytes line cause port =
+    ended (ascii "epoch") TAB ++ ended (decimalText epoch) TAB ++ ended (markText mark) TAB ++ ended (ascii "bytes") TAB ++ ended (numberText bytes) TAB ++ ended (ascii "line") TAB ++ placeText mark line cause port
 
 unfoldable pub portText : (port state number : ℕ) → Bytes
 portText port state number = ended (ascii "port") TAB ++ ended (decimalText port) TAB ++ ended (stateText state) TAB ++ ended (decimalText number) LINE-END
@@ -53,10 +77,11 @@ changesText before after (suc n) = changesText before after n ++ changeText n (g
 unfoldable pub countIn : List ℕ → ℕ
 countIn rec = getD rec 4 0 * 16777216 + getD rec 5 0 * 65536 + getD rec 6 0 * 256 + getD rec 7 0
 
--- a report, and then the states that it changed
-unfoldable pub reportText : (rec : List ℕ) (line : ℕ) (before after : List ℕ) (ports : ℕ) → Bytes
-reportText rec line before after ports = epochText (getD rec 1 0) (getD rec 0 0) (countIn rec) line ++ changesText before after ports
+-- a report with the port to which its cause applies, and then the states that it changed
+unfoldable pub reportText : (rec : List ℕ) (blamed line : ℕ) (before after : List ℕ) (ports : ℕ) → Bytes
+reportText rec blamed line before after ports =
+    epochText (getD rec 1 0) (getD rec 0 0) (countIn rec) line (getD rec 3 0) blamed ++ changesText before after ports
 
--- room for what one call writes: a report of at most 72 bytes and 64 ports of at most 17
+-- room for what one call writes: a report of at most 131 bytes and 64 ports of at most 17
 abbrev pub ROOM : ℕ
-ROOM = 1160
+ROOM = 1219

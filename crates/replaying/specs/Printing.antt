@@ -1,7 +1,9 @@
 -- What arises in a run over a recording (2026-05), and the lines that are printed of it: 'each epoch's report with mark and byte count, and each change of port state, in the order they arise'.
+-- Behind mark and byte count a held or doubtful report names why, and the port.
+use mathlib.Core.Bool.{_||_}
 use mathlib.Core.List.{List, [], _∷_, _++_}
 use Prim.Native.Nat.{ℕ, zero, suc, _+_, _/_, _%_}
-use lib.ListN.{getD, length}
+use lib.ListN.{getD, length, take}
 use Rattle.ground.specs.Plain.{if_then_else_, _==_}
 use Rattle.ground.specs.Types.{Bytes, Rows}
 use Rattle.recording.specs.Opening.{Opening}
@@ -11,23 +13,25 @@ use Rattle.recording.specs.declared.record.Record.the-variants.{Frame, Malforme
 use Rattle.recording.specs.Opening.{lineOpening}
 use Rattle.replaying.specs.declared.replay.Phase.{Phase}
 use Rattle.replaying.specs.declared.replay.Phase.the-variants.{Settings, Reading, Fetching, Skipping, Ended}
-use Rattle.replaying.specs.Output.{countIn, markText, stateText, statesIn}
+use Rattle.replaying.specs.Output.{causeText, countIn, markText, stateText, statesIn}
 use Rattle.replaying.specs.Replay.{beginning, nextLine}
 use Rattle.replaying.specs.Runs.{Desk, deskAfter, fetched, framed, lineIn}
-use Rattle.replaying.specs.Turn.{fetchRecordBy, fetchRowsBy, isDue, startable}
+use Rattle.replaying.specs.Turn.{blamedIn, fetchRecordBy, fetchRowsBy, isDue, startable}
+use Rattle.rows.specs.Rows.{rowsFor}
 use Rattle.text.specs.Ascii.{ascii}
 use Rattle.text.specs.Output.{decimalText, ended, numberText}
 use Rattle.text.specs.Text.{TAB, linesOf}
 
--- What arises in a run: a line refused, or a report that a fetch gave, with the line behind which it came, the ports, and their states before the fetch and after it.
+-- What arises in a run: a line refused, or a report that a fetch gave, with the port to which its cause applies, the line behind which it came, the ports, and their states before the fetch
+-- and after it.
 pub data Event : Type 0 where
   Refused : ℕ → ℕ → Event
-  Reported : List ℕ → ℕ → ℕ → List ℕ → List ℕ → Event
+  Reported : List ℕ → ℕ → ℕ → ℕ → List ℕ → List ℕ → Event
 
 module _ (out : List ℕ) where
   abbrev pub given : Desk → Event
   given d =
-      Reported (fetchRecordBy (d .replay) (d .rows) (d .store) out) (d .replay .line) (d .replay .ports) (statesIn (d .replay .kind) (d .rows)) (statesIn (d .replay .kind) (fetchRowsBy (d .replay) (d .rows) (d .store) out))
+      Reported (fetchRecordBy (d .replay) (d .rows) (d .store) out) (blamedIn (take (rowsFor (d .replay .ports)) (d .rows))) (d .replay .line) (d .replay .ports) (statesIn (d .replay .kind) (d .rows)) (statesIn (d .replay .kind) (fetchRowsBy (d .replay) (d .rows) (d .store) out))
 
   -- every fetch behind a frame, until one gives none
   abbrev pub fetches : ℕ → Desk → List Event
@@ -69,9 +73,20 @@ module _ (out : List ℕ) where
 abbrev pub answerLine : (number line : ℕ) → Bytes
 answerLine number line = ended (ascii "answer") TAB ++ ended (decimalText number) TAB ++ ended (ascii "line") TAB ++ numberText line
 
-abbrev pub epochLine : (rec : List ℕ) (line : ℕ) → Bytes
-epochLine rec line =
-    ended (ascii "epoch") TAB ++ ended (decimalText (getD rec 1 0)) TAB ++ ended (markText (getD rec 0 0)) TAB ++ ended (ascii "bytes") TAB ++ ended (numberText (countIn rec)) TAB ++ ended (ascii "line") TAB ++ numberText line
+-- why, and the port where it is one port's
+
+abbrev pub blamedLine : ℕ → Bytes
+blamedLine port = if port == 255 then [] else ascii "\tport\t" ++ decimalText port
+
+abbrev pub whyLine : (cause port : ℕ) → Bytes
+whyLine cause port = ended (ascii "cause") TAB ++ causeText cause ++ blamedLine port
+
+abbrev pub placeLine : (mark line cause port : ℕ) → Bytes
+placeLine mark line cause port = if mark == 1 || mark == 2 then ended (numberText line) TAB ++ whyLine cause port else numberText line
+
+abbrev pub epochLine : (rec : List ℕ) (blamed line : ℕ) → Bytes
+epochLine rec blamed line =
+    ended (ascii "epoch") TAB ++ ended (decimalText (getD rec 1 0)) TAB ++ ended (markText (getD rec 0 0)) TAB ++ ended (ascii "bytes") TAB ++ ended (numberText (countIn rec)) TAB ++ ended (ascii "line") TAB ++ placeLine (getD rec 0 0) line (getD rec 3 0) blamed
 
 abbrev pub portLine : (port state : ℕ) → Bytes
 portLine port state = ended (ascii "port") TAB ++ ended (decimalText port) TAB ++ ended (stateText (state / 256)) TAB ++ decimalText (state % 256)
@@ -87,7 +102,7 @@ portLines after (i ∷ ports) = portLine i (getD after i 0) ∷ portLines after 
 
 abbrev pub linesIn : Event → List Bytes
 linesIn (Refused number line) = answerLine number line ∷ []
-linesIn (Reported rec line ports before after) = epochLine rec line ∷ portLines after (changed before after ports)
+linesIn (Reported rec blamed line ports before after) = epochLine rec blamed line ∷ portLines after (changed before after ports)
 
 abbrev pub allLines : List Event → List Bytes
 allLines [] = []
@@ -103,12 +118,12 @@ only letter (l ∷ ls) = if getD l 0 0 == letter then l ∷ only letter ls else 
 abbrev pub reportLines : List Event → List Bytes
 reportLines [] = []
 reportLines (Refused number line ∷ es) = reportLines es
-reportLines (Reported rec line ports before after ∷ es) = epochLine rec line ∷ reportLines es
+reportLines (Reported rec blamed line ports before after ∷ es) = epochLine rec blamed line ∷ reportLines es
 
 abbrev pub changeLines : List Event → List Bytes
 changeLines [] = []
 changeLines (Refused number line ∷ es) = changeLines es
-changeLines (Reported rec line ports before after ∷ es) = portLines after (changed before after ports) ++ changeLines es
+changeLines (Reported rec blamed line ports before after ∷ es) = portLines after (changed before after ports) ++ changeLines es
 
 -- how often a port is among them
 

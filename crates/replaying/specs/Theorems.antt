@@ -6,3 +6,4 @@ pub mod Lines
 pub mod Printed
 pub mod Used
 pub mod WhateverLent
+pub mod Why

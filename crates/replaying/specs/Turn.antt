@@ -1,6 +1,6 @@
 -- One turn of a replay (2026-05): a line read, or a report fetched.
 use mathlib.Core.Bool.{Bool, true, false, _&&_}
-use mathlib.Core.List.{List, _++_}
+use mathlib.Core.List.{List, [], _∷_, _++_}
 use Prim.Native.Nat.{ℕ, _+_, _-_}
 use lib.ListN.{drop, getD, length, replicate, take}
 use lib.Seq.{slice}
@@ -8,6 +8,7 @@ use Rattle.ground.specs.Plain.{if_then_else_, _==_, _<?_, _≤?_}
 use Rattle.ground.specs.Types.{Bytes, Rows}
 use Rattle.bytes.specs.Bytes.{indexOf}
 use Rattle.phases.specs.Sizes.{startSized}
+use Rattle.receiver.specs.Cause.{causeOut}
 use Rattle.receiver.specs.Fetch.{fetchOut, fetchRecord, fetchRows}
 use Rattle.receiver.specs.Frame.{frameRows, frameStore}
 use Rattle.receiver.specs.Starting.{startAsRows, timesWithin}
@@ -237,6 +238,10 @@ readOnTurn r = turned (within r Reading (r .line) 0) 0 0 false
 unfoldable pub reportedTurn : Replay → ℕ → Replayed
 reportedTurn r written = turned (within r Fetching (r .line) (r .left - 1)) 0 written false
 
+-- the port to which the cause of the next report applies, as a receiver's rows say it before the fetch; 255: none
+unfoldable pub blamedIn : (rows : Rows) → ℕ
+blamedIn rows = getD (causeOut rows (0 ∷ 255 ∷ [])) 1 0
+
 module _ (r : Replay) (rows : List (List ℕ)) (store out : List ℕ) where
   unfoldable pub fetchRecordBy : List ℕ
   fetchRecordBy = fetchRecord (take (rowsFor (r .ports)) rows) (take (storeOf (r .ports) (r .size) (r .window)) store) out (replicate 8 0)
@@ -253,7 +258,8 @@ module _ (r : Replay) (rows : List (List ℕ)) (store out : List ℕ) where
   isDue = 0 <? getD fetchRecordBy 0 0
 
   unfoldable pub reportOf : List ℕ
-  reportOf = reportText fetchRecordBy (r .line) (statesIn (r .kind) rows) (statesIn (r .kind) fetchRowsBy) (r .ports)
+  reportOf =
+      reportText fetchRecordBy (blamedIn (take (rowsFor (r .ports)) rows)) (r .line) (statesIn (r .kind) rows) (statesIn (r .kind) fetchRowsBy) (r .ports)
 
   -- a fetch, and its report if it gave one
   unfoldable pub fetchedTurn : Replayed

@@ -107,6 +107,7 @@ fn count_in(given: [u8; 8]) -> u64
 // A report's line, and the states that it changed.
 pub(crate) fn put_report(
     given: [u8; 8],
+    blamed: u8,
     line: u64,
     before: [u16; 64],
     after: [u16; 64],
@@ -114,9 +115,9 @@ pub(crate) fn put_report(
     said: &mut [u8],
 ) -> usize
     requires { ⌜ (ports ≤ 64) × (ROOM ≤ length (now said)) ⌝ }
-    ensures { λ r. ⌜ Put (reportText given line before after ports) 0 (now (said .entry)) r (now (said .exit)) ⌝ }
+    ensures { λ r. ⌜ Put (reportText given blamed line before after ports) 0 (now (said .entry)) r (now (said .exit)) ⌝ }
 {
     let count = count_in(given);
-    let next = output::put_epoch(given[1], given[0], count, line, said);
+    let next = output::put_epoch(given[1], given[0], count, line, given[3], blamed, said);
     put_changes(before, after, ports, said, next)
 }

@@ -7,7 +7,7 @@ ghost use Prim.Native.Nat.{_≤_};
 ghost use lib.ListN.{drop, length, take};
 ghost use Rattle.receiver.specs.Fetch.{fetchOut, fetchRecord, fetchRows};
 ghost use Rattle.replaying.specs.Laws.Due.{dueAt, dueOf};
-ghost use Rattle.replaying.specs.Turn.{clearedRows, clearedStore, startedRows, storeIn, timesFit};
+ghost use Rattle.replaying.specs.Turn.{blamedIn, clearedRows, clearedStore, startedRows, storeIn, timesFit};
 
 fn clear_rows(rows: &mut [[u8; 16]])
     ensures { λ _. ⌜ now (rows .exit) ≡ clearedRows (now (rows .entry)) ⌝ }
@@ -75,6 +75,16 @@ pub(crate) fn fetch(
         × (now (report .exit) ≡ fetchRecord (take count (now (rows .entry))) (take bytes (now (store .entry))) (now (out .entry)) (now (report .entry))) ⌝ }
 {
     receiver::fetch(&mut rows[..count], &store[..bytes], out, report);
+}
+
+// The port to which the cause of the next report applies, read before it is fetched.
+pub(crate) fn blamed(rows: &[[u8; 16]], count: usize) -> u8
+    requires { ⌜ count ≤ length (now rows) ⌝ }
+    ensures { λ r. ⌜ r ≡ blamedIn (take count (now (rows .entry))) ⌝ }
+{
+    let mut cause = [0u8, 255];
+    receiver::cause(&rows[..count], &mut cause);
+    cause[1]
 }
 
 fn is_due_of(group: Group, state: &[[u8; 16]]) -> bool

@@ -32,7 +32,7 @@ pub struct Replayed {
 }
 
 // Room for what one turn writes.
-pub const REPLAY_ROOM: usize = 1160;
+pub const REPLAY_ROOM: usize = 1219;
 
 // Rows for 64 ports.
 const ROWS_MOST: usize = 321;
@@ -494,12 +494,22 @@ fn report_now(
         × (now (said .exit) ≡ fetchedSaid replay (now (rows .entry)) (now (store .entry)) (now (out .entry)) (now (said .entry))) ⌝ }
 {
     let before = changes::states_in(replay.kind, rows);
+    let n = group::rows_for(replay.ports);
+    let blamed = lent::blamed(rows, n);
     let given = fetch(replay, rows, store, out);
     if given[0] == 0 {
         return read_on(replay, at);
     }
     let after = changes::states_in(replay.kind, rows);
-    let written = changes::put_report(given, replay.line, before, after, replay.ports, said);
+    let written = changes::put_report(
+        given,
+        blamed,
+        replay.line,
+        before,
+        after,
+        replay.ports,
+        said,
+    );
     reported(replay, at, written)
 }
 

@@ -38,7 +38,7 @@ abbrev rows : List (List ℕ)
 rows = replicate 321 (replicate 16 9)
 
 abbrev host : Host
-host = beginsWith rows (nines 32) (nines 32) (nines 1160)
+host = beginsWith rows (nines 32) (nines 32) (nines 1219)
 
 -- two files, of which neither ends in a line end
 abbrev twoFiles : List Deed
@@ -61,12 +61,12 @@ written = (refl, refl, refl, refl, refl)
 
 closed-used : run host twoFiles .said ≡ ascii "answer\t13\tline\t2\nanswer\t13\tline\t3\n"
 unfolding allOpen
-closed-used = closed-whole rows (nines 32) (nines 32) (nines 1160) (omega arith) (omega arith) (omega arith) (Read (ascii "1\t1\t16\nx") ∷ Close ∷ Read (ascii "y") ∷ [])
+closed-used = closed-whole rows (nines 32) (nines 32) (nines 1219) (omega arith) (omega arith) (omega arith) (Read (ascii "1\t1\t16\nx") ∷ Close ∷ Read (ascii "y") ∷ [])
 
 -- `x` is not closed: 13 for line 2 is still to come
 cut-used : [] ++ ascii "answer\t13\tline\t2\n" ≡ ascii "answer\t13\tline\t2\n"
 unfolding allOpen
-cut-used = cut-anywhere rows (nines 32) (nines 32) (nines 1160) (omega arith) (omega arith) (omega arith) (Read (ascii "1\t1\t16\nx") ∷ Call ∷ []) 0
+cut-used = cut-anywhere rows (nines 32) (nines 32) (nines 1219) (omega arith) (omega arith) (omega arith) (Read (ascii "1\t1\t16\nx") ∷ Call ∷ []) 0
 
 printed-used : ascii "answer\t13\tline\t2" ∷ ascii "answer\t13\tline\t3" ∷ [] ≡ allLines (Refused 13 2 ∷ Refused 13 3 ∷ [])
 unfolding allOpen

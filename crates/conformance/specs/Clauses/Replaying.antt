@@ -39,7 +39,7 @@ tooLittle r = record { replay = r; answer = 9; used = 0; written = 0; wants = tr
 abbrev rows : ℕ → List (List ℕ)
 rows n = replicate n (replicate 16 9)
 
--- the first line, with 321 rows and a room of 1,160 or more
+-- the first line, with 321 rows and a room of 1,219 or more
 abbrev first : (text : Bytes) (last : Bool) (r store said : ℕ) → Replayed
 first text last r store said = turnOf beginning text last (rows r) (nines store) [] said
 
@@ -50,53 +50,54 @@ abbrev ends : ℕ → Replayed
 ends written = goes (record { phase = Ended; line = 1; left = 0; kind = 0; ports = 0; size = 0; window = 0 }) 0 written false
 
 a-first-line :
-    (first (ascii "1\t1\t16\nx") false 321 32 1160 ≡ started 7)
-    × (first (ascii "1\t1\t16") true 321 32 1160 ≡ started 6)
-    × (first (ascii "1\t1\t16") false 321 32 1160 ≡ goes beginning 0 0 true)
-    × (first [] true 321 32 1160 ≡ goes beginning 0 0 true)
-    × (first (ascii "1\t1\t16\nx") false 321 31 1160 ≡ ends 16)
-    × (first (ascii "0\t1\t16\nx") false 321 32 1160 ≡ ends 16)
-    × (first (ascii "x\n") false 321 32 1160 ≡ ends 17)
-    × (first (ascii "1\t1\t16\nx") false 320 32 1160 ≡ tooLittle beginning)
-    × (first (ascii "1\t1\t16\nx") false 321 32 1159 ≡ tooLittle beginning)
-    × (first (ascii "2\t3\t16\n") false 321 128 1160 ≡ goes (record { phase = Reading; line = 1; left = 0; kind = 0; ports = 2; size = 3; window = 16 }) 7 0 false)
-    × (first (ascii "2\t3\t16\n") false 321 127 1160 ≡ ends 16)
-    × (first (ascii "1\t1\t16\twait-to-restore\t5001\n") false 321 32 1160 ≡ ends 16)
+    (first (ascii "1\t1\t16\nx") false 321 32 1219 ≡ started 7)
+    × (first (ascii "1\t1\t16") true 321 32 1219 ≡ started 6)
+    × (first (ascii "1\t1\t16") false 321 32 1219 ≡ goes beginning 0 0 true)
+    × (first [] true 321 32 1219 ≡ goes beginning 0 0 true)
+    × (first (ascii "1\t1\t16\nx") false 321 31 1219 ≡ ends 16)
+    × (first (ascii "0\t1\t16\nx") false 321 32 1219 ≡ ends 16)
+    × (first (ascii "x\n") false 321 32 1219 ≡ ends 17)
+    × (first (ascii "1\t1\t16\nx") false 320 32 1219 ≡ tooLittle beginning)
+    × (first (ascii "1\t1\t16\nx") false 321 32 1218 ≡ tooLittle beginning)
+    × (first (ascii "2\t3\t16\n") false 321 128 1219 ≡ goes (record { phase = Reading; line = 1; left = 0; kind = 0; ports = 2; size = 3; window = 16 }) 7 0 false)
+    × (first (ascii "2\t3\t16\n") false 321 127 1219 ≡ ends 16)
+    × (first (ascii "1\t1\t16\twait-to-restore\t5001\n") false 321 32 1219 ≡ ends 16)
 unfolding allOpen
 a-first-line = (refl, refl, refl, refl, refl, refl, refl, refl, refl, refl, refl, refl)
 
 -- what is lent: with a group started it holds zeros, but for the group's own rows; where none has started it stays
 abbrev firstRows : Bytes → List (List ℕ)
-firstRows text = turnRows beginning text false (rows 321) (nines 40) [] 1160
+firstRows text = turnRows beginning text false (rows 321) (nines 40) [] 1219
 
 what-is-lent :
-    (turnStore beginning (ascii "1\t1\t16\n") false (rows 321) (nines 40) [] 1160 ≡ replicate 40 0)
-    × (turnStore beginning (ascii "0\t1\t16\n") false (rows 321) (nines 40) [] 1160 ≡ nines 40)
-    × (turnStore beginning (ascii "1\t1\t16\n") false (rows 320) (nines 40) [] 1160 ≡ nines 40)
+    (turnStore beginning (ascii "1\t1\t16\n") false (rows 321) (nines 40) [] 1219 ≡ replicate 40 0)
+    × (turnStore beginning (ascii "0\t1\t16\n") false (rows 321) (nines 40) [] 1219 ≡ nines 40)
+    × (turnStore beginning (ascii "1\t1\t16\n") false (rows 320) (nines 40) [] 1219 ≡ nines 40)
     × (drop 6 (firstRows (ascii "1\t1\t16\n")) ≡ replicate 315 (replicate 16 0))
     × (take 6 (firstRows (ascii "1\t1\t16\n")) ≡ startRows 0 1 1 16 32 (replicate 6 (replicate 16 0)))
     × (take 6 (firstRows (ascii "1\t1\t16\tkind\tFIXED\thold-off\t3\twait-to-restore\t4\n")) ≡ startAsRows 2 1 1 16 32 (3 ∷ []) (4 ∷ []) (replicate 6 (replicate 16 0)))
     × (take 1 (firstRows (ascii "0\t1\t16\n")) ≡ rows 1)
     × (take 1 (firstRows (ascii "x\n")) ≡ rows 1)
-    × (turnOut beginning (rows 321) (nines 40) (nines 5) 1160 ≡ nines 5)
-    × (take 11 (turnRows beginning (ascii "2\t3\t16\thold-off\t5\t6\twait-to-restore\t7\t8\n") false (rows 321) (nines 128) [] 1160) ≡ startAsRows 0 2 3 16 128 (5 ∷ 6 ∷ []) (7 ∷ 8 ∷ []) (replicate 11 (replicate 16 0)))
+    × (turnOut beginning (rows 321) (nines 40) (nines 5) 1219 ≡ nines 5)
+    × (take 11 (turnRows beginning (ascii "2\t3\t16\thold-off\t5\t6\twait-to-restore\t7\t8\n") false (rows 321) (nines 128) [] 1219) ≡ startAsRows 0 2 3 16 128 (5 ∷ 6 ∷ []) (7 ∷ 8 ∷ []) (replicate 11 (replicate 16 0)))
 unfolding allOpen
 what-is-lent = (refl, refl, refl, refl, refl, refl, refl, refl, refl, refl)
 
 -- a refusal at the front of the buffer, the rest of it as it was
 what-is-said :
-    (turnSaid beginning (ascii "x\n") false (rows 321) (nines 40) [] (nines 1160) ≡ ascii "answer\t13\tline\t1\n" ++ nines 1143)
-    × (turnSaid beginning (ascii "0\t1\t16\n") false (rows 321) (nines 40) [] (nines 1160) ≡ ascii "answer\t4\tline\t1\n" ++ nines 1144)
-    × (turnSaid beginning (ascii "1\t1\t16\n") false (rows 321) (nines 40) [] (nines 1160) ≡ nines 1160)
-    × (turnSaid beginning (ascii "x\n") false (rows 321) (nines 40) [] (nines 1159) ≡ nines 1159)
-    × (turnSaid (at Reading 0) (ascii "x\n") false (rows 11) (nines 64) (nines 32) (nines 1160) ≡ ascii "answer\t13\tline\t5\n" ++ nines 1143)
+    (turnSaid beginning (ascii "x\n") false (rows 321) (nines 40) [] (nines 1219) ≡ ascii "answer\t13\tline\t1\n" ++ nines 1202)
+    × (turnSaid beginning (ascii "0\t1\t16\n") false (rows 321) (nines 40) [] (nines 1219) ≡ ascii "answer\t4\tline\t1\n" ++ nines 1203)
+    × (turnSaid beginning (ascii "1\t1\t16\n") false (rows 321) (nines 40) [] (nines 1219) ≡ nines 1219)
+    × (turnSaid beginning (ascii "x\n") false (rows 321) (nines 40) [] (nines 1218) ≡ nines 1218)
+    × (turnSaid (at Reading 0) (ascii "x\n") false (rows 11) (nines 64) (nines 32) (nines 1219) ≡ ascii "answer\t13\tline\t5\n" ++ nines 1202)
     × (over (ascii "ab") (ascii "wxyz") ≡ ascii "abyz")
     × (answerText 10 123 ≡ ascii "answer\t10\tline\t123\n")
     × (answerText 13 1234567 ≡ ascii "answer\t13\tline\t1234567\n")
-    × (epochText 255 2 2396160 70000 ≡ ascii "epoch\t255\tdoubtful\tbytes\t2396160\tline\t70000\n")
+    × (epochText 255 2 2396160 70000 6 254 ≡ ascii "epoch\t255\tdoubtful\tbytes\t2396160\tline\t70000\tcause\ta port has no whole ruling packet\tport\t254\n")
+    × (epochText 0 3 16 70000 0 255 ≡ ascii "epoch\t0\tsure\tbytes\t16\tline\t70000\n")
     × (readSaidBy (at Reading 0) (ascii "abc") (nines 18) R.Long ≡ ascii "answer\t13\tline\t5\n" ++ (9 ∷ []))
 unfolding allOpen
-what-is-said = (refl, refl, refl, refl, refl, refl, refl, refl, refl, refl)
+what-is-said = (refl, refl, refl, refl, refl, refl, refl, refl, refl, refl, refl)
 
 -- a line behind the first: two ports take 11 rows, a store of 64 and an output of 32
 abbrev reads : (text : Bytes) (last : Bool) (r store out said : ℕ) → Replayed
@@ -104,21 +105,21 @@ reads text last r store out said = turnOf (at Reading 0) text last (rows r) (nin
 
 -- the answer to a line that is none, of a replay with so many ports and such a P
 abbrev answered : (ports size r store : ℕ) → ℕ
-answered ports size r store = turnOf (record { phase = Reading; line = 4; left = 0; kind = 0; ports = ports; size = size; window = 16 }) (ascii "x\n") false (rows r) (nines store) [] 1160 .answer
+answered ports size r store = turnOf (record { phase = Reading; line = 4; left = 0; kind = 0; ports = ports; size = size; window = 16 }) (ascii "x\n") false (rows r) (nines store) [] 1219 .answer
 
 a-line :
-    (reads (ascii "1\tf0\t0\tAb\nx") false 11 64 32 1160 ≡ goes (after Fetching 5 16) 10 0 false)
-    × (reads (ascii "1\tf0\t0\tAb") true 11 64 32 1160 ≡ goes (after Fetching 5 16) 9 0 false)
-    × (reads (ascii "1\tf0\t0\tAb") false 11 64 32 1160 ≡ goes (at Reading 0) 0 0 true)
-    × (reads [] true 11 64 32 1160 ≡ goes (at Reading 0) 0 0 true)
-    × (reads (ascii "2\tf0\t0\tAb\nx") false 11 64 32 1160 ≡ goes (after Reading 5 0) 10 17 false)
-    × (reads (ascii "1\tf0\t0\tAb\n") false 10 64 32 1160 ≡ tooLittle (at Reading 0))
-    × (reads (ascii "1\tf0\t0\tAb\n") false 11 63 32 1160 ≡ tooLittle (at Reading 0))
-    × (reads (ascii "1\tf0\t0\tAb\n") false 11 64 31 1160 ≡ tooLittle (at Reading 0))
-    × (reads (ascii "1\tf0\t0\tAb\n") false 11 64 32 1159 ≡ tooLittle (at Reading 0))
+    (reads (ascii "1\tf0\t0\tAb\nx") false 11 64 32 1219 ≡ goes (after Fetching 5 16) 10 0 false)
+    × (reads (ascii "1\tf0\t0\tAb") true 11 64 32 1219 ≡ goes (after Fetching 5 16) 9 0 false)
+    × (reads (ascii "1\tf0\t0\tAb") false 11 64 32 1219 ≡ goes (at Reading 0) 0 0 true)
+    × (reads [] true 11 64 32 1219 ≡ goes (at Reading 0) 0 0 true)
+    × (reads (ascii "2\tf0\t0\tAb\nx") false 11 64 32 1219 ≡ goes (after Reading 5 0) 10 17 false)
+    × (reads (ascii "1\tf0\t0\tAb\n") false 10 64 32 1219 ≡ tooLittle (at Reading 0))
+    × (reads (ascii "1\tf0\t0\tAb\n") false 11 63 32 1219 ≡ tooLittle (at Reading 0))
+    × (reads (ascii "1\tf0\t0\tAb\n") false 11 64 31 1219 ≡ tooLittle (at Reading 0))
+    × (reads (ascii "1\tf0\t0\tAb\n") false 11 64 32 1218 ≡ tooLittle (at Reading 0))
     × (readBy (at Reading 0) (ascii "abc") R.Long ≡ goes (after Skipping 5 0) 3 17 false)
-    × (reads (ascii "1\tf0\t0\tAb\nx") true 11 64 32 1160 ≡ goes (after Fetching 5 16) 10 0 false)
-    × (reads (ascii "2\tf0\t0\tAb\nx") true 11 64 32 1160 ≡ goes (after Reading 5 0) 10 17 false)
+    × (reads (ascii "1\tf0\t0\tAb\nx") true 11 64 32 1219 ≡ goes (after Fetching 5 16) 10 0 false)
+    × (reads (ascii "2\tf0\t0\tAb\nx") true 11 64 32 1219 ≡ goes (after Reading 5 0) 10 17 false)
     × (answered 64 0 321 1024 ≡ 0)
     × (answered 65 0 326 1040 ≡ 9)
     × (answered 0 2340 1 0 ≡ 0)
@@ -135,8 +136,8 @@ beyond = (refl, refl)
 
 -- behind its last fetch a line is read next; a report leaves one fetch less
 fetches :
-    (turnOf (at Fetching 0) (ascii "x") false (rows 11) (nines 64) (nines 32) 1160 ≡ goes (at Reading 0) 0 0 false)
-    × (turnOf (at Fetching 0) (ascii "x") false (rows 11) (nines 64) (nines 32) 1159 ≡ tooLittle (at Fetching 0))
+    (turnOf (at Fetching 0) (ascii "x") false (rows 11) (nines 64) (nines 32) 1219 ≡ goes (at Reading 0) 0 0 false)
+    × (turnOf (at Fetching 0) (ascii "x") false (rows 11) (nines 64) (nines 32) 1218 ≡ tooLittle (at Fetching 0))
     × (readOnTurn (at Fetching 7) ≡ goes (at Reading 0) 0 0 false)
     × (reportedTurn (at Fetching 7) 33 ≡ goes (at Fetching 6) 0 33 false)
 unfolding allOpen
@@ -196,15 +197,15 @@ abbrev vc12 : (phase : Phase) (line left : ℕ) → Replay
 vc12 phase line left = record { phase = phase; line = line; left = left; kind = 1; ports = 1; size = 136; window = 32 }
 
 abbrev vc12Reads : List ℕ → ℕ → Replayed
-vc12Reads text out = turnOf (vc12 Reading 4 0) text false (rows 6) (nines 4384) (nines out) 1160
+vc12Reads text out = turnOf (vc12 Reading 4 0) text false (rows 6) (nines 4384) (nines out) 1219
 
 of-vc12 :
-    (first (ascii "1\t136\t32\tkind\tVC12\nx") false 321 4384 1160 ≡ goes (vc12 Reading 1 0) 19 0 false)
-    × (first (ascii "1\t136\t32\tkind\tVC12\nx") false 321 4383 1160 ≡ ends 16)
-    × (first (ascii "1\t135\t32\tkind\tVC12\nx") false 321 4384 1160 ≡ ends 16)
-    × (first (ascii "1\t137\t32\tkind\tVC12\nx") false 321 5000 1160 ≡ ends 16)
-    × (first (ascii "1\t136\t31\tkind\tVC12\nx") false 321 4384 1160 ≡ ends 16)
-    × (first (ascii "1\t136\t32\tkind\tVC-12\nx") false 321 4384 1160 ≡ ends 17)
+    (first (ascii "1\t136\t32\tkind\tVC12\nx") false 321 4384 1219 ≡ goes (vc12 Reading 1 0) 19 0 false)
+    × (first (ascii "1\t136\t32\tkind\tVC12\nx") false 321 4383 1219 ≡ ends 16)
+    × (first (ascii "1\t135\t32\tkind\tVC12\nx") false 321 4384 1219 ≡ ends 16)
+    × (first (ascii "1\t137\t32\tkind\tVC12\nx") false 321 5000 1219 ≡ ends 16)
+    × (first (ascii "1\t136\t31\tkind\tVC12\nx") false 321 4384 1219 ≡ ends 16)
+    × (first (ascii "1\t136\t32\tkind\tVC-12\nx") false 321 4384 1219 ≡ ends 17)
     × (vc12Reads (ascii "0\t02\t0\tAb\nx") 4352 ≡ goes (vc12 Reading 5 0) 10 17 false)
     × (vc12Reads (ascii "0\t02\t0\tAb\nx") 4351 ≡ tooLittle (vc12 Reading 4 0))
     × (vc12Reads (ascii "0\t02\t0\t" ++ (replicate 272 65 ++ ascii "\nx")) 4352 ≡ goes (vc12 Fetching 5 32) 280 0 false)

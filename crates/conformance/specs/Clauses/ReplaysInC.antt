@@ -67,40 +67,40 @@ standing lines = 1 ∷ 0 ∷ 0 ∷ 0 ∷ 0 ∷ 0 ∷ 0 ∷ 0 ∷ lines ∷ 0 ∷
 
 -- the first line from place 0 on, the second one from place 7 on; the numbers 5 and 6 are the caller's
 turns :
-    (turnAnswerC (replicate 17 0) text 0 0 rows (nines 32) (nines 16) 1160 ≡ 0)
-    × (turnStateC (replicate 17 0) text 0 0 rows (nines 32) (nines 16) 1160 ≡ standing 1)
-    × (turnAtC (replicate 17 0) text 0 0 rows (nines 32) (nines 16) 1160 ≡ 7)
-    × (turnStoreC (replicate 17 0) text 0 0 rows (nines 32) (nines 16) 1160 ≡ replicate 32 0)
-    × (turnWrittenC (replicate 17 0) text 0 0 rows (nines 32) (nines 16) 1160 5 ≡ 0)
-    × (turnWantsC (replicate 17 0) text 0 0 rows (nines 32) (nines 16) 1160 6 ≡ 0)
-    × (turnAnswerC (standing 1) text 7 0 rows (nines 32) (nines 16) 1160 ≡ 0)
-    × (turnStateC (standing 1) text 7 0 rows (nines 32) (nines 16) 1160 ≡ standing 2)
-    × (turnAtC (standing 1) text 7 0 rows (nines 32) (nines 16) 1160 ≡ 9)
-    × (turnSaidC (standing 1) text 7 0 rows (nines 32) (nines 16) (nines 1160) ≡ ascii "answer\t13\tline\t2\n" ++ nines 1143)
-    × (turnWrittenC (standing 1) text 7 0 rows (nines 32) (nines 16) 1160 5 ≡ 17)
-    × (turnWantsC (standing 2) text 9 0 rows (nines 32) (nines 16) 1160 6 ≡ 1)
+    (turnAnswerC (replicate 17 0) text 0 0 rows (nines 32) (nines 16) 1219 ≡ 0)
+    × (turnStateC (replicate 17 0) text 0 0 rows (nines 32) (nines 16) 1219 ≡ standing 1)
+    × (turnAtC (replicate 17 0) text 0 0 rows (nines 32) (nines 16) 1219 ≡ 7)
+    × (turnStoreC (replicate 17 0) text 0 0 rows (nines 32) (nines 16) 1219 ≡ replicate 32 0)
+    × (turnWrittenC (replicate 17 0) text 0 0 rows (nines 32) (nines 16) 1219 5 ≡ 0)
+    × (turnWantsC (replicate 17 0) text 0 0 rows (nines 32) (nines 16) 1219 6 ≡ 0)
+    × (turnAnswerC (standing 1) text 7 0 rows (nines 32) (nines 16) 1219 ≡ 0)
+    × (turnStateC (standing 1) text 7 0 rows (nines 32) (nines 16) 1219 ≡ standing 2)
+    × (turnAtC (standing 1) text 7 0 rows (nines 32) (nines 16) 1219 ≡ 9)
+    × (turnSaidC (standing 1) text 7 0 rows (nines 32) (nines 16) (nines 1219) ≡ ascii "answer\t13\tline\t2\n" ++ nines 1202)
+    × (turnWrittenC (standing 1) text 7 0 rows (nines 32) (nines 16) 1219 5 ≡ 17)
+    × (turnWantsC (standing 2) text 9 0 rows (nines 32) (nines 16) 1219 6 ≡ 1)
 unfolding allOpen
 turns = (refl, refl, refl, refl, refl, refl, refl, refl, refl, refl, refl, refl)
 
 -- a last line that lacks its end is one where `last` is any number but 0
 lasts :
-    (turnWantsC (standing 1) (ascii "x") 0 0 rows (nines 32) (nines 16) 1160 6 ≡ 1)
-    × (turnAtC (standing 1) (ascii "x") 0 0 rows (nines 32) (nines 16) 1160 ≡ 0)
-    × (turnAtC (standing 1) (ascii "x") 0 2 rows (nines 32) (nines 16) 1160 ≡ 1)
-    × (turnWrittenC (standing 1) (ascii "x") 0 2 rows (nines 32) (nines 16) 1160 5 ≡ 17)
+    (turnWantsC (standing 1) (ascii "x") 0 0 rows (nines 32) (nines 16) 1219 6 ≡ 1)
+    × (turnAtC (standing 1) (ascii "x") 0 0 rows (nines 32) (nines 16) 1219 ≡ 0)
+    × (turnAtC (standing 1) (ascii "x") 0 2 rows (nines 32) (nines 16) 1219 ≡ 1)
+    × (turnWrittenC (standing 1) (ascii "x") 0 2 rows (nines 32) (nines 16) 1219 5 ≡ 17)
 unfolding allOpen
 lasts = (refl, refl, refl, refl)
 
 -- 9: a state of another length, a place behind the text's end, a store that is too short; nothing is changed
 nines-said :
-    (turnAnswerC (replicate 16 0) text 0 0 rows (nines 32) (nines 16) 1160 ≡ 9)
-    × (turnAnswerC (replicate 17 0) text 10 0 rows (nines 32) (nines 16) 1160 ≡ 9)
-    × (turnAtC (replicate 17 0) text 10 0 rows (nines 32) (nines 16) 1160 ≡ 10)
-    × (turnAnswerC (standing 1) text 7 0 rows (nines 31) (nines 16) 1160 ≡ 9)
-    × (turnStateC (standing 1) text 7 0 rows (nines 31) (nines 16) 1160 ≡ standing 1)
-    × (turnAtC (standing 1) text 7 0 rows (nines 31) (nines 16) 1160 ≡ 7)
-    × (turnWrittenC (standing 1) text 7 0 rows (nines 31) (nines 16) 1160 5 ≡ 5)
-    × (turnWantsC (standing 1) text 7 0 rows (nines 31) (nines 16) 1160 6 ≡ 6)
-    × (turnRowsC (standing 1) text 7 0 rows (nines 31) (nines 16) 1160 ≡ rows)
+    (turnAnswerC (replicate 16 0) text 0 0 rows (nines 32) (nines 16) 1219 ≡ 9)
+    × (turnAnswerC (replicate 17 0) text 10 0 rows (nines 32) (nines 16) 1219 ≡ 9)
+    × (turnAtC (replicate 17 0) text 10 0 rows (nines 32) (nines 16) 1219 ≡ 10)
+    × (turnAnswerC (standing 1) text 7 0 rows (nines 31) (nines 16) 1219 ≡ 9)
+    × (turnStateC (standing 1) text 7 0 rows (nines 31) (nines 16) 1219 ≡ standing 1)
+    × (turnAtC (standing 1) text 7 0 rows (nines 31) (nines 16) 1219 ≡ 7)
+    × (turnWrittenC (standing 1) text 7 0 rows (nines 31) (nines 16) 1219 5 ≡ 5)
+    × (turnWantsC (standing 1) text 7 0 rows (nines 31) (nines 16) 1219 6 ≡ 6)
+    × (turnRowsC (standing 1) text 7 0 rows (nines 31) (nines 16) 1219 ≡ rows)
 unfolding allOpen
 nines-said = (refl, refl, refl, refl, refl, refl, refl, refl, refl)

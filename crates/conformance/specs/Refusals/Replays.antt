@@ -31,12 +31,12 @@ use Rattle.text.specs.Text.{LINE-END}
 
 -- room for what one turn prints, and the rows of 64 ports before the first line
 abbrev openLent : ℕ → ℕ → Bool
-openLent rows said = 1160 ≤? said && 321 ≤? rows
+openLent rows said = 1219 ≤? said && 321 ≤? rows
 
 -- then those of the group, its store and the output of an epoch
 abbrev groupLent : (r : Replay) (rows store out said : ℕ) → Bool
 groupLent r rows store out said =
-    1160 ≤? said && r .ports ≤? 64 && r .size ≤? 2340 && r .ports * 5 + 1 ≤? rows && r .ports * r .window * (r .size + 1) ≤? store && r .ports * frames (r .kind) * r .size ≤? out
+    1219 ≤? said && r .ports ≤? 64 && r .size ≤? 2340 && r .ports * 5 + 1 ≤? rows && r .ports * r .window * (r .size + 1) ≤? store && r .ports * frames (r .kind) * r .size ≤? out
 
 abbrev lentRefusals : (phase : Phase) (r : Replay) (rows store out said : ℕ) → List Refusal
 lentRefusals Settings r rows store out said = Unless 9 (openLent rows said) ∷ []

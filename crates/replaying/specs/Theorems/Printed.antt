@@ -1,7 +1,7 @@
 -- What is printed of a recording (2026-05): every report that a fetch gave, in order, none left out, and behind it each state that it changed, once; no other line but the
 -- refusals.
 use mathlib.Core.Path.{_≡_, refl, sym, ap, _∙_}
-use mathlib.Core.Bool.{Bool, true, false, cond, not, _&&_}
+use mathlib.Core.Bool.{Bool, true, false, cond, not, _&&_, _||_}
 use mathlib.Core.List.{List, [], _∷_, _++_, append-assoc, append-nil}
 use mathlib.Core.Logic.{_⊎_, inl, inr, ⊎-elim, _≢_}
 use Prim.Native.Nat.{ℕ, zero, suc, _+_, _/_, _%_, _≤_, _<_}
@@ -17,8 +17,8 @@ use Rattle.recording.specs.declared.record.Record.the-variants.{Frame, Malforme
 use Rattle.recording.specs.Opening.{lineOpening}
 use Rattle.replaying.specs.declared.replay.Phase.{Phase}
 use Rattle.replaying.specs.declared.replay.Phase.the-variants.{Settings, Reading, Fetching, Skipping, Ended}
-use Rattle.replaying.specs.Output.{answerText, changeText, changesText, countIn, epochText, markText, portText, reportText, stateLine, stateText}
-use Rattle.replaying.specs.Printing.{Event, allLines, answerLine, changeLines, changed, epochLine, eventsBy, eventsFrom, eventsOf, fetches, given, linesIn, only, openingEvents, portLine, portLines, readEvents, refusalOf, reportLines, times}
+use Rattle.replaying.specs.Output.{answerText, blamedText, causeText, changeText, changesText, countIn, epochText, markText, placeText, portText, reportText, stateLine, stateText, whyText}
+use Rattle.replaying.specs.Printing.{Event, allLines, answerLine, blamedLine, changeLines, changed, epochLine, eventsBy, eventsFrom, eventsOf, fetches, given, linesIn, only, openingEvents, placeLine, portLine, portLines, readEvents, refusalOf, reportLines, times, whyLine}
 use Rattle.replaying.specs.Printing.Event.{Refused, Reported}
 use Rattle.replaying.specs.Replay.{beginning, nextLine}
 use Rattle.replaying.specs.Runs.{Desk, deskAfter, fetched, framed, lineIn, openingText, outputFrom, readText, reports, saidTo, textBy, wholeOutput}
@@ -32,7 +32,7 @@ use Rattle.text.specs.Text.{LINE-END, TAB, linesOf}
 
 abbrev textIn : Event → List ℕ
 textIn (Refused number line) = answerText number line
-textIn (Reported rec line ports before after) = reportText rec line before after ports
+textIn (Reported rec blamed line ports before after) = reportText rec blamed line before after ports
 
 abbrev allText : List Event → List ℕ
 allText [] = []
@@ -125,6 +125,25 @@ mark-free m = go (eqb m 1) (eqb m 2)
     go false true = free-by (ascii "doubtful") refl
     go false false = free-by (ascii "sure") refl
 
+cause-free : (c : ℕ) → Free (causeText c)
+unfolding causeText freeb
+cause-free c = go (eqb c 1) (eqb c 2) (eqb c 3) (eqb c 4) (eqb c 5) (eqb c 6)
+  where
+    go : (a b d e f g : Bool)
+        → Free
+        (cond a (ascii "a ruling packet was refused")
+        (cond b (ascii "an active port lacks a frame")
+        (cond d (ascii "numbers of active and DNU ports repeat")
+        (cond e (ascii "GID differs among ports that are not IDLE")
+        (cond f (ascii "EOS is not on the highest active port alone") (cond g (ascii "a port has no whole ruling packet") (ascii "the numbers are not 0 to n - 1")))))))
+    go true b d e f g = free-by (ascii "a ruling packet was refused") refl
+    go false true d e f g = free-by (ascii "an active port lacks a frame") refl
+    go false false true e f g = free-by (ascii "numbers of active and DNU ports repeat") refl
+    go false false false true f g = free-by (ascii "GID differs among ports that are not IDLE") refl
+    go false false false false true g = free-by (ascii "EOS is not on the highest active port alone") refl
+    go false false false false false true = free-by (ascii "a port has no whole ruling packet") refl
+    go false false false false false false = free-by (ascii "the numbers are not 0 to n - 1") refl
+
 state-free : (s : ℕ) → Free (stateText s)
 unfolding stateText freeb
 state-free s = go (eqb s 0) (eqb s 1)
@@ -154,9 +173,59 @@ answer-lines number line rest =
     (field-free (ended (ascii "answer") TAB ++ ended (decimalText number) TAB) (ascii "line") (field-free (ended (ascii "answer") TAB) (decimalText number) (free-by (ended (ascii "answer") TAB) refl) (decimal-free number)) (free-by (ascii "line") refl))
     (number-free line)
 
-epoch-lines : (rec : List ℕ) (line : ℕ) (rest : List ℕ) → linesOf (epochText (getD rec 1 0) (getD rec 0 0) (countIn rec) line ++ rest) ≡ epochLine rec line ∷ linesOf rest
+-- why a report is held or doubtful, without the line's end
+
+blamed-free : (port : ℕ) → Free (blamedLine port)
+unfolding freeb
+blamed-free port = go (eqb port 255)
+  where
+    go : (b : Bool) → Free (cond b [] (ascii "\tport\t" ++ decimalText port))
+    go true = tt
+    go false = free-append (ascii "\tport\t") (decimalText port) (free-by (ascii "\tport\t") refl) (decimal-free port)
+
+why-free : (cause port : ℕ) → Free (whyLine cause port)
+unfolding freeb
+why-free cause port =
+    let k = ended (ascii "cause") TAB in
+    free-append (k ++ causeText cause) (blamedLine port) (free-append k (causeText cause) (free-by k refl) (cause-free cause)) (blamed-free port)
+
+place-free : (mark line cause port : ℕ) → Free (placeLine mark line cause port)
+place-free mark line cause port = go (eqb mark 1 || eqb mark 2)
+  where
+    go : (b : Bool) → Free (cond b (ended (numberText line) TAB ++ whyLine cause port) (numberText line))
+    go true = free-append (ended (numberText line) TAB) (whyLine cause port) (first-free (numberText line) (number-free line)) (why-free cause port)
+    go false = number-free line
+
+-- a text behind another, with the line's end
+ends-behind : (x y z : List ℕ) → y ≡ ended z LINE-END → x ++ y ≡ ended (x ++ z) LINE-END
+ends-behind x y z e = ap (λ (t : List ℕ). x ++ t) e ∙ sym (append-assoc x z (LINE-END ∷ []))
+
+blamed-ended : (port : ℕ) → blamedText port ≡ ended (blamedLine port) LINE-END
+unfolding blamedText
+blamed-ended port = go (eqb port 255)
+  where
+    go : (b : Bool) → cond b (ascii "\n") (ascii "\tport\t" ++ ended (decimalText port) LINE-END) ≡ ended (cond b [] (ascii "\tport\t" ++ decimalText port)) LINE-END
+    go true = refl
+    go false = ends-behind (ascii "\tport\t") (ended (decimalText port) LINE-END) (decimalText port) refl
+
+why-ended : (cause port : ℕ) → whyText cause port ≡ ended (whyLine cause port) LINE-END
+unfolding whyText
+why-ended cause port = ends-behind (ended (ascii "cause") TAB ++ causeText cause) (blamedText port) (blamedLine port) (blamed-ended port)
+
+place-ended : (mark line cause port : ℕ) → placeText mark line cause port ≡ ended (placeLine mark line cause port) LINE-END
+unfolding placeText
+place-ended mark line cause port = go (eqb mark 1 || eqb mark 2)
+  where
+    go : (b : Bool)
+        → cond b (ended (numberText line) TAB ++ whyText cause port) (ended (numberText line) LINE-END)
+        ≡ ended (cond b (ended (numberText line) TAB ++ whyLine cause port) (numberText line)) LINE-END
+    go true = ends-behind (ended (numberText line) TAB) (whyText cause port) (whyLine cause port) (why-ended cause port)
+    go false = refl
+
+epoch-lines : (rec : List ℕ) (blamed line : ℕ) (rest : List ℕ)
+    → linesOf (epochText (getD rec 1 0) (getD rec 0 0) (countIn rec) line (getD rec 3 0) blamed ++ rest) ≡ epochLine rec blamed line ∷ linesOf rest
 unfolding epochText freeb
-epoch-lines rec line rest =
+epoch-lines rec blamed line rest =
     let a = ended (ascii "epoch") TAB in
     let b = decimalText (getD rec 1 0) in
     let c = markText (getD rec 0 0) in
@@ -168,7 +237,9 @@ epoch-lines rec line rest =
     let ad = field-free (a ++ ended b TAB ++ ended c TAB) d ac (free-by d refl) in
     let ae = field-free (a ++ ended b TAB ++ ended c TAB ++ ended d TAB) e ad (number-free (countIn rec)) in
     let af = field-free (a ++ ended b TAB ++ ended c TAB ++ ended d TAB ++ ended e TAB) f ae (free-by f refl) in
-    one-line (a ++ ended b TAB ++ ended c TAB ++ ended d TAB ++ ended e TAB ++ ended f TAB) (numberText line) rest af (number-free line)
+    let x = a ++ ended b TAB ++ ended c TAB ++ ended d TAB ++ ended e TAB ++ ended f TAB in
+    ap (λ (t : List ℕ). linesOf (x ++ t ++ rest)) (place-ended (getD rec 0 0) line (getD rec 3 0) blamed)
+    ∙ one-line x (placeLine (getD rec 0 0) line (getD rec 3 0) blamed) rest af (place-free (getD rec 0 0) line (getD rec 3 0) blamed)
 
 port-lines : (port state : ℕ) (rest : List ℕ) → linesOf (stateLine port state ++ rest) ≡ portLine port state ∷ linesOf rest
 unfolding stateLine portText freeb
@@ -198,9 +269,9 @@ changes-lines before after (suc n) rest =
 event-lines : (e : Event) (rest : List ℕ) → linesOf (textIn e ++ rest) ≡ linesIn e ++ linesOf rest
 unfolding reportText
 event-lines (Refused number line) rest = answer-lines number line rest
-event-lines (Reported rec line ports before after) rest =
-    ap linesOf (append-assoc (epochText (getD rec 1 0) (getD rec 0 0) (countIn rec) line) (changesText before after ports) rest)
-    ∙ (epoch-lines rec line (changesText before after ports ++ rest) ∙ ap (λ (t : List (List ℕ)). epochLine rec line ∷ t) (changes-lines before after ports rest))
+event-lines (Reported rec blamed line ports before after) rest =
+    ap linesOf (append-assoc (epochText (getD rec 1 0) (getD rec 0 0) (countIn rec) line (getD rec 3 0) blamed) (changesText before after ports) rest)
+    ∙ (epoch-lines rec blamed line (changesText before after ports ++ rest) ∙ ap (λ (t : List (List ℕ)). epochLine rec blamed line ∷ t) (changes-lines before after ports rest))
 
 all-lines : (es : List Event) → linesOf (allText es) ≡ allLines es
 unfolding linesOf
@@ -233,13 +304,13 @@ all-ports after (i ∷ ports) = ap (λ (t : List (List ℕ)). portLine i (getD a
 only-reports : (es : List Event) → only 101 (allLines es) ≡ reportLines es
 only-reports [] = refl
 only-reports (Refused number line ∷ es) = only-reports es
-only-reports (Reported rec line ports before after ∷ es) =
-    ap (λ (t : List (List ℕ)). epochLine rec line ∷ t) (only-append 101 (portLines after (changed before after ports)) (allLines es) ∙ (ap (λ (t : List (List ℕ)). t ++ only 101 (allLines es)) (no-epoch after (changed before after ports)) ∙ only-reports es))
+only-reports (Reported rec blamed line ports before after ∷ es) =
+    ap (λ (t : List (List ℕ)). epochLine rec blamed line ∷ t) (only-append 101 (portLines after (changed before after ports)) (allLines es) ∙ (ap (λ (t : List (List ℕ)). t ++ only 101 (allLines es)) (no-epoch after (changed before after ports)) ∙ only-reports es))
 
 only-changes : (es : List Event) → only 112 (allLines es) ≡ changeLines es
 only-changes [] = refl
 only-changes (Refused number line ∷ es) = only-changes es
-only-changes (Reported rec line ports before after ∷ es) =
+only-changes (Reported rec blamed line ports before after ∷ es) =
     only-append 112 (portLines after (changed before after ports)) (allLines es)
     ∙ (ap (λ (t : List (List ℕ)). t ++ only 112 (allLines es)) (all-ports after (changed before after ports)) ∙ ap (λ (t : List (List ℕ)). portLines after (changed before after ports) ++ t) (only-changes es))
 

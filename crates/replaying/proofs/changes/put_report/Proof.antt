@@ -15,12 +15,15 @@ array-read-put-epoch c = omega arith
 array-read-put-epoch-2 : tie.Need-array-read-put-epoch-2
 array-read-put-epoch-2 c = omega arith
 
+array-read-put-epoch-3 : tie.Need-array-read-put-epoch-3
+array-read-put-epoch-3 c = omega arith
+
 put-epoch-requires : tie.Need-put-epoch-requires
-put-epoch-requires c κs = let l = epoch-le (getD (c .before .before .before .args .t1) 1 0) (getD (c .before .before .before .args .t1) 0 0) (c .before .count-in .result) (c .before .before .before .args .line) in omega arith
+put-epoch-requires c κs = let l = epoch-le (getD (c .before .before .before .args .t1) 1 0) (getD (c .before .before .before .args .t1) 0 0) (c .before .count-in .result) (c .before .before .before .args .line) (getD (c .before .before .before .args .t1) 3 0) (c .before .before .before .args .blamed) in omega arith
 
 put-changes-requires : tie.Need-put-changes-requires
 put-changes-requires c κs =
-    let l = epoch-le (getD (c .before .before .before .before .before .before .before .args .t1) 1 0) (getD (c .before .before .before .before .before .before .before .args .t1) 0 0) (c .before .before .before .before .before .count-in .result) (c .before .before .before .before .before .before .before .args .line) in
+    let l = epoch-le (getD (c .before .before .before .before .before .before .before .args .t1) 1 0) (getD (c .before .before .before .before .before .before .before .args .t1) 0 0) (c .before .before .before .before .before .count-in .result) (c .before .before .before .before .before .before .before .args .line) (getD (c .before .before .before .before .before .before .before .args .t1) 3 0) (c .before .before .before .before .before .before .before .args .blamed) in
     let b = c .before .before .before .put-epoch .ensures .behind in
     let k = c .before .before .before .put-epoch .ensures .kept in
     (c .before .before .before .before .before .before .before .pre .0, omega arith)
@@ -36,4 +39,4 @@ returns c =
     rw (← count-in .ensures) (put-then (put-epoch .ensures) (c .before .before .put-changes .ensures))
 
 pub put-report-spec : {M : Type 1} → statement M
-put-report-spec = tie.close (tie.spec count-in-requires array-read-put-epoch array-read-put-epoch-2 put-epoch-requires put-changes-requires same-length returns)
+put-report-spec = tie.close (tie.spec count-in-requires array-read-put-epoch array-read-put-epoch-2 array-read-put-epoch-3 put-epoch-requires put-changes-requires same-length returns)

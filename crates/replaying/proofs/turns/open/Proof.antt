@@ -13,14 +13,14 @@ refused-requires c κs = omega arith
 
 returns : tie.Need-returns
 unfolding openTurn openRows openSaid
-returns c = rw (lt-leb 1160 (length (c .before .before .before .before .args .said .now)) (c .before .if1 .taken)) (c .refused .ensures, refl, refl)
+returns c = rw (lt-leb 1219 (length (c .before .before .before .before .args .said .now)) (c .before .if1 .taken)) (c .refused .ensures, refl, refl)
 
 refused-requires-2 : tie.Need-refused-requires-2
 refused-requires-2 c κs = omega arith
 
 returns-2 : tie.Need-returns-2
 unfolding openTurn openRows openSaid
-returns-2 c = rw (le-leb 1160 (length (c .before .before .before .before .before .args .said .now)) (c .before .before .if1 .left), lt-leb 321 (length (c .before .before .before .before .before .args .rows .now)) (c .before .if2 .taken)) (c .refused2 .ensures, refl, refl)
+returns-2 c = rw (le-leb 1219 (length (c .before .before .before .before .before .args .said .now)) (c .before .before .if1 .left), lt-leb 321 (length (c .before .before .before .before .before .args .rows .now)) (c .before .if2 .taken)) (c .refused2 .ensures, refl, refl)
 
 opening-at-requires : tie.Need-opening-at-requires
 opening-at-requires c κs = omega arith
@@ -67,7 +67,7 @@ returns-3 c =
     let test2 = c .before .before .before .before .before .before .before .before .before .before .if2 in
     let opening-at = c .before .before .before .before .before .before .before .before .before .opening-at in
     let enum-told = c .before .before .before .before .before .before .before .enum-told in
-    rw (le-leb 1160 (length (start .args .said .now)) (test1 .left), le-leb 321 (length (start .args .rows .now)) (test2 .left), first-set (start .args .at) (start .args .last) (drop (start .args .at) (start .args .text .now)) (opening-at .result) (opening-at .ensures) (enum-told .given .1) .1) (c .before .before .before .open-with .ensures)
+    rw (le-leb 1219 (length (start .args .said .now)) (test1 .left), le-leb 321 (length (start .args .rows .now)) (test2 .left), first-set (start .args .at) (start .args .last) (drop (start .args .at) (start .args .text .now)) (opening-at .result) (opening-at .ensures) (enum-told .given .1) .1) (c .before .before .before .open-with .ensures)
 
 same-length-3 : tie.Need-same-length-3
 same-length-3 c = omega arith
@@ -81,7 +81,7 @@ returns-4 c =
     let opening-at = c .before .before .before .before .before .before .opening-at in
     let enum-told2 = c .before .before .before .before .enum-told2 in
     let answered = c .before .before .answered in
-    rw (le-leb 1160 (length (start .args .said .now)) (test1 .left), le-leb 321 (length (start .args .rows .now)) (test2 .left), first-malformed (start .args .at) (start .args .last) (drop (start .args .at) (start .args .text .now)) (opening-at .result) (opening-at .ensures) (enum-told2 .given .1)) (answered .ensures .0 ∙ answered-placed (start .args .at) (start .args .at) 0 (omega arith) _ _ _, refl, answered .ensures .1)
+    rw (le-leb 1219 (length (start .args .said .now)) (test1 .left), le-leb 321 (length (start .args .rows .now)) (test2 .left), first-malformed (start .args .at) (start .args .last) (drop (start .args .at) (start .args .text .now)) (opening-at .result) (opening-at .ensures) (enum-told2 .given .1)) (answered .ensures .0 ∙ answered-placed (start .args .at) (start .args .at) 0 (omega arith) _ _ _, refl, answered .ensures .1)
 
 returns-5 : tie.Need-returns-5
 unfolding openTurn openRows openSaid
@@ -90,7 +90,7 @@ returns-5 c =
     let test1 = c .before .before .before .before .before .if1 in
     let test2 = c .before .before .before .before .if2 in
     let opening-at = c .before .before .before .opening-at in
-    rw (le-leb 1160 (length (start .args .said .now)) (test1 .left), le-leb 321 (length (start .args .rows .now)) (test2 .left), first-unfinished (start .args .at) (start .args .last) (drop (start .args .at) (start .args .text .now)) (opening-at .result) (opening-at .ensures) (c .before .enum-told3 .given .1)) (c .waiting .ensures, refl, refl)
+    rw (le-leb 1219 (length (start .args .said .now)) (test1 .left), le-leb 321 (length (start .args .rows .now)) (test2 .left), first-unfinished (start .args .at) (start .args .last) (drop (start .args .at) (start .args .text .now)) (opening-at .result) (opening-at .ensures) (c .before .enum-told3 .given .1)) (c .waiting .ensures, refl, refl)
 
 returns-6 : tie.Need-returns-6
 unfolding openTurn openRows openSaid
@@ -99,7 +99,7 @@ returns-6 c =
     let test1 = c .before .before .before .before .before .if1 in
     let test2 = c .before .before .before .before .if2 in
     let opening-at = c .before .before .before .opening-at in
-    rw (le-leb 1160 (length (start .args .said .now)) (test1 .left), le-leb 321 (length (start .args .rows .now)) (test2 .left), first-end (start .args .at) (start .args .last) (drop (start .args .at) (start .args .text .now)) (opening-at .result) (opening-at .ensures) (c .before .enum-told4 .given .1)) (c .waiting2 .ensures, refl, refl)
+    rw (le-leb 1219 (length (start .args .said .now)) (test1 .left), le-leb 321 (length (start .args .rows .now)) (test2 .left), first-end (start .args .at) (start .args .last) (drop (start .args .at) (start .args .text .now)) (opening-at .result) (opening-at .ensures) (c .before .enum-told4 .given .1)) (c .waiting2 .ensures, refl, refl)
 
 pub open-spec : {M : Type 1} → statement M
 open-spec =

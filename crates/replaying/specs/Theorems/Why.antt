@@ -1,0 +1,83 @@
+-- Why a report is held or doubtful, as its line says it (2026-05): by the packets of the ports that this very report saw.
+use mathlib.Core.Path.{_≡_, refl, sym, ap, _∙_}
+use mathlib.Core.Bool.{Bool, true, false, cond, _&&_}
+use mathlib.Core.List.{List}
+use Prim.Native.Nat.{ℕ}
+use native.Mathlib.Nat.{not-suc-le-zero}
+use lib.Dec.{eqb, leb, ltb}
+use lib.ListN.{getD, length, replicate, take}
+use borrow.Author.Tests.{ltb-true}
+use Rattle.ground.specs.Truth.{and-left}
+use Rattle.judge.specs.Cause.{blamedBy, blamedOf, causeOf, markOf}
+use Rattle.judge.specs.Seen.{sizeOf}
+use Rattle.judge.specs.Theorems.Cause.{mark-by-cause}
+use Rattle.judge.specs.declared.seen.Seen.{Seen}
+use Rattle.phases.specs.Sizes.{portsIn, storeFor}
+use Rattle.receiver.specs.Cause.{causeFit, causeIn, causeOut}
+use Rattle.receiver.specs.Fetch.{dueIn, fetchRecord, fits, noneDue, recordOf, reportIfDue}
+use Rattle.receiver.specs.Lengths.{fetchFits, outputFor, rowsFit}
+use Rattle.receiver.specs.Report.{reportBy, reportOf, seenAll}
+use Rattle.replaying.specs.declared.replay.Replay.{Replay}
+use Rattle.replaying.specs.Replay.{storeOf}
+use Rattle.replaying.specs.Turn.{blamedIn, fetchRecordBy, isDue}
+use Rattle.rows.specs.declared.group.Group.{Group}
+use Rattle.rows.specs.Group.{groupAt}
+use Rattle.rows.specs.Rows.{rowsFor}
+
+-- a receiver's rows, with what is lent for a fetch
+module _ (s : List (List ℕ)) (store out : List ℕ) where
+  abbrev g : Group
+  g = groupAt s
+
+  abbrev n : ℕ
+  n = portsIn g
+
+  abbrev ports : List Seen
+  ports = seenAll g s n
+
+  abbrev rec : List ℕ
+  rec = fetchRecord s store out (replicate 8 0)
+
+  given : ltb 0 (getD rec 0 0) ≡ true → (fits s store out (replicate 8 0) ≡ true) × (dueIn g n s ≡ true)
+  unfolding fetchRecord reportIfDue recordOf
+  given h = go (fits s store out (replicate 8 0)) (dueIn g n s) h
+    where
+      go : (a b : Bool) → ltb 0 (getD (cond a (recordOf (cond b (reportOf g ports n) noneDue)) (replicate 8 0)) 0 0) ≡ true → (a ≡ true) × (b ≡ true)
+      go true true t = (refl, refl)
+      go true false t = absurd (not-suc-le-zero (ltb-true 0 0 t))
+      go false b t = absurd (not-suc-le-zero (ltb-true 0 0 t))
+
+  rows-fit : fits s store out (replicate 8 0) ≡ true → rowsFit n (length s) ≡ true
+  unfolding fits fetchFits
+  rows-fit e =
+      let a : Bool = rowsFit n (length s) in
+      let b : Bool = eqb (length store) (storeFor g n) in
+      let c : Bool = leb (outputFor g n) (length out) in
+      and-left a b (and-left (a && b) c (and-left (a && b && c) (eqb 8 8) e))
+
+  own-cause : ltb 0 (getD rec 0 0) ≡ true → getD rec 3 0 ≡ causeOf (g .kind) ports (sizeOf n)
+  unfolding fetchRecord reportIfDue recordOf reportOf reportBy
+  own-cause h = let e = given h in rw (e .0, e .1) refl
+
+  own-mark : ltb 0 (getD rec 0 0) ≡ true → getD rec 0 0 ≡ markOf (g .kind) (causeOf (g .kind) ports (sizeOf n))
+  unfolding fetchRecord reportIfDue recordOf reportOf reportBy
+  own-mark h = let e = given h in rw (e .0, e .1) (mark-by-cause (g .kind) ports (sizeOf n))
+
+  own-port : ltb 0 (getD rec 0 0) ≡ true → blamedIn s ≡ blamedBy ports (sizeOf n) (causeOf (g .kind) ports (sizeOf n))
+  unfolding blamedIn causeOut causeFit causeIn blamedOf
+  own-port h = rw (rows-fit (given h .0)) refl
+
+-- The cause that a report's line names is the first clause that held of the ports seen; by it the report is held, doubtful or sure; and the port is the lowest to which that clause applies.
+pub why-named : (r : Replay) (rows : List (List ℕ)) (store out : List ℕ) → isDue r rows store out ≡ true
+    → let own : List (List ℕ) = take (rowsFor (r .ports)) rows in
+    let kind : ℕ = groupAt own .kind in
+    let seen : List Seen = seenAll (groupAt own) own (portsIn (groupAt own)) in
+    let count : ℕ = sizeOf (portsIn (groupAt own)) in
+    let rec : List ℕ = fetchRecordBy r rows store out in
+    (getD rec 3 0 ≡ causeOf kind seen count) × (getD rec 0 0 ≡ markOf kind (getD rec 3 0)) × (blamedIn own ≡ blamedBy seen count (getD rec 3 0))
+unfolding fetchRecordBy
+why-named r rows store out h =
+    let own = take (rowsFor (r .ports)) rows in
+    let lent = take (storeOf (r .ports) (r .size) (r .window)) store in
+    let c = own-cause own lent out h in
+    (c, own-mark own lent out h ∙ ap (markOf (groupAt own .kind)) (sym c), own-port own lent out h ∙ ap (blamedBy (seenAll (groupAt own) own (portsIn (groupAt own))) (sizeOf (portsIn (groupAt own)))) (sym c))
