@@ -10,4 +10,5 @@ pub mod Readings
 pub mod Shown
 pub mod Theorems
 pub mod Views
+mod Examples
 mod Wrong

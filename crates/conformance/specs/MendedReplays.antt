@@ -1,7 +1,7 @@
 -- A mended recording is replayed with no line answered 13 (requests 2026-11 and 2026-05).
 -- Its first line is as it was and can be read; every other line is a frame under its settings, and a replay keeps these to its end.
 use mathlib.Core.Path.{_≡_, refl, sym, ap, _∙_}
-use mathlib.Core.Bool.{Bool, true, false, cond, _&&_, and-assoc, false≢true}
+use mathlib.Core.Bool.{Bool, true, false, _&&_, and-assoc, false≢true}
 use mathlib.Core.List.{List, [], _∷_, _++_}
 use mathlib.Core.Logic.{_⊎_, inl, inr}
 use Prim.Native.Nat.{ℕ, zero, suc}
@@ -99,7 +99,7 @@ module _ (out : List ℕ) where
     reported-same zero d = refl
     reported-same (suc k) d = go (isDue (d .replay) (d .rows) (d .store) out) (reported-same k (fetched out d))
       where
-        go : (b : Bool) → reported out k (fetched out d) .replay ≡ d .replay → cond b (reported out k (fetched out d)) (fetched out d) .replay ≡ d .replay
+        go : (b : Bool) → reported out k (fetched out d) .replay ≡ d .replay → (if b then reported out k (fetched out d) else fetched out d) .replay ≡ d .replay
         go true e = e
         go false e = refl
 
@@ -129,8 +129,9 @@ module _ (out : List ℕ) where
     unfolding deskAfter openWithTurn answeredTurn
     on-first d l s next e k p q = rw (e, k) (go (startable s (length (d .store))))
       where
-        go : (b : Bool) → ((cond b (startedTurn (d .replay) s next) (answeredTurn (d .replay) Ended 4 0) .replay .phase ≡ Reading) × (cond b (startedTurn (d .replay) s next) (answeredTurn (d .replay) Ended 4 0) .replay .ports ≡ ports) × (cond b (startedTurn (d .replay) s next) (answeredTurn (d .replay) Ended 4 0) .replay .size ≡ size))
-            ⊎ (cond b (startedTurn (d .replay) s next) (answeredTurn (d .replay) Ended 4 0) .replay .phase ≡ Ended)
+        go : (b : Bool)
+            → (let after = (if b then startedTurn (d .replay) s next else answeredTurn (d .replay) Ended 4 0) .replay in
+            ((after .phase ≡ Reading) × (after .ports ≡ ports) × (after .size ≡ size)) ⊎ (after .phase ≡ Ended))
         go true = inl (refl, p, q)
         go false = inr refl
 

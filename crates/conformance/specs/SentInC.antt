@@ -2,11 +2,10 @@
 -- it has a byte for each frame of an epoch, each byte counts at its place (of VC-12: says the start at place 0 and nowhere else, and has the count's bits at places 0 to 4), and it reads back as what the sender says.
 use mathlib.Core.Path.{_≡_, refl, sym, ap, _∙_}
 use mathlib.Core.Logic.{⊎-elim}
-use mathlib.Core.Bool.{Bool, true, false, cond, not, _&&_, _||_}
+use mathlib.Core.Bool.{Bool, true, false, not, _&&_, _||_}
 use mathlib.Core.List.{List, [], _∷_}
 use Prim.Native.Nat.{ℕ, _≤_, _<_}
 use native.Mathlib.Omega.{arith}
-use lib.Dec.{eqb, ltb}
 use lib.ListN.{getD, length}
 use borrow.Author.Tests.{eq-eqb, lt-ltb, ltb-false, ltb-true}
 use Rattle.c_face.specs.Keeping.{senderOf}
@@ -14,6 +13,7 @@ use Rattle.c_face.specs.Runs.{fits, meant, runC}
 use Rattle.c_face.specs.Senders.{areBytes, isEpoch, isState, outside, packetAnswerC, packetBytesC, sends, startAnswerC, startStateC}
 use Rattle.c_face.specs.Theorems.CratesOwn.{packet-own}
 use Rattle.c_face.specs.Theorems.Runs.{runs-own, runs-sized}
+use Rattle.ground.specs.Plain.{if_then_else_, _==_, _<?_}
 use Rattle.ground.specs.Truth.{and-left, and-right, le-or-lt, neither}
 use Rattle.packet.specs.AsSent.{Sent}
 use Rattle.packet.specs.Counts.{counts}
@@ -48,13 +48,13 @@ meant-given : (cs : List SenderCall) → AllGiven (meant cs)
 meant-given [] = tt
 meant-given (OnTable c ∷ cs) = go (fits (OnTable c)) (meant-given cs)
   where
-    go : (b : Bool) → AllGiven (meant cs) → AllGiven (cond b (OnTable c ∷ meant cs) (meant cs))
+    go : (b : Bool) → AllGiven (meant cs) → AllGiven (if b then OnTable c ∷ meant cs else meant cs)
     go true rest = (tt, rest)
     go false rest = rest
 meant-given (StartEpoch gid mst ack ∷ cs) = go (areBytes gid mst ack) refl (meant-given cs)
   where
-    go : (b : Bool) → areBytes gid mst ack ≡ b → AllGiven (meant cs) → AllGiven (cond b (StartEpoch gid mst ack ∷ meant cs) (meant cs))
-    go true e rest = (ltb-true mst 256 (and-right (ltb gid 256) (ltb mst 256) (and-left (ltb gid 256 && ltb mst 256) (ltb ack 256) e)), rest)
+    go : (b : Bool) → areBytes gid mst ack ≡ b → AllGiven (meant cs) → AllGiven (if b then StartEpoch gid mst ack ∷ meant cs else meant cs)
+    go true e rest = (ltb-true mst 256 (and-right (gid <? 256) (mst <? 256) (and-left (gid <? 256 && mst <? 256) (ack <? 256) e)), rest)
     go false e rest = rest
 
 -- kind and count stay
@@ -64,9 +64,15 @@ record Same (s r : Sender) : Type 0 where
 
 same-start : (s : Sender) (gid mst ack : ℕ) → Same s (startEpochOf s gid mst ack .sender)
 unfolding startEpochOf startedSender
-same-start s gid mst ack = go (ltb gid 2 && ltb ack 2)
+same-start s gid mst ack = go (gid <? 2 && ack <? 2)
   where
-    go : (b : Bool) → Same s (cond {A = SenderOutcome} b (record { sender = startedSender s gid mst ack; answer = Done }) (record { sender = s; answer = Field }) .sender)
+    started : SenderOutcome
+    started = record { sender = startedSender s gid mst ack; answer = Done }
+
+    refused : SenderOutcome
+    refused = record { sender = s; answer = Field }
+
+    go : (b : Bool) → Same s ((if b then started else refused) .sender)
     go true = record { kind = refl; count = refl }
     go false = record { kind = refl; count = refl }
 
@@ -83,10 +89,10 @@ same-run s (StartEpoch gid mst ack ∷ cs) =
 
 -- what the last of three tests gives, where all hold
 module _ {A : Type 0} (a b c : Bool) (ea : a ≡ true) (eb : b ≡ true) (ec : c ≡ true) where
-  third : (x n l s d : A) → cond a (cond b (cond c x n) l) s ≡ d → x ≡ d
+  third : (x n l s d : A) → (if a then (if b then (if c then x else n) else l) else s) ≡ d → x ≡ d
   third x n l s d e = rw (ea, eb, ec) at e
 
-  three : (x y : A) → cond (a && b && c) x y ≡ x
+  three : (x y : A) → (if a && b && c then x else y) ≡ x
   three x y = rw (ea, eb, ec) refl
 
 -- a slot's packet, once it is answered 0
@@ -114,7 +120,7 @@ module _ (kind count first : ℕ) (state : List ℕ) (done : startAnswerC kind c
   unfolding startAnswerC
   asked = go (outside count) (not (sends kind)) (isState state) (isEpoch kind first) refl refl done
     where
-      go : (o n l f : Bool) → outside count ≡ o → isEpoch kind first ≡ f → _≡_ {A = ℕ} (cond (o || n) 4 (cond l (cond f 0 8) 9)) 0 → Asked
+      go : (o n l f : Bool) → outside count ≡ o → isEpoch kind first ≡ f → _≡_ {A = ℕ} (if o || n then 4 else if l then (if f then 0 else 8) else 9) 0 → Asked
       go true n l f eo ef e = absurd (omega arith)
       go false true l f eo ef e = absurd (omega arith)
       go false false false f eo ef e = absurd (omega arith)
@@ -131,7 +137,7 @@ module _ (kind count first : ℕ) (state : List ℕ) (done : startAnswerC kind c
 
   size-is : sizeOf count ≡ count
   size-is =
-      let n = neither (eqb count 0) (ltb 64 count) (asked .inside) in
+      let n = neither (count == 0) (64 <? count) (asked .inside) in
       let most : count ≤ 64 = ltb-false 64 count (n .1) in
       ⊎-elim (λ (l : 64 ≤ count). size-large count l ∙ (omega arith)) (λ (l : count < 64). size-small count l) (le-or-lt 64 count)
 

@@ -11,4 +11,5 @@ pub mod Heard
 pub mod Read
 pub mod Proofs
 pub mod Theorems
+mod Examples
 mod Wrong

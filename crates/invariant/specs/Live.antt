@@ -14,7 +14,7 @@ use Rattle.step.specs.Run.{endsPacket, inStepAt}
 use Rattle.invariant.specs.Calls.{Fetch, Frame, Receiver, ReceiverCall, receiverAfter}
 
 -- a frame to the step record (R-5), by its answer
-abbrev pub isHeard : ℕ → Bool
+abbrev pub isHeard : (answer : ℕ) → Bool
 isHeard answer = not (answer == 1) && not (answer == 9) && not (answer == 11)
 
 -- The H4 bytes of all frames of port j that were frames to its step record, the latest first: after one call more, and after some calls.
@@ -29,13 +29,13 @@ heardOf j x [] heard = heard
 heardOf j x (c ∷ calls) heard = heardOf j (receiverAfter x c) calls (heardWith j x c heard)
 
 -- Of each of the last frames of the run, as many as an epoch has, its symbol stands at its own place.
-pub record LiveRow (kind count next : ℕ) (row heard : List ℕ) : Type 0 where
+pub record LiveRow (kind count next : ℕ) (row heard : Bytes) : Type 0 where
   pub long : length row ≡ 16
   pub known : count ≤ length heard
   pub holds : (d : ℕ) → d < count → d < frames kind → symbolAt kind row (placeOf kind (tagBack kind next d)) ≡ symbolOf kind (getD heard d 0)
 
 -- the packet that came with the last frames, as many as an epoch has
-abbrev pub packetHeard : ℕ → List ℕ → List ℕ
+abbrev pub packetHeard : (kind : ℕ) (heard : Bytes) → Bytes
 packetHeard kind heard = rowFrom kind (λ k. getD heard (frames kind - 1 - k) 0)
 
 -- What holds of a port's packet being gathered, of the frames that the port has heard.

@@ -123,7 +123,7 @@ Unstopped x (Frame i failed h payload ∷ calls) = (stopsWith (x .rows) i failed
 Unstopped x (Fetch out report ∷ calls) = Unstopped (receiverAfter x (Fetch out report)) calls
 
 -- so many epochs, each the one after the one before
-abbrev pub successive : (kind : ℕ) (epoch : Epoch) (ports : ℕ) → List ℕ
+abbrev pub successive : (kind : ℕ) (epoch : Epoch) (n : ℕ) → List Epoch
 successive kind e zero = []
 successive kind e (suc n) = e ∷ successive kind (epochAfter kind e) n
 

@@ -62,6 +62,7 @@ use Rattle.invariant.specs.Proofs.OwnBits.Calls as OwnBits
 use Rattle.invariant.specs.Proofs.Read.Anew as Anew
 use Rattle.invariant.specs.Proofs.Read.Behind as Waiting
 use Rattle.invariant.specs.Proofs.Read.Heard as Back
+use Rattle.invariant.specs.Proofs.Read.InOrder as Following
 use Rattle.invariant.specs.Proofs.Read.Sizes as Settings
 use Rattle.invariant.specs.Proofs.Reports.Ack as Ack
 use Rattle.invariant.specs.Proofs.Reports.Bytes as Bytes
@@ -76,7 +77,7 @@ use Rattle.invariant.specs.Proofs.Settles as Settles
 use Rattle.invariant.specs.Proofs.Times.Between as Between
 use Rattle.invariant.specs.Proofs.Times.Calls as Times
 use Rattle.invariant.specs.Proofs.Times.Waits as Waits
-use Rattle.invariant.specs.Read.{HeardFrom, Stopped, flagCalls}
+use Rattle.invariant.specs.Read.{AllSaidIn, HeardFrom, Stopped, flagCalls, heardsOf}
 use Rattle.invariant.specs.Reports.{ByNumber, Given, HeldReport, Others, Refused, SameRule, Stored, Unstopped, ackIn, nextReport, passedRows, portSeen, reportPorts, reportsOf, successive}
 use Rattle.invariant.specs.Ruled.{OneEpoch}
 use Rattle.step.specs.OwnCount.{withoutMfi2}
@@ -414,6 +415,19 @@ pub heard-reported : (kind count P W : ℕ) (hold restore : List ℕ) (rows : Li
     (out report : List ℕ) → Given (x .rows) (x .store) out report
     → rulingEpoch (groupAt (fetchRows (x .rows) (x .store) out report)) ≡ reportIfDue (groupAt (x .rows)) (portsIn (groupAt (x .rows))) (x .rows) .epoch)
 heard-reported = Back.heard-reported
+
+-- So over all calls, also across a stop: after each report nothing is heard, or what a packet of the report's epoch says.
+pub heard-each : (kind count P W : ℕ) (hold restore : List ℕ) (rows : List (List ℕ)) (store : List ℕ) → startAsAnswer kind count P W (length store) hold restore (length rows) ≡ 0 → (calls : List ReceiverCall)
+    → (let x = startedWith kind count P W hold restore rows store in AllSaidIn (reportsOf x calls) (heardsOf x calls))
+heard-each = Following.heard-each
+
+-- And while receiving goes on the epochs heard follow one another, each the one after the one before: what was said before a turn of RS-Ack is never heard after it. Across a stop they need not.
+pub heard-in-order : (kind count P W : ℕ) (hold restore : List ℕ) (rows : List (List ℕ)) (store : List ℕ) → startAsAnswer kind count P W (length store) hold restore (length rows) ≡ 0
+    → (before calls : List ReceiverCall)
+    → (let x = receiverRun (startedWith kind count P W hold restore rows store) before in
+    flagOf (groupAt (x .rows) .begun) ≡ true → Unstopped x calls
+    → AllSaidIn (successive kind (nextReport (groupAt (x .rows))) (length (reportsOf x calls))) (heardsOf x calls))
+heard-in-order = Following.heard-in-order
 
 -- nothing is heard until the first epoch is gathered
 pub heard-late : (kind count P W : ℕ) (hold restore : List ℕ) (rows : List (List ℕ)) (store : List ℕ) → startAsAnswer kind count P W (length store) hold restore (length rows) ≡ 0 → (calls : List ReceiverCall)

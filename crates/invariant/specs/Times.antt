@@ -52,7 +52,7 @@ pub record SameShown (s t : Rows) : Type 0 where
   pub reply-answer : (long : ℕ) → replyAnswer s long ≡ replyAnswer t long
   pub ack : (epoch : ℕ) (out : Bytes) → getD (replyOut s epoch out) 1 0 ≡ getD (replyOut t epoch out) 1 0
   pub ports-answer : (long : ℕ) → portsAnswer s long ≡ portsAnswer t long
-  pub ports : (out : List (List ℕ)) (i byte : ℕ) → byte ≢ 0 → byte ≢ 1 → byte ≢ 7 → getD (getD (portsOut s out) i []) byte 0 ≡ getD (getD (portsOut t out) i []) byte 0
+  pub ports : (out : Rows) (i byte : ℕ) → byte ≢ 0 → byte ≢ 1 → byte ≢ 7 → getD (getD (portsOut s out) i []) byte 0 ≡ getD (getD (portsOut t out) i []) byte 0
 
 -- What waiting goes by: a port's state, the number under which it has it, its two times and the counter.
 abbrev pub waitingIn : Member → List ℕ

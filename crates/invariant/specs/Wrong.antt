@@ -1,5 +1,5 @@
 -- Wrong readings of 01, each as a definition with a computed run on which it breaks what 01 or the minutes' third demand says.
-mod Sample
+pub mod Sample
 mod Place
 mod Later
 mod Beginning

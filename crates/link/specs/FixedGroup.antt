@@ -1,8 +1,8 @@
 -- A fixed group's side of demand 3 (request 2026-12): 'X slots for the X ports, each sending FIXED under its own number, together 0 to X-1, and carrying payload in that order from the first frame on'.
 use mathlib.Core.Path.{_≡_}
 use mathlib.Core.List.{List}
-use Prim.Native.Nat.{ℕ, suc, _+_, _≤_, _<_}
-use lib.ListN.{drop, length}
+use Prim.Native.Nat.{ℕ, suc, _+_, _/_, _%_, _≤_, _<_}
+use lib.ListN.{drop, getD, length}
 use Rattle.ground.specs.Table.{tabulate}
 use Rattle.judge.specs.Verdict.{SURE}
 use Rattle.packet.specs.Changes.{mostChanges}
@@ -33,6 +33,18 @@ pub record Numbered (f : FixedGroup) : Type 0 where
 -- the H4 bytes of a slot's packet in the i-th epoch
 unfoldable pub fixedSent : (f : FixedGroup) (i slot : ℕ) → List ℕ
 fixedSent f i slot = h4Of (fixedNibblesWith (f .unread i slot) (epochNumber fixedKind (f .first) i) (f .number slot))
+
+-- nibbles with SQ, MFI2 and the word in their places, and whatever a neighbour puts into the others
+pub record InPlaces (epoch sq : ℕ) (ns : List ℕ) : Type 0 where
+  pub sq-high : getD ns 6 0 ≡ sq / 16
+  pub sq-low : getD ns 7 0 ≡ sq % 16
+  pub mfi2-high : getD ns 8 0 ≡ epoch / 16
+  pub mfi2-low : getD ns 9 0 ≡ epoch % 16
+  pub word : getD ns 10 0 ≡ FIXED
+
+-- the group that sends such nibbles, by epoch and slot
+abbrev pub sendingThese : (f : FixedGroup) (packet : (i slot : ℕ) → List ℕ) → FixedGroup
+sendingThese f packet = record { x = f .x; first = f .first; number = f .number; unread = λ i slot place. getD (packet i slot) place 0 }
 
 -- What it sends. 'no changed bit at all, since nothing detects one'.
 abbrev pub sendingFixed : (f : FixedGroup) (P : ℕ) (client : Client) → Sending

@@ -5,11 +5,12 @@ use Prim.Native.Nat.{ℕ, suc, _+_, _/_, _<_}
 use lib.ListN.{length}
 use Rattle.link.specs.Assumed.{Assumed}
 use Rattle.link.specs.Demand3.{Demand3, Reported, Started, Time, UntilBegun, ownRun, standing}
-use Rattle.link.specs.FixedGroup.{AssumedFixed, FixedGroup, Numbered, ToldSure, sendingFixed, sureReport}
+use Rattle.link.specs.FixedGroup.{AssumedFixed, FixedGroup, InPlaces, Numbered, ToldSure, fixedSent, sendingFixed, sendingThese, sureReport}
 use Rattle.link.specs.Heard.{Hears, SaysBack, expectedHeard}
 use Rattle.link.specs.History.{Allowed, Handed, History, sendingOf}
 use Rattle.link.specs.Link.{AssumedOver, Link, epochFrames, expected}
 use Rattle.link.specs.Proofs.FixedGroups.Over.{fixed-over}
+use Rattle.link.specs.Proofs.FixedGroups.Packets.{any-sent}
 use Rattle.link.specs.Proofs.FixedGroups.Reported.{expected-sure, told-sure}
 use Rattle.link.specs.Proofs.FixedGroups.SaysBack.{fixed-says}
 use Rattle.link.specs.Proofs.FixedGroups.Sure.{fixed-lawful}
@@ -19,7 +20,9 @@ use Rattle.link.specs.Proofs.Histories.Ours.{ours}
 use Rattle.link.specs.Proofs.Histories.SaysBack.{history-says, ours-say}
 use Rattle.link.specs.Proofs.Over.{over, until-begun}
 use Rattle.link.specs.Running.{Moment}
-use Rattle.link.specs.Sending.{Client, Lawful}
+use Rattle.link.specs.Sending.{Client, Lawful, epochNumber}
+use Rattle.packet.specs.Kinds.{fixedKind}
+use Rattle.packet.specs.Layout.{h4Of}
 
 -- over any sending side
 pub demand3-over : (k : Link) → AssumedOver k → Demand3 k
@@ -58,6 +61,11 @@ demand3-fixed k a = demand3-over k (fixed-over k a)
 
 pub fixed-groups-lawful : (f : FixedGroup) → Numbered f → (P : ℕ) (client : Client) → Lawful (sendingFixed f P client) P client
 fixed-groups-lawful = fixed-lawful
+
+-- 'All other nibbles are .. not looked at in reading': whatever nibbles a neighbour's packets have beside SQ, MFI2 and the word in their places, some such group sends them
+pub fixed-any : (f : FixedGroup) (packet : (i slot : ℕ) → List ℕ) (i slot : ℕ) → InPlaces (epochNumber fixedKind (f .first) i) (f .number slot) (packet i slot)
+    → fixedSent (sendingThese f packet) i slot ≡ h4Of (packet i slot)
+fixed-any = any-sent
 
 -- every epoch of such a link is expected sure, with the client's bytes, and every report that its receiver makes is
 pub fixed-expected : (k : Link) → AssumedFixed k → (i : ℕ) (out : List ℕ) → expected k i out ≡ sureReport k (suc i) out

@@ -11,4 +11,5 @@ pub mod Speaking
 pub mod SpeakingRuns
 pub mod Taking
 pub mod Theorems
+mod Examples
 mod Wrong

@@ -144,7 +144,7 @@ pub call-ruled : (x : Receiver) (c : ReceiverCall) → Kept (x .rows) → Ruled 
 call-ruled x (Frame i failed h payload) k = frame-ruled (x .rows) k i failed h payload (x .store)
 call-ruled x (Fetch out report) k = fetch-ruled (x .rows) k (x .store) out report
 
-run-more : (x : Receiver) (calls : List ReceiverCall) (c : ReceiverCall) → receiverRun x (calls ++ (c ∷ [])) ≡ receiverAfter (receiverRun x calls) c
+pub run-more : (x : Receiver) (calls : List ReceiverCall) (c : ReceiverCall) → receiverRun x (calls ++ (c ∷ [])) ≡ receiverAfter (receiverRun x calls) c
 run-more x [] c = refl
 run-more x (d ∷ calls) c = run-more (receiverAfter x d) calls c
 
