@@ -175,29 +175,74 @@ fn block_from(
     }
 }
 
-// All lines of h columns, from members that lie one after the other.
-fn columns(h: usize, w: usize, x: usize, p: usize, members: &[u8], r: usize, frame: &mut [u8])
-    requires { ⌜ Sizes h w × (r + h ≤ x) × (w ≤ p) × (length (now members) ≡ x * p) × (length (now frame) ≡ x * p) ⌝ }
-    ensures { λ _. ⌜ now (frame .exit) ≡ drawn (area x 0 0 p r h) (λ k. groupByte x (rankedByte p (now (members .entry))) (k - 0)) (now (frame .entry)) ⌝ }
+// The lines of h columns from one up to another, from members that lie one after the other.
+fn columns(
+    h: usize,
+    w: usize,
+    x: usize,
+    p: usize,
+    members: &[u8],
+    r: usize,
+    from: usize,
+    to: usize,
+    frame: &mut [u8],
+)
+    requires { ⌜ Sizes h w × (r + h ≤ x) × (from + w ≤ to) × (to ≤ p) × (length (now members) ≡ x * p) × (length (now frame) ≡ x * p) ⌝ }
+    ensures { λ _. ⌜ now (frame .exit) ≡ drawn (area x 0 from (to - from) r h) (λ k. groupByte x (rankedByte p (now (members .entry))) (k - 0)) (now (frame .entry)) ⌝ }
 {
-    let mut c = 0;
-    while c < p {
-        let j = start(c, p, w);
+    let mut c = from;
+    while c < to {
+        let j = start(c, to, w);
         block(h, w, x, p, members, r, j, frame);
         c += w;
     }
 }
 
-// Members one after the other, into a frame, by blocks of h ranks and w bytes.
+// All columns of these lines.
+fn tile(
+    h: usize,
+    w: usize,
+    x: usize,
+    p: usize,
+    members: &[u8],
+    from: usize,
+    to: usize,
+    frame: &mut [u8],
+)
+    requires { ⌜ Sizes h w × (h ≤ x) × (from + w ≤ to) × (to ≤ p) × (length (now members) ≡ x * p) × (length (now frame) ≡ x * p) ⌝ }
+    ensures { λ _. ⌜ now (frame .exit) ≡ drawn (area x 0 from (to - from) 0 x) (λ k. groupByte x (rankedByte p (now (members .entry))) (k - 0)) (now (frame .entry)) ⌝ }
+{
+    let mut c = 0;
+    while c < x {
+        let r = start(c, x, h);
+        columns(h, w, x, p, members, r, from, to, frame);
+        c += h;
+    }
+}
+
+// How many lines a tile has, but the last.
+const TILE: usize = 256;
+
+// Where the tile ends that starts with a line.
+fn tile_end(from: usize, p: usize) -> usize
+    requires { ⌜ from ≤ p ⌝ }
+    ensures { λ to. ⌜ to ≡ min (from + 256) p ⌝ }
+{
+    if TILE <= p - from { from + TILE } else { p }
+}
+
+// Members one after the other, into a frame, by blocks of h ranks and w bytes. A tile of the frame stays in the cache while all its columns are stored; all
+// lines of h columns before the next h would bring each line of a long frame there anew for each h ranks.
 pub(crate) fn join(h: usize, w: usize, x: usize, p: usize, members: &[u8], frame: &mut [u8])
     requires { ⌜ Sizes h w × (h ≤ x) × (w ≤ p) × (length (now members) ≡ x * p) × (length (now frame) ≡ x * p) ⌝ }
     ensures { λ _. ⌜ now (frame .exit) ≡ groupFrame x p (rankedByte p (now (members .entry))) ⌝ }
 {
     let mut c = 0;
-    while c < x {
-        let r = start(c, x, h);
-        columns(h, w, x, p, members, r, frame);
-        c += h;
+    while c < p {
+        let from = start(c, p, w);
+        let to = tile_end(from, p);
+        tile(h, w, x, p, members, from, to, frame);
+        c += TILE;
     }
 }
 

@@ -13,15 +13,16 @@ use Rattle.payload.proofs.block.columns.Statement.{statement}
 use Rattle.payload.proofs.block.columns.Tie as tie
 
 abbrev Inv-loop : tie.InvT-loop
-Inv-loop h w x p members r frame₀ c₀ frame c = (c ≤ p + w) × Drawing (area x 0 0 (min c p) r h) (λ k. groupByte x (rankedByte p members) (k - 0)) frame₀ frame
+Inv-loop h w x p members r from to frame₀ c₀ frame c = (from ≤ c) × (c ≤ to + w) × Drawing (area x 0 from (min c to - from) r h) (λ k. groupByte x (rankedByte p members) (k - 0)) frame₀ frame
 
 abbrev μ-loop : tie.MeasureT-loop
-μ-loop h w x p members r frame₀ c₀ frame c = p - c
+μ-loop h w x p members r from to frame₀ c₀ frame c = to - c
 
 loop-holds : tie.Need-loop-holds Inv-loop μ-loop
 loop-holds c =
-    let e : min 0 (c .before .before .args .p) ≡ 0 = omega arith in
-    (omega arith, rw e (drawing-none _ _ _ (area-no-line _ _ 0 _ _)))
+    let a = c .before .before .args in
+    let e : min (a .from) (a .to) - a .from ≡ 0 = omega arith in
+    (omega arith, omega arith, rw e (drawing-none _ _ _ (area-no-line _ _ (a .from) _ _)))
 
 start-requires : tie.Need-start-requires Inv-loop μ-loop
 start-requires c κs = omega arith
@@ -29,7 +30,7 @@ start-requires c κs = omega arith
 block-requires : tie.Need-block-requires Inv-loop μ-loop
 block-requires c κs =
     let h = c .before .before .before .before .before .before .pre in
-    (h .0, h .1, omega (arith, c .before .start .ensures), h .3, c .before .before .before .loop .inv .1 .len ∙ h .4)
+    (h .0, h .1, omega (arith, c .before .start .ensures), h .4, c .before .before .before .loop .inv .2 .len ∙ h .5)
 
 add-c : tie.Need-add-c Inv-loop μ-loop
 add-c c =
@@ -52,16 +53,18 @@ loop-again c =
     let i = at-loop .loop .c in
     let e = at-start .start .ensures in (
       omega arith,
-      lines-more (a .x) 0 (rankedByte (a .p) (a .members .now)) 0 (min i (a .p)) j (a .w) (min (i + a .w) (a .p)) (a .r) (a .h) _ (omega arith) (omega arith) (omega arith) (omega arith) (at-loop .loop .inv .1) (at-block .block .ensures),
+      omega arith,
+      lines-more (a .x) 0 (rankedByte (a .p) (a .members .now)) (a .from) (min i (a .to) - a .from) j (a .w) (min (i + a .w) (a .to) - a .from) (a .r) (a .h) _ (omega arith) (omega arith) (omega arith) (omega arith) (at-loop .loop .inv .2) (at-block .block .ensures),
     )
 
 same-length : tie.Need-same-length Inv-loop μ-loop
-same-length c = c .before .loop .inv .1 .len
+same-length c = c .before .loop .inv .2 .len
 
 returns : tie.Need-returns Inv-loop μ-loop
 returns c =
-    let e : min (c .before .loop .c) (c .before .before .before .before .args .p) ≡ c .before .before .before .before .args .p = omega arith in
-    (rw e at (c .before .loop .inv .1)) .is
+    let a = c .before .before .before .before .args in
+    let e : min (c .before .loop .c) (a .to) - a .from ≡ a .to - a .from = omega arith in
+    (rw e at (c .before .loop .inv .2)) .is
 
 pub columns-spec : {M : Type 1} → statement M
 columns-spec =
