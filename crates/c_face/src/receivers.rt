@@ -3,8 +3,8 @@ use packet::kinds;
 ghost use mathlib.Core.Path.{_≡_};
 ghost use lib.ListN.{length};
 ghost use Rattle.c_face.specs.Receivers.{failedC, kindC, startAsAnswerC, startAsRowsC};
-ghost use Rattle.receiver.specs.Fetch.{fetchAnswer, fetchOut, fetchRecord, fetchRows};
-ghost use Rattle.receiver.specs.Frame.{frameAnswer, frameRows, frameStore};
+ghost use Rattle.receiver.specs.Fetch.{fetchOf};
+ghost use Rattle.receiver.specs.Frame.{frameOf};
 ghost use Rattle.receiver.specs.Shown.{portsAnswer, portsOut, replyAnswer, replyOut};
 ghost use Rattle.receiver.specs.Starting.{startAnswer, startRows};
 
@@ -70,9 +70,9 @@ pub extern "C" fn levelspruce_receiver_frame(
     payload: &[u8],
     store: &mut [u8],
 ) -> u8
-    ensures { λ r. ⌜ (r ≡ frameAnswer (now (state .entry)) port (failedC failed) h4 (length (now (payload .entry))) (length (now (store .entry))))
-        × (now (state .exit) ≡ frameRows (now (state .entry)) port (failedC failed) h4 (now (payload .entry)) (now (store .entry)))
-        × (now (store .exit) ≡ frameStore (now (state .entry)) port (failedC failed) h4 (now (payload .entry)) (now (store .entry))) ⌝ }
+    ensures { λ r. ⌜ (r ≡ frameOf (now (state .entry)) port (failedC failed) h4 (now (payload .entry)) (now (store .entry)) .answer)
+        × (now (state .exit) ≡ frameOf (now (state .entry)) port (failedC failed) h4 (now (payload .entry)) (now (store .entry)) .rows)
+        × (now (store .exit) ≡ frameOf (now (state .entry)) port (failedC failed) h4 (now (payload .entry)) (now (store .entry)) .store) ⌝ }
 {
     let flagged = is_failed(failed);
     receiver::frame(state, port, flagged, h4, payload, store)
@@ -85,10 +85,10 @@ pub extern "C" fn levelspruce_receiver_fetch(
     out: &mut [u8],
     report: &mut [u8],
 ) -> u8
-    ensures { λ r. ⌜ (r ≡ fetchAnswer (now (state .entry)) (now (store .entry)) (now (out .entry)) (now (report .entry)))
-        × (now (state .exit) ≡ fetchRows (now (state .entry)) (now (store .entry)) (now (out .entry)) (now (report .entry)))
-        × (now (out .exit) ≡ fetchOut (now (state .entry)) (now (store .entry)) (now (out .entry)) (now (report .entry)))
-        × (now (report .exit) ≡ fetchRecord (now (state .entry)) (now (store .entry)) (now (out .entry)) (now (report .entry))) ⌝ }
+    ensures { λ r. ⌜ (r ≡ fetchOf (now (state .entry)) (now (store .entry)) (now (out .entry)) (now (report .entry)) .answer)
+        × (now (state .exit) ≡ fetchOf (now (state .entry)) (now (store .entry)) (now (out .entry)) (now (report .entry)) .rows)
+        × (now (out .exit) ≡ fetchOf (now (state .entry)) (now (store .entry)) (now (out .entry)) (now (report .entry)) .out)
+        × (now (report .exit) ≡ fetchOf (now (state .entry)) (now (store .entry)) (now (out .entry)) (now (report .entry)) .report) ⌝ }
 {
     receiver::fetch(state, store, out, report)
 }

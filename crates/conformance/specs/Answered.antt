@@ -6,7 +6,7 @@ use Prim.Native.Nat.{ℕ, _*_, _≤_, _<_}
 use native.Mathlib.Omega.{arith}
 use lib.ListN.{length}
 use borrow.Author.Tests.{lt-leb}
-use Rattle.ground.specs.Plain.{if_then_else_, _==_, _<?_}
+use Rattle.ground.specs.Plain.{_==_}
 use Rattle.ground.specs.Truth.{cond-by}
 use Rattle.packet.specs.Kinds.{frames}
 use Rattle.packet.specs.Theorems.Tags.{frames-some}
@@ -19,10 +19,10 @@ use Rattle.phases.specs.Laws.Sizes.{settled-sizes}
 use Rattle.phases.specs.Passing.{passedOf, passedStep}
 use Rattle.phases.specs.Settling.{beginBy, begunOf, clearedStep, gatherBy, settledOf, stopBy, stoppedOf}
 use Rattle.phases.specs.Sizes.{portsIn}
-use Rattle.receiver.specs.Frame.{frameAnswer, frameRefusal, frameRows, oddIn, portRows, refusalBy, settledBy, storeBy, takenIn, takenRows}
+use Rattle.receiver.specs.Frame.{frameOf, frameRefusal, oddIn, portRows, settledBy, storeBy, takenFrame, takenIn}
 use Rattle.receiver.specs.Laws.Answers.{Fitting, unrefused}
 use Rattle.receiver.specs.Laws.Frames.{frame-group, frame-step, length-frame}
-use Rattle.receiver.specs.Lengths.{frameFits}
+use Rattle.receiver.specs.Laws.Outcomes.{answered-above}
 use Rattle.rows.specs.declared.group.Group.{Group}
 use Rattle.rows.specs.declared.step.Step.{Step}
 use Rattle.rows.specs.Group.{groupAt}
@@ -119,20 +119,10 @@ module _ (s : List (List ℕ)) (i : ℕ) (failed : Bool) (h : ℕ) (payload stor
   abbrev t : Taken
   t = takenIn s i failed h
 
-  -- a frame answered 10 or 12 is neither 1 nor 9, and was so decided
-  decided : (a : ℕ) → 9 < a → frameAnswer s i failed h (length payload) (length store) ≡ a → (frameRefusal s i (length payload) (length store) ≡ 0) × (t .answer ≡ a)
-  unfolding frameAnswer refusalBy
-  decided a big e = go (i <? portsIn (groupAt s)) (frameFits (groupAt s) (portsIn (groupAt s)) (length s) (length payload) (length store)) e
-    where
-      go : (b f : Bool) → (if (if b then (if f then 0 else 9) else 1) == 0 then takenIn s i failed h .answer else if b then (if f then 0 else 9) else 1) ≡ a → (_≡_ {A = ℕ} (if b then (if f then 0 else 9) else 1) 0) × (takenIn s i failed h .answer ≡ a)
-      go true true e = (refl, e)
-      go true false e = absurd (omega arith)
-      go false f e = absurd (omega arith)
-
   -- the rows after such a frame: what follows for all ports on the port's own rows
   rows-are : (a : ℕ) → (a == 11) ≡ false → frameRefusal s i (length payload) (length store) ≡ 0 → t .answer ≡ a
-      → frameRows s i failed h payload store ≡ settledBy (t .settles) n (storeBy g i t h payload store) (portRows (g .kind) s i t h)
-  unfolding frameRows takenRows
+      → frameOf s i failed h payload store .rows ≡ settledBy (t .settles) n (storeBy g i t h payload store) (portRows (g .kind) s i t h)
+  unfolding frameOf takenFrame
   rows-are a d r e = rw (r, e, d) refl
 
   -- what is said of the step as it is taken holds of the rows, if count, flag and kind are as then
@@ -166,9 +156,9 @@ module _ (s : List (List ℕ)) (i : ℕ) (failed : Bool) (h : ℕ) (payload stor
       (λ e. finish flag a own kind w)
 
   out : (a flag : ℕ) → 9 < a → (a == 11) ≡ false → (takenIn s i failed h .answer ≡ a → (inStepAt (groupAt s .kind) (takenIn s i failed h .step .count) ≡ false) × (takenIn s i failed h .step .failed ≡ flag))
-      → frameAnswer s i failed h (length payload) (length store) ≡ a → OutOfStep (frameRows s i failed h payload store) i flag
+      → frameOf s i failed h payload store .answer ≡ a → OutOfStep (frameOf s i failed h payload store .rows) i flag
   out a flag big d tells e =
-      let q = decided a big e in
+      let q = answered-above s i failed h payload store a big e in
       let f : Fitting (groupAt s) (portsIn (groupAt s)) i (length s) (length payload) (length store) =
       unrefused (groupAt s) (portsIn (groupAt s)) i (length s) (length payload) (length store) (q .0) in
       let l : rowsFor (portsIn (groupAt s)) ≤ length s = (let w = f .whole in omega arith) in
@@ -176,9 +166,9 @@ module _ (s : List (List ℕ)) (i : ℕ) (failed : Bool) (h : ℕ) (payload stor
       (settle flag (takenIn s i failed h .settles) (storeBy (groupAt s) i (takenIn s i failed h) h payload store) (f .port) l (tells (q .1)))
 
   -- 10: the port is not in step, not readable and flagged
-  pub after-10 : frameAnswer s i failed h (length payload) (length store) ≡ 10 → OutOfStep (frameRows s i failed h payload store) i 1
+  pub after-10 : frameOf s i failed h payload store .answer ≡ 10 → OutOfStep (frameOf s i failed h payload store .rows) i 1
   after-10 e = out 10 1 (omega arith) refl (says (groupAt s) (stepAt s i) failed (oddIn s i h) h .ten) e
 
   -- 12: the port is not in step, not readable and not flagged
-  pub after-12 : frameAnswer s i failed h (length payload) (length store) ≡ 12 → OutOfStep (frameRows s i failed h payload store) i 0
+  pub after-12 : frameOf s i failed h payload store .answer ≡ 12 → OutOfStep (frameOf s i failed h payload store .rows) i 0
   after-12 e = out 12 0 (omega arith) refl (says (groupAt s) (stepAt s i) failed (oddIn s i h) h .twelve) e

@@ -5,7 +5,7 @@ use Prim.Native.Nat.{ℕ}
 use lib.ListN.{getD, replicate}
 use Rattle.conformance.specs.Hosts.{Host, damagedWith, fed, fedWith, fetched, packetWith}
 use Rattle.conformance.specs.Rows.{Equal, Row, equal-rows}
-use Rattle.receiver.specs.Fetch.{fetchRecord}
+use Rattle.receiver.specs.Fetch.{fetchOf}
 use Rattle.receiver.specs.Shown.{portsOut, replyOut}
 use Rattle.receiver.specs.Starting.{startAnswer, startRows}
 use Rattle.rows.specs.Rows.{rowsFor}
@@ -24,7 +24,7 @@ openedAs kind =
 abbrev read : Host → List ℕ
 read h =
     let later = fetched h in
-    fetchRecord (h .rows) (h .store) (replicate 16 0) (replicate 8 0) ++ getD (portsOut (later .rows) ([] ∷ [])) 0 [] ++ replyOut (later .rows) 0 (9 ∷ 9 ∷ [])
+    fetchOf (h .rows) (h .store) (replicate 16 0) (replicate 8 0) .report ++ getD (portsOut (later .rows) ([] ∷ [])) 0 [] ++ replyOut (later .rows) 0 (9 ∷ 9 ∷ [])
 
 -- 40 frames of the count and nothing else, so that epoch 3 starts; then packets carried with the tags from 56 on: the answers to their 31st frame and to the 32nd
 abbrev two : ℕ → (ℕ → ℕ) → List ℕ

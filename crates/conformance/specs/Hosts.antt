@@ -2,15 +2,15 @@
 use mathlib.Core.Bool.{Bool, true, false}
 use mathlib.Core.List.{List, [], _∷_}
 use Prim.Native.Nat.{ℕ, zero, suc, _+_, _*_, _/_, _%_}
-use lib.ListN.{getD, length, replicate}
+use lib.ListN.{getD, replicate}
 use Rattle.ground.specs.Plain.{if_then_else_, _==_}
 use Rattle.ground.specs.Types.{Bytes}
 use Rattle.packet.specs.Kinds.{epochOf, placeOf}
 use Rattle.packet.specs.Layout.{h4Of, nibblesOf}
 use Rattle.packet.specs.Words.{IDLE}
 use Rattle.phases.specs.Sizes.{portsIn}
-use Rattle.receiver.specs.Fetch.{fetchRows}
-use Rattle.receiver.specs.Frame.{frameAnswer, frameRows, frameStore}
+use Rattle.receiver.specs.Fetch.{fetchOf}
+use Rattle.receiver.specs.Frame.{frameOf}
 use Rattle.receiver.specs.Starting.{startAnswer, startRows}
 use Rattle.rows.specs.Group.{groupAt}
 use Rattle.rows.specs.Rows.{rowsFor}
@@ -43,9 +43,9 @@ payloadWith t = t % 256 ∷ []
 abbrev handedAs : (failed : Bool) (port h4 : ℕ) (payload : Bytes) (h : Host) → Host
 handedAs failed port h4 payload h =
     record {
-      answer = frameAnswer (h .rows) port failed h4 (length payload) (length (h .store));
-      rows = frameRows (h .rows) port failed h4 payload (h .store);
-      store = frameStore (h .rows) port failed h4 payload (h .store);
+      answer = frameOf (h .rows) port failed h4 payload (h .store) .answer;
+      rows = frameOf (h .rows) port failed h4 payload (h .store) .rows;
+      store = frameOf (h .rows) port failed h4 payload (h .store) .store;
     }
 
 -- the frame with tag t
@@ -80,7 +80,7 @@ fedWith h4 port (suc n) t h = byNumber (h4 t) (λ b. fedWith h4 port n ((t + 1) 
 
 -- one fetch, whose answer is left out
 abbrev pub fetched : Host → Host
-fetched h = record { answer = h .answer; rows = fetchRows (h .rows) (h .store) (replicate 16 0) (replicate 8 0); store = h .store }
+fetched h = record { answer = h .answer; rows = fetchOf (h .rows) (h .store) (replicate 16 0) (replicate 8 0) .rows; store = h .store }
 
 -- the answer, and of a port the tag to come, the frames counted, and the breaks in a row
 abbrev pub counting : ℕ → Host → List ℕ

@@ -9,7 +9,7 @@ use Rattle.packet.specs.Kinds.{epochOf, placeOf}
 use Rattle.packet.specs.Layout.{h4Of, nibblesOf}
 use Rattle.packet.specs.Reading.{readNibbles, readingNumber}
 use Rattle.packet.specs.Words.{EOS, FIXED}
-use Rattle.receiver.specs.Fetch.{fetchRecord}
+use Rattle.receiver.specs.Fetch.{fetchOf}
 use Rattle.receiver.specs.Shown.{portsOut, replyOut}
 use Rattle.conformance.specs.Opened.{allOpen}
 
@@ -39,7 +39,7 @@ told h = getD (portsOut (h .rows) ([] ∷ [])) 0 [] ++ replyOut (h .rows) 0 (0 �
 
 -- the record of the next report
 abbrev reported : Host → List ℕ
-reported h = fetchRecord (h .rows) (h .store) (replicate 16 0) (replicate 8 0)
+reported h = fetchOf (h .rows) (h .store) (replicate 16 0) (replicate 8 0) .report
 
 -- the answer, and that of one frame more
 abbrev bothAnswers : Host → (Host → Host) → List ℕ

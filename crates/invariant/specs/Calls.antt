@@ -4,8 +4,8 @@ use mathlib.Core.List.{List, [], _∷_}
 use Prim.Native.Nat.{ℕ}
 use lib.ListN.{length}
 use Rattle.ground.specs.Types.{Bytes, Rows}
-use Rattle.receiver.specs.Fetch.{fetchRows}
-use Rattle.receiver.specs.Frame.{frameRows, frameStore, portRows, storeBy, takenIn}
+use Rattle.receiver.specs.Fetch.{fetchOf}
+use Rattle.receiver.specs.Frame.{frameOf, portRows, storeBy, takenIn}
 use Rattle.receiver.specs.Starting.{startAsRows}
 use Rattle.rows.specs.Group.{groupAt}
 
@@ -21,8 +21,8 @@ pub record Receiver : Type 0 where
 
 abbrev pub receiverAfter : Receiver → ReceiverCall → Receiver
 receiverAfter x (Frame port failed h payload) =
-    record { rows = frameRows (x .rows) port failed h payload (x .store); store = frameStore (x .rows) port failed h payload (x .store) }
-receiverAfter x (Fetch out report) = record { rows = fetchRows (x .rows) (x .store) out report; store = x .store }
+    record { rows = frameOf (x .rows) port failed h payload (x .store) .rows; store = frameOf (x .rows) port failed h payload (x .store) .store }
+receiverAfter x (Fetch out report) = record { rows = fetchOf (x .rows) (x .store) out report .rows; store = x .store }
 
 abbrev pub receiverRun : Receiver → List ReceiverCall → Receiver
 receiverRun x [] = x

@@ -7,13 +7,13 @@ use Prim.Native.Nat.{ℕ, _+_, _*_, _/_, _≤_, _<_, _%_}
 use Rattle.ground.specs.Types.{Bytes, Rows}
 use Rattle.invariant.specs.Kept.Port.{offset}
 use Rattle.packet.specs.Kinds.{frames, tags, firstTag}
-use Rattle.receiver.specs.Frame.{frameAnswer}
+use Rattle.receiver.specs.Frame.{frameOf}
 use Rattle.rows.specs.declared.group.Group.{Group}
 use Rattle.rows.specs.declared.step.Step.{Step}
 use Rattle.step.specs.Arrival.{flagOf}
 use Rattle.store.specs.Frames.{Stands}
 use Rattle.store.specs.Marks.{markIn}
-use lib.ListN.{getD, length}
+use lib.ListN.{getD}
 use Rattle.rows.specs.Group.{groupAt}
 use Rattle.rows.specs.Port.{portAt}
 use Rattle.invariant.specs.Calls.{Fetch, Frame, Receiver, ReceiverCall, receiverAfter}
@@ -45,7 +45,7 @@ pub record Claimed (s : Rows) (store : Bytes) (i tag : ℕ) (payload : Bytes) (h
 pub record Handed (s : Rows) (i : ℕ) (failed : Bool) (h : ℕ) (payload store : Bytes) (j tag : ℕ) (bytes : Bytes) (h4 : ℕ) : Type 0 where
   pub port : j ≡ i
   pub unflagged : failed ≡ false
-  pub answer : frameAnswer s i failed h (length payload) (length store) ≡ 0
+  pub answer : frameOf s i failed h payload store .answer ≡ 0
   pub tag-is : tag ≡ portAt s i .step .next
   pub h4-is : h4 ≡ h
   pub bytes-are : (k : ℕ) → k < groupAt s .payload → getD bytes k 0 ≡ getD payload k 0

@@ -8,7 +8,7 @@ use Rattle.ground.specs.Plain.{if_then_else_, _==_}
 use Rattle.ground.specs.Types.{Bytes}
 use Rattle.packet.specs.Kinds.{frames, placeOf, startsEpoch, tagBack}
 use Rattle.packet.specs.Symbols.{rowFrom, symbolAt, symbolOf, withSymbol}
-use Rattle.receiver.specs.Frame.{frameAnswer}
+use Rattle.receiver.specs.Frame.{frameOf}
 use Rattle.rows.specs.Port.{Port}
 use Rattle.step.specs.Run.{endsPacket, inStepAt}
 use Rattle.invariant.specs.Calls.{Fetch, Frame, Receiver, ReceiverCall, receiverAfter}
@@ -21,7 +21,7 @@ isHeard answer = not (answer == 1) && not (answer == 9) && not (answer == 11)
 
 abbrev pub heardWith : (port : ℕ) (x : Receiver) (call : ReceiverCall) (heard : Bytes) → Bytes
 heardWith j x (Frame i failed h payload) heard =
-    if i == j && isHeard (frameAnswer (x .rows) i failed h (length payload) (length (x .store))) then h ∷ heard else heard
+    if i == j && isHeard (frameOf (x .rows) i failed h payload (x .store) .answer) then h ∷ heard else heard
 heardWith j x (Fetch out report) heard = heard
 
 abbrev pub heardOf : (port : ℕ) (x : Receiver) (calls : List ReceiverCall) (heard : Bytes) → Bytes

@@ -21,7 +21,7 @@ use Rattle.phases.specs.Due.{silent}
 use Rattle.phases.specs.Passing.{passedGroup, passedOf}
 use Rattle.phases.specs.Sizes.{portsIn}
 use Rattle.receiver.specs.Fetch.{dueIn, fits, reportIfDue}
-use Rattle.receiver.specs.Frame.{frameRefusal, takenIn, frameAnswer, frameStore}
+use Rattle.receiver.specs.Frame.{frameRefusal, takenIn, frameOf}
 use Rattle.reply.specs.declared.members.Port.{Port as ReplyPort}
 use Rattle.reply.specs.Telling.{ackOf}
 use Rattle.rows.specs.Group.{groupAt}
@@ -139,12 +139,12 @@ Others i (Fetch out report ∷ calls) = Others i calls
 
 -- a frame that is answered 0 and stored
 pub record Stored (y : Receiver) (i : ℕ) (failed : Bool) (h : ℕ) (payload : Bytes) : Type 0 where
-  pub answer : frameAnswer (y .rows) i failed h (length payload) (length (y .store)) ≡ 0
+  pub answer : frameOf (y .rows) i failed h payload (y .store) .answer ≡ 0
   pub at : ℕ
   pub inside : at < groupAt (y .rows) .window
   pub tag : tagIn (groupAt (y .rows)) at ≡ portAt (y .rows) i .step .next
-  pub store-is : frameStore (y .rows) i failed h payload (y .store) ≡ storedAt (y .store) (placeIn (groupAt (y .rows)) i at) payload h
-  pub stands : Stands (groupAt (y .rows)) i at payload h (frameStore (y .rows) i failed h payload (y .store))
+  pub store-is : frameOf (y .rows) i failed h payload (y .store) .store ≡ storedAt (y .store) (placeIn (groupAt (y .rows)) i at) payload h
+  pub stands : Stands (groupAt (y .rows)) i at payload h (frameOf (y .rows) i failed h payload (y .store) .store)
 
 abbrev pub ackIn : Rows → ℕ
 ackIn s = groupAt s .«rs_ack»

@@ -22,8 +22,8 @@ use Rattle.phases.specs.Settling.{settledOf}
 use Rattle.phases.specs.Sizes.{knownKind, portsIn}
 use Rattle.receiver.specs.Anew.{anewAnswer, anewRows}
 use Rattle.receiver.specs.Cause.{causeOut}
-use Rattle.receiver.specs.Fetch.{dueIn, fetchOut, fetchRecord, fetchRows, fits, reportIfDue}
-use Rattle.receiver.specs.Frame.{frameAnswer, frameRows, settledBy, takenIn}
+use Rattle.receiver.specs.Fetch.{dueIn, fetchOf, fits, reportIfDue}
+use Rattle.receiver.specs.Frame.{frameOf, settledBy, takenIn}
 use Rattle.receiver.specs.Behind.{Near, behindIn}
 use Rattle.receiver.specs.Heard.{heardOf as saidOf, silence}
 use Rattle.receiver.specs.Laws.Behind as Behind
@@ -93,10 +93,10 @@ pub kept : (kind count P W : ℕ) (hold restore : List ℕ) (rows : List (List �
 kept = Calls.kept
 
 -- one call keeps it, whatever store is lent with it
-pub frame-kept : (s : List (List ℕ)) → Kept s → (i : ℕ) (failed : Bool) (h : ℕ) (payload store : List ℕ) → Kept (frameRows s i failed h payload store)
+pub frame-kept : (s : List (List ℕ)) → Kept s → (i : ℕ) (failed : Bool) (h : ℕ) (payload store : List ℕ) → Kept (frameOf s i failed h payload store .rows)
 frame-kept = EachCall.frame-kept
 
-pub fetch-kept : (s : List (List ℕ)) → Kept s → (store out report : List ℕ) → Kept (fetchRows s store out report)
+pub fetch-kept : (s : List (List ℕ)) → Kept s → (store out report : List ℕ) → Kept (fetchOf s store out report .rows)
 fetch-kept = EachCall.fetch-kept
 
 -- R-7: after a frame, stopping, beginning and gathering may be tested always or only where takenOf says so
@@ -169,9 +169,9 @@ pub lost-heard : (kind count P W : ℕ) (hold restore : List ℕ) (rows : List (
     → (let x = receiverRun (startedWith kind count P W hold restore rows store) calls in
     let next = portAt (x .rows) j .step .next in
     let heard = heardOf j (startedWith kind count P W hold restore rows store) calls [] in
-    inStepAt kind (portAt (x .rows) j .step .count) ≡ true → (h : ℕ) (payload : List ℕ) → isHeard (frameAnswer (x .rows) j false h (length payload) (length (x .store))) ≡ true
-    → (frameAnswer (x .rows) j false h (length payload) (length (x .store)) ≡ 12 → Fourth kind next h heard ⊎ Second kind next h heard)
-    × (Fourth kind next h heard ⊎ Second kind next h heard → frameAnswer (x .rows) j false h (length payload) (length (x .store)) ≡ 12))
+    inStepAt kind (portAt (x .rows) j .step .count) ≡ true → (h : ℕ) (payload : List ℕ) → isHeard (frameOf (x .rows) j false h payload (x .store) .answer) ≡ true
+    → (frameOf (x .rows) j false h payload (x .store) .answer ≡ 12 → Fourth kind next h heard ⊎ Second kind next h heard)
+    × (Fourth kind next h heard ⊎ Second kind next h heard → frameOf (x .rows) j false h payload (x .store) .answer ≡ 12))
 lost-heard = Losing.lost-heard
 
 -- Reports, on every state.
@@ -179,7 +179,7 @@ lost-heard = Losing.lost-heard
 -- The minutes' item 1: the bytes of a report that is not held are the join under one order, sixteen group frames, and the output beyond them stays.
 pub report-bytes : (s : List (List ℕ)) (store out report : List ℕ) → fits s store out report ≡ true → dueIn (groupAt s) (portsIn (groupAt s)) s ≡ true
     → judgeOf (groupAt s .kind) (seenAll (groupAt s) s (portsIn (groupAt s))) (portsIn (groupAt s)) ≢ HELD
-    → fetchOut s store out report
+    → fetchOf s store out report .out
     ≡ fillAt 0 (frames (groupAt s .kind) * frameBytes (groupAt s) (seenAll (groupAt s) s (portsIn (groupAt s))) (portsIn (groupAt s)))
     (reportByte (groupAt s) (seenAll (groupAt s) s (portsIn (groupAt s))) (portsIn (groupAt s)) store) out
 report-bytes = Bytes.report-bytes
@@ -193,36 +193,36 @@ order-same g s t n h same = Seen.order-same g s t n h same
 pub held-report : (s : List (List ℕ)) (i : ℕ) → Refused s i → dueIn (groupAt s) (portsIn (groupAt s)) s ≡ true → HeldReport (reportIfDue (groupAt s) (portsIn (groupAt s)) s) (groupAt s .oldest)
 held-report s i o = Held.held-report s i o
 
-pub held-out : (s : List (List ℕ)) (i : ℕ) → Refused s i → (store out report : List ℕ) → fetchOut s store out report ≡ out
+pub held-out : (s : List (List ℕ)) (i : ℕ) → Refused s i → (store out report : List ℕ) → fetchOf s store out report .out ≡ out
 held-out s i o = Held.held-out s i o
 
 -- The cause of a report, byte 3 of its record: by the packets of the ports that the report saw, the first clause in 01's order that holds; and the mark is what that cause makes of it. With none due it is 0.
 
 pub report-cause : (s : List (List ℕ)) (store out report : List ℕ) → Given s store out report
-    → getD (fetchRecord s store out report) 3 0 ≡ causeOf (groupAt s .kind) (seenAll (groupAt s) s (portsIn (groupAt s))) (portsIn (groupAt s))
+    → getD (fetchOf s store out report .report) 3 0 ≡ causeOf (groupAt s .kind) (seenAll (groupAt s) s (portsIn (groupAt s))) (portsIn (groupAt s))
 report-cause = Cause.report-cause
 
 pub mark-cause : (s : List (List ℕ)) (store out report : List ℕ) → Given s store out report
-    → getD (fetchRecord s store out report) 0 0 ≡ markOf (groupAt s .kind) (getD (fetchRecord s store out report) 3 0)
+    → getD (fetchOf s store out report .report) 0 0 ≡ markOf (groupAt s .kind) (getD (fetchOf s store out report .report) 3 0)
 mark-cause = Cause.mark-cause
 
 pub none-cause : (s : List (List ℕ)) (store out report : List ℕ) → fits s store out report ≡ true → dueIn (groupAt s) (portsIn (groupAt s)) s ≡ false
-    → getD (fetchRecord s store out report) 3 0 ≡ 0
+    → getD (fetchOf s store out report .report) 3 0 ≡ 0
 none-cause = Cause.none-cause
 
 -- after any calls the cause is read before the report is fetched: what is read then is what the next fetch says
 pub cause-read : (kind count P W : ℕ) (hold restore : List ℕ) (rows : List (List ℕ)) (store : List ℕ) → startAsAnswer kind count P W (length store) hold restore (length rows) ≡ 0
     → (calls : List ReceiverCall) (out report lent : List ℕ) → length lent ≡ 2
     → (let x = receiverRun (startedWith kind count P W hold restore rows store) calls in
-    Given (x .rows) (x .store) out report → getD (causeOut (x .rows) lent) 0 0 ≡ getD (fetchRecord (x .rows) (x .store) out report) 3 0)
+    Given (x .rows) (x .store) out report → getD (causeOut (x .rows) lent) 0 0 ≡ getD (fetchOf (x .rows) (x .store) out report .report) 3 0)
 cause-read kind count P W hold restore rows store e calls out report lent l o =
     Cause.cause-read (receiverRun (startedWith kind count P W hold restore rows store) calls .rows) (receiverRun (startedWith kind count P W hold restore rows store) calls .store) out report o lent l
 
 -- Reports come in order, with no gap, from the first one after a beginning until receiving stops.
 
 pub first-reported : (s : List (List ℕ)) (i : ℕ) (failed : Bool) (h : ℕ) (payload store : List ℕ) → flagOf (groupAt s .begun) ≡ false
-    → flagOf (groupAt (frameRows s i failed h payload store) .begun) ≡ true
-    → nextReport (groupAt (frameRows s i failed h payload store))
+    → flagOf (groupAt (frameOf s i failed h payload store .rows) .begun) ≡ true
+    → nextReport (groupAt (frameOf s i failed h payload store .rows))
     ≡ epochAfter (groupAt s .kind) (epochAfter (groupAt s .kind) (epochOf (groupAt s .kind) (foremost (groupAt s) (portAfter s i failed h) (portsIn (groupAt s)))))
 first-reported = Order.first-reported
 
@@ -231,22 +231,22 @@ pub in-order : (x : Receiver) (calls : List ReceiverCall) → flagOf (groupAt (x
 in-order = Order.in-order
 
 -- 'the host may hand the frame again after a report': a frame answered 11, with no other frame of that port and no stop in between, is then answered 0 and stored
-pub again : (x : Receiver) → Kept (x .rows) → (i : ℕ) (failed : Bool) (h : ℕ) (payload : List ℕ) → frameAnswer (x .rows) i failed h (length payload) (length (x .store)) ≡ 11
+pub again : (x : Receiver) → Kept (x .rows) → (i : ℕ) (failed : Bool) (h : ℕ) (payload : List ℕ) → frameOf (x .rows) i failed h payload (x .store) .answer ≡ 11
     → (calls : List ReceiverCall) → Others i calls → Unstopped x calls → (reportsOf x calls ≡ [] → ⊥) → Stored (receiverRun x calls) i failed h payload
 again = Again.again
 
 -- RS-Ack turns over at most once a report, at no other call, and there as 01 says.
 
-pub frame-ack : (s : List (List ℕ)) (i : ℕ) (failed : Bool) (h : ℕ) (payload store : List ℕ) → ackIn (frameRows s i failed h payload store) ≡ ackIn s
+pub frame-ack : (s : List (List ℕ)) (i : ℕ) (failed : Bool) (h : ℕ) (payload store : List ℕ) → ackIn (frameOf s i failed h payload store .rows) ≡ ackIn s
 frame-ack = Ack.frame-ack
 
 pub none-ack : (s : List (List ℕ)) (store out report : List ℕ) → (fits s store out report && dueIn (groupAt s) (portsIn (groupAt s)) s) ≡ false
-    → ackIn (fetchRows s store out report) ≡ ackIn s
+    → ackIn (fetchOf s store out report .rows) ≡ ackIn s
 none-ack = Ack.none-ack
 
 -- after a report of any mark it is `ackOf` of the ports that the report saw: it turns over exactly where `turns` says so of their words and numbers and those of the report before
 pub report-ack : (s : List (List ℕ)) (store out report : List ℕ) → Given s store out report
-    → ackIn (fetchRows s store out report) ≡ ackOf (reportPorts s store) (portsIn (groupAt s)) (ackIn s)
+    → ackIn (fetchOf s store out report .rows) ≡ ackOf (reportPorts s store) (portsIn (groupAt s)) (ackIn s)
 report-ack = Ack.report-ack
 
 -- each of them by its own records as the epoch has passed
@@ -254,7 +254,7 @@ pub report-port : (s : List (List ℕ)) (store : List ℕ) (i : ℕ) → i < por
 report-port = Ack.report-port
 
 pub report-turns : (s : List (List ℕ)) (store out report : List ℕ) → Given s store out report → ackIn s ≤ 1
-    → (ackIn (fetchRows s store out report) ≡ ackIn s) ⊎ (ackIn (fetchRows s store out report) ≡ 1 - ackIn s)
+    → (ackIn (fetchOf s store out report .rows) ≡ ackIn s) ⊎ (ackIn (fetchOf s store out report .rows) ≡ 1 - ackIn s)
 report-turns = Ack.report-turns
 
 -- 'Only the reply changes' (02, 2026-03): two receivers started alike but for their times, whatever stood in their rows, give the same for ever at the same calls.
@@ -282,16 +282,16 @@ times-refused = Times.times-refused
 
 -- The timers of 2026-03 count reports: no frame, whatever follows from it, and no fetch with none due changes a port's state, its number, its times or its counter.
 
-pub frame-standing : (port : ℕ) (s : List (List ℕ)) (i : ℕ) (failed : Bool) (h : ℕ) (payload store : List ℕ) → standingIn (frameRows s i failed h payload store) port ≡ standingIn s port
+pub frame-standing : (port : ℕ) (s : List (List ℕ)) (i : ℕ) (failed : Bool) (h : ℕ) (payload store : List ℕ) → standingIn (frameOf s i failed h payload store .rows) port ≡ standingIn s port
 frame-standing = Between.frame-standing
 
 pub none-standing : (port : ℕ) (s : List (List ℕ)) (store out report : List ℕ) → (fits s store out report && dueIn (groupAt s) (portsIn (groupAt s)) s) ≡ false
-    → standingIn (fetchRows s store out report) port ≡ standingIn s port
+    → standingIn (fetchOf s store out report .rows) port ≡ standingIn s port
 none-standing = Between.none-standing
 
 -- a report leaves what it works out of them, and the times as they are
 pub report-standing : (port : ℕ) (s : List (List ℕ)) (store out report : List ℕ) → Given s store out report → port < portsIn (groupAt s)
-    → standingIn (fetchRows s store out report) port
+    → standingIn (fetchOf s store out report .rows) port
     ≡ (let left = getD (standingsAfter s store) port noStanding in left .state ∷ left .number ∷ (memberAt s port .«hold_off») ∷ (memberAt s port .restore) ∷ left .elapsed ∷ [])
 report-standing = Between.report-standing
 
@@ -303,8 +303,8 @@ pub fail-exactly : (kind count P W : ℕ) (hold restore : List ℕ) (rows : List
     → (let x = receiverRun (startedWith kind count P W hold restore rows store) calls in
     let saw = reportPorts (x .rows) (x .store) ∷ sawOf (startedWith kind count P W hold restore rows store) calls [] in
     (out report : List ℕ) → Given (x .rows) (x .store) out report → (i : ℕ) → i < count → memberAt (x .rows) i .state ≡ okState
-    → (memberAt (fetchRows (x .rows) (x .store) out report) i .state ≡ failState → InARow (Unclaimed count i) (suc (getD hold i 0)) saw)
-    × (InARow (Unclaimed count i) (suc (getD hold i 0)) saw → memberAt (fetchRows (x .rows) (x .store) out report) i .state ≡ failState))
+    → (memberAt (fetchOf (x .rows) (x .store) out report .rows) i .state ≡ failState → InARow (Unclaimed count i) (suc (getD hold i 0)) saw)
+    × (InARow (Unclaimed count i) (suc (getD hold i 0)) saw → memberAt (fetchOf (x .rows) (x .store) out report .rows) i .state ≡ failState))
 fail-exactly = Waits.fail-exactly
 
 -- until then it is OK under the number that it had
@@ -312,9 +312,9 @@ pub number-kept : (kind count P W : ℕ) (hold restore : List ℕ) (rows : List 
     → (calls : List ReceiverCall)
     → (let x = receiverRun (startedWith kind count P W hold restore rows store) calls in
     (out report : List ℕ) → Given (x .rows) (x .store) out report → (i : ℕ) → i < count → memberAt (x .rows) i .state ≡ okState
-    → Unclaimed count i (reportPorts (x .rows) (x .store)) → memberAt (fetchRows (x .rows) (x .store) out report) i .state ≢ failState
-    → (memberAt (fetchRows (x .rows) (x .store) out report) i .state ≡ okState)
-    × (memberAt (fetchRows (x .rows) (x .store) out report) i .«state_number» ≡ memberAt (x .rows) i .«state_number»))
+    → Unclaimed count i (reportPorts (x .rows) (x .store)) → memberAt (fetchOf (x .rows) (x .store) out report .rows) i .state ≢ failState
+    → (memberAt (fetchOf (x .rows) (x .store) out report .rows) i .state ≡ okState)
+    × (memberAt (fetchOf (x .rows) (x .store) out report .rows) i .«state_number» ≡ memberAt (x .rows) i .«state_number»))
 number-kept = Waits.number-kept
 
 -- 'A FAIL port goes OK only when its claim has stood for the wait-to-restore': a report leaves OK of a FAIL port exactly if it is the last of r + 1 in a row that saw the port with its claim, r being its wait-to-restore
@@ -323,8 +323,8 @@ pub ok-exactly : (kind count P W : ℕ) (hold restore : List ℕ) (rows : List (
     → (let x = receiverRun (startedWith kind count P W hold restore rows store) calls in
     let saw = reportPorts (x .rows) (x .store) ∷ sawOf (startedWith kind count P W hold restore rows store) calls [] in
     (out report : List ℕ) → Given (x .rows) (x .store) out report → (i : ℕ) → i < count → memberAt (x .rows) i .state ≡ failState
-    → (memberAt (fetchRows (x .rows) (x .store) out report) i .state ≡ okState → InARow (Claimant count i) (suc (getD restore i 0)) saw)
-    × (InARow (Claimant count i) (suc (getD restore i 0)) saw → memberAt (fetchRows (x .rows) (x .store) out report) i .state ≡ okState))
+    → (memberAt (fetchOf (x .rows) (x .store) out report .rows) i .state ≡ okState → InARow (Claimant count i) (suc (getD restore i 0)) saw)
+    × (InARow (Claimant count i) (suc (getD restore i 0)) saw → memberAt (fetchOf (x .rows) (x .store) out report .rows) i .state ≡ okState))
 ok-exactly = Waits.ok-exactly
 
 -- 'Zero and zero is today's behaviour': from a start with empty lists or zeros every report leaves the states that 01's rule gives of the ports that it saw, each under its port's number
@@ -332,8 +332,8 @@ pub today : (kind count P W : ℕ) (hold restore : List ℕ) (rows : List (List 
     → (calls : List ReceiverCall) → Zeros hold → Zeros restore
     → (let x = receiverRun (startedWith kind count P W hold restore rows store) calls in
     (out report : List ℕ) → Given (x .rows) (x .store) out report → (i : ℕ) → i < count
-    → (memberAt (fetchRows (x .rows) (x .store) out report) i .state ≡ getD (statesOf (reportPorts (x .rows) (x .store)) count) i idleState)
-    × (memberAt (fetchRows (x .rows) (x .store) out report) i .«state_number» ≡ R.portAt (reportPorts (x .rows) (x .store)) i .number))
+    → (memberAt (fetchOf (x .rows) (x .store) out report .rows) i .state ≡ getD (statesOf (reportPorts (x .rows) (x .store)) count) i idleState)
+    × (memberAt (fetchOf (x .rows) (x .store) out report .rows) i .«state_number» ≡ R.portAt (reportPorts (x .rows) (x .store)) i .number))
 today = Waits.today
 
 -- Fixed groups (request 2026-12), on every state: a due report is sure exactly where every port has a whole good ruling packet and brought its frames, and the numbers are 0 to X-1, X being the number of ports. Otherwise it is held.
@@ -360,7 +360,7 @@ fixed-order = Fixed.fixed-order
 
 -- and those bytes, in one: sixteen group frames of all X ports in the order of the numbers that their ruling packets carry, and the output beyond them as it was
 pub fixed-bytes : (s : List (List ℕ)) → groupAt s .kind ≡ fixedKind → dueIn (groupAt s) (portsIn (groupAt s)) s ≡ true → (store out report : List ℕ) → fits s store out report ≡ true
-    → reportIfDue (groupAt s) (portsIn (groupAt s)) s .mark ≡ SURE → ByNumber s store out (fetchOut s store out report)
+    → reportIfDue (groupAt s) (portsIn (groupAt s)) s .mark ≡ SURE → ByNumber s store out (fetchOf s store out report .out)
 fixed-bytes = Fixed.fixed-bytes
 
 -- a whole ruling packet with another word is refused, so its epoch is held (held-report): a stream with LCAS is never read
@@ -413,7 +413,7 @@ heard-epoch = Back.heard-epoch
 pub heard-reported : (kind count P W : ℕ) (hold restore : List ℕ) (rows : List (List ℕ)) (store : List ℕ) → startAsAnswer kind count P W (length store) hold restore (length rows) ≡ 0 → (calls : List ReceiverCall)
     → (let x = receiverRun (startedWith kind count P W hold restore rows store) calls in
     (out report : List ℕ) → Given (x .rows) (x .store) out report
-    → rulingEpoch (groupAt (fetchRows (x .rows) (x .store) out report)) ≡ reportIfDue (groupAt (x .rows)) (portsIn (groupAt (x .rows))) (x .rows) .epoch)
+    → rulingEpoch (groupAt (fetchOf (x .rows) (x .store) out report .rows)) ≡ reportIfDue (groupAt (x .rows)) (portsIn (groupAt (x .rows))) (x .rows) .epoch)
 heard-reported = Back.heard-reported
 
 -- So over all calls, also across a stop: after each report nothing is heard, or what a packet of the report's epoch says.

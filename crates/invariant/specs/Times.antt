@@ -3,12 +3,12 @@ use mathlib.Core.Path.{_≡_}
 use mathlib.Core.Logic.{_≢_}
 use mathlib.Core.List.{List, [], _∷_}
 use Prim.Native.Nat.{ℕ}
-use lib.ListN.{getD, length}
+use lib.ListN.{getD}
 use Rattle.ground.specs.Types.{Bytes, Rows}
 use Rattle.judge.specs.Seen.{sizeOf}
 use Rattle.phases.specs.Sizes.{portsIn}
-use Rattle.receiver.specs.Fetch.{fetchAnswer, fetchOut, fetchRecord}
-use Rattle.receiver.specs.Frame.{frameAnswer, frameStore}
+use Rattle.receiver.specs.Fetch.{fetchOf}
+use Rattle.receiver.specs.Frame.{frameOf}
 use Rattle.receiver.specs.Shown.{portsAnswer, portsOut, replyAnswer, replyOut}
 use Rattle.reply.specs.declared.waiting.Standing.{Standing}
 use Rattle.reply.specs.Waiting.{standingsOf}
@@ -28,17 +28,17 @@ pub record Outcome : Type 0 where
 abbrev pub outcomeOf : Receiver → ReceiverCall → Outcome
 outcomeOf x (Frame port failed h payload) =
     record {
-      answer = frameAnswer (x .rows) port failed h (length payload) (length (x .store));
-      store = frameStore (x .rows) port failed h payload (x .store);
+      answer = frameOf (x .rows) port failed h payload (x .store) .answer;
+      store = frameOf (x .rows) port failed h payload (x .store) .store;
       out = [];
       report = [];
     }
 outcomeOf x (Fetch out report) =
     record {
-      answer = fetchAnswer (x .rows) (x .store) out report;
+      answer = fetchOf (x .rows) (x .store) out report .answer;
       store = x .store;
-      out = fetchOut (x .rows) (x .store) out report;
-      report = fetchRecord (x .rows) (x .store) out report;
+      out = fetchOf (x .rows) (x .store) out report .out;
+      report = fetchOf (x .rows) (x .store) out report .report;
     }
 
 -- of each call in turn

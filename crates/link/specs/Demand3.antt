@@ -8,7 +8,7 @@ use Prim.Native.Nat.{ℕ, suc, _+_, _-_, _*_, _/_, _≤_, _<_}
 use lib.ListN.{getD, length}
 use Rattle.ground.specs.Table.{tabulate}
 use Rattle.judge.specs.Verdict.{SURE}
-use Rattle.receiver.specs.Fetch.{fetchAnswer}
+use Rattle.receiver.specs.Fetch.{fetchOf}
 use Rattle.receiver.specs.Starting.{listFits, timesWithin}
 use Rattle.rows.specs.Rows.{rowsFor}
 use Rattle.link.specs.Link.{Alike, AssumedOver, Link, SameIn, epochFrames, expected, roadOf}
@@ -78,7 +78,7 @@ pub record Started (k : Link) (m : Moment) : Type 0 where
 
 -- a fetch is answered 0 and says that none is due
 abbrev pub NoneDue : Link → Moment → Type 0
-NoneDue k m = (fetchAnswer (m .rows) (m .store) (outputAt (roadOf k) m) (lentAt (roadOf k) m) ≡ 0) × (getD (recordAt (roadOf k) m) 0 0 ≡ 0)
+NoneDue k m = (fetchOf (m .rows) (m .store) (outputAt (roadOf k) m) (lentAt (roadOf k) m) .answer ≡ 0) × (getD (recordAt (roadOf k) m) 0 0 ≡ 0)
 
 -- the m-th report of a moment, counted from 0
 abbrev pub noReport : Told

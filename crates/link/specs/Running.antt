@@ -5,8 +5,8 @@ use Prim.Native.Nat.{ℕ, zero, suc, _+_, _-_, _*_}
 use lib.ListN.{drop, getD, length, take}
 use Rattle.ground.specs.Plain.{if_then_else_, _==_, _≤?_}
 use Rattle.ground.specs.Types.{Bytes, Rows}
-use Rattle.receiver.specs.Fetch.{fetchOut, fetchRecord, fetchRows}
-use Rattle.receiver.specs.Frame.{frameAnswer, frameRows, frameStore}
+use Rattle.receiver.specs.Fetch.{fetchOf}
+use Rattle.receiver.specs.Frame.{frameOf}
 use Rattle.receiver.specs.Starting.{startAsRows}
 use Rattle.rows.specs.Group.{groupAt}
 use Rattle.link.specs.Road.{Road}
@@ -38,9 +38,9 @@ module _ (r : Road) where
   unfoldable pub framed : (port x : ℕ) (m : Moment) → Moment
   framed p x m =
       record {
-        rows = frameRows (m .rows) p false (r .h4 p x) (r .bytes p x) (m .store);
-        store = frameStore (m .rows) p false (r .h4 p x) (r .bytes p x) (m .store);
-        answers = m .answers ++ (frameAnswer (m .rows) p false (r .h4 p x) (length (r .bytes p x)) (length (m .store)) ∷ []);
+        rows = frameOf (m .rows) p false (r .h4 p x) (r .bytes p x) (m .store) .rows;
+        store = frameOf (m .rows) p false (r .h4 p x) (r .bytes p x) (m .store) .store;
+        answers = m .answers ++ (frameOf (m .rows) p false (r .h4 p x) (r .bytes p x) (m .store) .answer ∷ []);
         told = m .told;
       }
 
@@ -53,7 +53,7 @@ module _ (r : Road) where
 
   -- the record that it writes
   abbrev pub recordAt : Moment → List ℕ
-  recordAt m = fetchRecord (m .rows) (m .store) (outputAt m) (lentAt m)
+  recordAt m = fetchOf (m .rows) (m .store) (outputAt m) (lentAt m) .report
 
   -- how many bytes a record says
   abbrev pub bytesIn : List ℕ → ℕ
@@ -66,10 +66,10 @@ module _ (r : Road) where
   unfoldable pub fetched : Moment → Moment
   fetched m =
       record {
-        rows = fetchRows (m .rows) (m .store) (outputAt m) (lentAt m);
+        rows = fetchOf (m .rows) (m .store) (outputAt m) (lentAt m) .rows;
         store = m .store;
         answers = m .answers;
-        told = m .told ++ (toldBy (recordAt m) (fetchOut (m .rows) (m .store) (outputAt m) (lentAt m)) ∷ []);
+        told = m .told ++ (toldBy (recordAt m) (fetchOf (m .rows) (m .store) (outputAt m) (lentAt m) .out) ∷ []);
       }
 
   -- 'reports fetched after each frame until none is due': at most k of them (the theorem says that none is due then)

@@ -13,7 +13,8 @@ use Rattle.packet.specs.Laws.Distances.{place-back}
 use Rattle.packet.specs.Symbols.{entryAt, entryWith}
 use Rattle.packet.specs.Theorems.Symbols.{with-parts}
 use Rattle.phases.specs.Sizes.{portsIn}
-use Rattle.receiver.specs.Frame.{decidedAnswer, decidedRows, decidedStore, frameAnswer, frameRefusal, frameRows, frameStore, gatheredBy, marksBy, ownTag, portRows, refusalBy, settledBy, steadyRows, storeBy, takenIn, takenRows, takenStore}
+use Rattle.receiver.specs.Frame.{decidedFrame, frameOf, frameRefusal, gatheredBy, marksBy, ownTag, portRows, refusalBy, settledBy, steadyRows, storeBy, takenFrame}
+use Rattle.receiver.specs.Laws.Outcomes.{step-answer}
 use Rattle.receiver.specs.Lengths.{frameFits}
 use Rattle.rows.specs.declared.group.Group.{Group}
 use Rattle.rows.specs.declared.step.Step.{Step}
@@ -32,16 +33,11 @@ use Rattle.step.specs.Steady.{midEpoch, steady, steadyTaken}
 use Rattle.store.specs.Frames.{placeIn, storedAt}
 use Rattle.store.specs.Marks.{cutFrom, markedAt}
 
-pub taken-rows : (g : Group) (n : ℕ) (s : List (List ℕ)) (i : ℕ) (t : Taken) (h : ℕ) (payload store : List ℕ) (ported settled : List (List ℕ)) (kept : List ℕ)
+pub taken-frame : (g : Group) (n : ℕ) (s : List (List ℕ)) (i : ℕ) (t : Taken) (h : ℕ) (payload store : List ℕ) (ported settled : List (List ℕ)) (kept : List ℕ)
     → (t .answer ≡ 11 → ⊥) → ported ≡ portRows (g .kind) s i t h → kept ≡ storeBy g i t h payload store → settled ≡ settledBy (t .settles) n kept ported
-    → settled ≡ takenRows g n s i t h payload store
-unfolding takenRows
-taken-rows g n s i t h payload store ported settled kept ne ep ek es = rw (ne-eqb (t .answer) 11 ne, ← ep, ← ek) es
-
-pub taken-store : (g : Group) (i : ℕ) (t : Taken) (h : ℕ) (payload store kept : List ℕ)
-    → (t .answer ≡ 11 → ⊥) → kept ≡ storeBy g i t h payload store → kept ≡ takenStore g i t h payload store
-unfolding takenStore
-taken-store g i t h payload store kept ne ek = rw (ne-eqb (t .answer) 11 ne) ek
+    → (settled ≡ takenFrame g n s i t h payload store .rows) × (kept ≡ takenFrame g n s i t h payload store .store)
+unfolding takenFrame
+taken-frame g n s i t h payload store ported settled kept ne ep ek es = rw (ne-eqb (t .answer) 11 ne, ← ep, ← ek) (es, refl)
 
 -- a frame that is not refused comes from a port of the group
 pub refused-below : (g : Group) (n i rows payload store : ℕ) → refusalBy g n i rows payload store ≡ 0 → i < n
@@ -58,25 +54,25 @@ module _ (s : List (List ℕ)) (i : ℕ) (failed : Bool) (h : ℕ) (payload stor
   same-refusal eg en er = er ∙ rw (en, eg) refl
 
   pub frame-refused : g ≡ groupAt s → n ≡ portsIn g → r ≡ refusalBy g n i (length s) (length payload) (length store) → (r ≡ 0 → ⊥)
-      → (r ≡ frameAnswer s i failed h (length payload) (length store)) × (s ≡ frameRows s i failed h payload store) × (store ≡ frameStore s i failed h payload store)
-  unfolding frameAnswer frameRows frameStore
+      → (r ≡ frameOf s i failed h payload store .answer) × (s ≡ frameOf s i failed h payload store .rows) × (store ≡ frameOf s i failed h payload store .store)
+  unfolding frameOf
   frame-refused eg en er ne = rw (← same-refusal eg en er, ne-eqb r 0 ne) (refl, refl, refl)
 
   pub frame-decided : (a : ℕ) (rows : List (List ℕ)) (kept : List ℕ)
       → g ≡ groupAt s → n ≡ portsIn g → r ≡ refusalBy g n i (length s) (length payload) (length store) → r ≡ 0
-      → a ≡ decidedAnswer s i failed h → rows ≡ decidedRows s i failed h payload store → kept ≡ decidedStore s i failed h payload store
-      → (a ≡ frameAnswer s i failed h (length payload) (length store)) × (rows ≡ frameRows s i failed h payload store) × (kept ≡ frameStore s i failed h payload store)
-  unfolding frameAnswer frameRows frameStore
+      → a ≡ decidedFrame s i failed h payload store .answer → rows ≡ decidedFrame s i failed h payload store .rows → kept ≡ decidedFrame s i failed h payload store .store
+      → (a ≡ frameOf s i failed h payload store .answer) × (rows ≡ frameOf s i failed h payload store .rows) × (kept ≡ frameOf s i failed h payload store .store)
+  unfolding frameOf
   frame-decided a rows kept eg en er z ea erows ek = rw (← same-refusal eg en er, eq-eqb r 0 z) (ea, erows, ek)
 
 module _ (s : List (List ℕ)) (i : ℕ) (failed : Bool) (h : ℕ) (payload store : List ℕ) (g : Group) (step : Step) (eg : g ≡ groupAt s) (es : step ≡ stepAt s i) where
   pub decided-by : (n : ℕ) (packets : List (List ℕ)) (odd : Bool) (t : Taken) (rows : List (List ℕ)) (kept : List ℕ) → n ≡ portsIn g → packets ≡ packetsAt s i
       → odd ≡ endsOdd (g .kind) (getD packets 0 []) (step .next) h → t ≡ takenOf g step failed odd h
-      → rows ≡ takenRows g n s i t h payload store → kept ≡ takenStore g i t h payload store
-      → (t .answer ≡ takenIn s i failed h .answer)
-      × (rows ≡ takenRows (groupAt s) (portsIn (groupAt s)) s i (takenIn s i failed h) h payload store)
-      × (kept ≡ takenStore (groupAt s) i (takenIn s i failed h) h payload store)
-  decided-by n packets odd t rows kept en ep eo et erows ek = rw (← eg, ← en, ← es, ← ep, ← eo, ← et) (refl, erows, ek)
+      → rows ≡ takenFrame g n s i t h payload store .rows → kept ≡ takenFrame g n s i t h payload store .store
+      → (t .answer ≡ decidedFrame s i failed h payload store .answer)
+      × (rows ≡ decidedFrame s i failed h payload store .rows)
+      × (kept ≡ decidedFrame s i failed h payload store .store)
+  decided-by n packets odd t rows kept en ep eo et erows ek = rw (← eg, ← en, ← es, ← ep, ← eo, ← et) (sym (step-answer g n s i t h payload store), erows, ek)
 
 module _ (s : List (List ℕ)) (i : ℕ) where
   pub packets-after-step : (q : Step) → packetsAt (putStep s i q) i ≡ packetsAt s i
@@ -162,19 +158,19 @@ module _ (s : List (List ℕ)) (i h : ℕ) (g : Group) where
 module _ (s : List (List ℕ)) (i : ℕ) (failed : Bool) (h : ℕ) (payload store : List ℕ) (g : Group) (eg : g ≡ groupAt s) where
   steady-arrives : (rows : List (List ℕ)) (kept : List ℕ) → eqb (g .kind) vc12Kind ≡ false → steady g (stepAt s i) failed h ≡ true → midEpoch g (distanceIn g (stepAt s i .next)) ≡ true
       → rows ≡ steadyRows (g .kind) (stepAt s i .next) h i s → kept ≡ storedAt store (placeIn g i (distanceIn g (stepAt s i .next))) payload h
-      → (0 ≡ takenIn s i failed h .answer)
-      × (rows ≡ takenRows (groupAt s) (portsIn (groupAt s)) s i (takenIn s i failed h) h payload store)
-      × (kept ≡ takenStore (groupAt s) i (takenIn s i failed h) h payload store)
-  unfolding takenRows takenStore storeBy settledBy steadyTaken
+      → (0 ≡ decidedFrame s i failed h payload store .answer)
+      × (rows ≡ decidedFrame s i failed h payload store .rows)
+      × (kept ≡ decidedFrame s i failed h payload store .store)
+  unfolding takenFrame storeBy settledBy steadyTaken
   steady-arrives rows kept clock st w er ek =
       rw (← eg, steady-taken g (stepAt s i) failed (endsOdd (g .kind) (getD (packetsAt s i) 0 []) (stepAt s i .next) h) h clock st w (mid-even g (stepAt s i) (getD (packetsAt s i) 0 []) h w))
       (refl, er ∙ sym (steady-rows s i h g w), ek)
 
   pub arrive-steady : (step : Step) (at : ℕ) (rows : List (List ℕ)) (kept : List ℕ) → eqb (g .kind) vc12Kind ≡ false → step ≡ stepAt s i → steady g step failed h ≡ true → at ≡ distanceIn g (step .next) → midEpoch g at ≡ true
       → rows ≡ steadyRows (g .kind) (step .next) h i s → kept ≡ storedAt store (placeIn g i at) payload h
-      → (0 ≡ takenIn s i failed h .answer)
-      × (rows ≡ takenRows (groupAt s) (portsIn (groupAt s)) s i (takenIn s i failed h) h payload store)
-      × (kept ≡ takenStore (groupAt s) i (takenIn s i failed h) h payload store)
+      → (0 ≡ decidedFrame s i failed h payload store .answer)
+      × (rows ≡ decidedFrame s i failed h payload store .rows)
+      × (kept ≡ decidedFrame s i failed h payload store .store)
   arrive-steady step at rows kept clock es st ea w er ek =
       steady-arrives rows kept clock (subst (λ q. steady g q failed h ≡ true) es st) (subst (λ q. midEpoch g (distanceIn g (q .next)) ≡ true) es (subst (λ d. midEpoch g d ≡ true) ea w))
       (subst (λ q. rows ≡ steadyRows (g .kind) (q .next) h i s) es er)

@@ -13,7 +13,7 @@ use Rattle.judge.specs.Theorems.Cause.{mark-by-cause}
 use Rattle.judge.specs.Verdict.{judgeOf}
 use Rattle.phases.specs.Sizes.{portsIn}
 use Rattle.receiver.specs.declared.report.Report.{Report}
-use Rattle.receiver.specs.Fetch.{dueIn, fetchAnswer, fetchOut, fetchRecord, fetchRows, fits, outIfDue, reportIfDue, rowsIfDue, noneDue, recordOf}
+use Rattle.receiver.specs.Fetch.{dueIn, fetchOf, fits, outIfDue, reportIfDue, rowsIfDue, noneDue, recordOf}
 use Rattle.receiver.specs.Lengths.{fetchFits}
 use Rattle.receiver.specs.Report.{outputBy, outputOf, reportBy, reportOf, reportedOf, seenAll}
 use Rattle.rows.specs.declared.group.Group.{Group}
@@ -48,12 +48,12 @@ module _ (s : List (List ℕ)) (store out lent : List ℕ) (g : Group) (n : ℕ)
   same-fits = ef ∙ rw (en, eg) refl
 
   pub fetch-unfit : fit ≡ false
-      → (9 ≡ fetchAnswer s store out lent) × (s ≡ fetchRows s store out lent) × (out ≡ fetchOut s store out lent) × (lent ≡ fetchRecord s store out lent)
-  unfolding fetchAnswer fetchRows fetchOut fetchRecord
+      → (9 ≡ fetchOf s store out lent .answer) × (s ≡ fetchOf s store out lent .rows) × (out ≡ fetchOf s store out lent .out) × (lent ≡ fetchOf s store out lent .report)
+  unfolding fetchOf
   fetch-unfit e = rw (← same-fits, e) (refl, refl, refl, refl)
 
   pub fetch-fit : (report : Report) (rows : List (List ℕ)) (left told : List ℕ) → fit ≡ true
       → report ≡ reportIfDue g n s → rows ≡ rowsIfDue g n s store → left ≡ outIfDue g n s store out → told ≡ recordOf report
-      → (0 ≡ fetchAnswer s store out lent) × (rows ≡ fetchRows s store out lent) × (left ≡ fetchOut s store out lent) × (told ≡ fetchRecord s store out lent)
-  unfolding fetchAnswer fetchRows fetchOut fetchRecord
+      → (0 ≡ fetchOf s store out lent .answer) × (rows ≡ fetchOf s store out lent .rows) × (left ≡ fetchOf s store out lent .out) × (told ≡ fetchOf s store out lent .report)
+  unfolding fetchOf
   fetch-fit report rows left told e er es el et = rw (← same-fits, e, ← eg, ← en, ← er) (refl, es, el, et)

@@ -45,18 +45,24 @@ rowsIfDue g n s store = if dueIn g n s then reportedOf g store n s else s
 unfoldable pub outIfDue : (g : Group) (ports : ℕ) (s : Rows) (store out : Bytes) → Bytes
 outIfDue g n s store out = if dueIn g n s then outputOf g (seenAll g s n) n store out else out
 
+-- what a fetch leaves
+pub record FetchOutcome : Type 0 where
+  pub answer : ℕ
+  pub rows : Rows
+  pub out : Bytes
+  pub report : Bytes
+
 module _ (s : List (List ℕ)) (store out report : List ℕ) where
   unfoldable pub fits : Bool
   fits = fetchFits (groupAt s) (portsIn (groupAt s)) (length s) (length store) (length out) (length report)
 
-  unfoldable pub fetchAnswer : ℕ
-  fetchAnswer = if fits then 0 else 9
-
-  unfoldable pub fetchRows : Rows
-  fetchRows = if fits then rowsIfDue (groupAt s) (portsIn (groupAt s)) s store else s
-
-  unfoldable pub fetchOut : Bytes
-  fetchOut = if fits then outIfDue (groupAt s) (portsIn (groupAt s)) s store out else out
-
-  unfoldable pub fetchRecord : List ℕ
-  fetchRecord = if fits then recordOf (reportIfDue (groupAt s) (portsIn (groupAt s)) s) else report
+  unfoldable pub fetchOf : FetchOutcome
+  fetchOf =
+      if fits
+      then (record {
+        answer = 0;
+        rows = rowsIfDue (groupAt s) (portsIn (groupAt s)) s store;
+        out = outIfDue (groupAt s) (portsIn (groupAt s)) s store out;
+        report = recordOf (reportIfDue (groupAt s) (portsIn (groupAt s)) s);
+      })
+      else (record { answer = 9; rows = s; out = out; report = report })

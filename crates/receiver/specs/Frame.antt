@@ -50,14 +50,23 @@ storeBy g i t h payload store = if t .kept then storedAt store (placeIn g i (t .
 unfoldable pub settledBy : (settles : Bool) (ports : ℕ) (store : Bytes) (s : Rows) → Rows
 settledBy settles n store s = if settles then settledOf n store s else s
 
--- A frame in step outside the window leaves all as given.
-unfoldable pub takenRows :
-    (g : Group) (ports : ℕ) (s : Rows) (port : ℕ) (t : Taken) (h4 : ℕ) (payload store : Bytes) → Rows
-takenRows g n s i t h payload store =
-    if t .answer == 11 then s else settledBy (t .settles) n (storeBy g i t h payload store) (portRows (g .kind) s i t h)
+-- what a call with a frame leaves
+pub record FrameOutcome : Type 0 where
+  pub answer : ℕ
+  pub rows : Rows
+  pub store : Bytes
 
-unfoldable pub takenStore : (g : Group) (port : ℕ) (t : Taken) (h4 : ℕ) (payload store : Bytes) → Bytes
-takenStore g i t h payload store = if t .answer == 11 then store else storeBy g i t h payload store
+-- A frame in step outside the window leaves all as given.
+unfoldable pub takenFrame :
+    (g : Group) (ports : ℕ) (s : Rows) (port : ℕ) (t : Taken) (h4 : ℕ) (payload store : Bytes) → FrameOutcome
+takenFrame g n s i t h payload store =
+    if t .answer == 11
+    then (record { answer = t .answer; rows = s; store = store })
+    else (record {
+      answer = t .answer;
+      rows = settledBy (t .settles) n (storeBy g i t h payload store) (portRows (g .kind) s i t h);
+      store = storeBy g i t h payload store;
+    })
 
 -- whether the frame ends an odd packet, by the packet being gathered and the tag to come
 abbrev pub oddIn : (s : Rows) (port h4 : ℕ) → Bool
@@ -67,14 +76,8 @@ oddIn s i h = endsOdd (groupAt s .kind) (getD (packetsAt s i) 0 []) (stepAt s i 
 abbrev pub takenIn : (s : Rows) (port : ℕ) (failed : Bool) (h4 : ℕ) → Taken
 takenIn s i failed h = takenOf (groupAt s) (stepAt s i) failed (oddIn s i h) h
 
-abbrev pub decidedAnswer : (s : Rows) (port : ℕ) (failed : Bool) (h4 : ℕ) → ℕ
-decidedAnswer s i failed h = takenIn s i failed h .answer
-
-abbrev pub decidedRows : (s : Rows) (port : ℕ) (failed : Bool) (h4 : ℕ) (payload store : Bytes) → Rows
-decidedRows s i failed h payload store = takenRows (groupAt s) (portsIn (groupAt s)) s i (takenIn s i failed h) h payload store
-
-abbrev pub decidedStore : (s : Rows) (port : ℕ) (failed : Bool) (h4 : ℕ) (payload store : Bytes) → Bytes
-decidedStore s i failed h payload store = takenStore (groupAt s) i (takenIn s i failed h) h payload store
+abbrev pub decidedFrame : (s : Rows) (port : ℕ) (failed : Bool) (h4 : ℕ) (payload store : Bytes) → FrameOutcome
+decidedFrame s i failed h payload store = takenFrame (groupAt s) (portsIn (groupAt s)) s i (takenIn s i failed h) h payload store
 
 -- 1: 'port not below the group's count'; 9: 'payload, store .. length wrong'
 unfoldable pub refusalBy : (g : Group) (ports port rows payload store : ℕ) → ℕ
@@ -83,16 +86,9 @@ refusalBy g n i rows payload store = if i <? n then (if frameFits g n rows paylo
 abbrev pub frameRefusal : (s : Rows) (port payload store : ℕ) → ℕ
 frameRefusal s i payload store = refusalBy (groupAt s) (portsIn (groupAt s)) i (length s) payload store
 
-unfoldable pub frameAnswer : (s : Rows) (port : ℕ) (failed : Bool) (h4 payload store : ℕ) → ℕ
-frameAnswer s i failed h payload store =
-    if frameRefusal s i payload store == 0 then takenIn s i failed h .answer else frameRefusal s i payload store
-
-unfoldable pub frameRows : (s : Rows) (port : ℕ) (failed : Bool) (h4 : ℕ) (payload store : Bytes) → Rows
-frameRows s i failed h payload store =
+-- A refusal changes nothing.
+unfoldable pub frameOf : (s : Rows) (port : ℕ) (failed : Bool) (h4 : ℕ) (payload store : Bytes) → FrameOutcome
+frameOf s i failed h payload store =
     if frameRefusal s i (length payload) (length store) == 0
-    then takenRows (groupAt s) (portsIn (groupAt s)) s i (takenIn s i failed h) h payload store
-    else s
-
-unfoldable pub frameStore : (s : Rows) (port : ℕ) (failed : Bool) (h4 : ℕ) (payload store : Bytes) → Bytes
-frameStore s i failed h payload store =
-    if frameRefusal s i (length payload) (length store) == 0 then takenStore (groupAt s) i (takenIn s i failed h) h payload store else store
+    then decidedFrame s i failed h payload store
+    else (record { answer = frameRefusal s i (length payload) (length store); rows = s; store = store })

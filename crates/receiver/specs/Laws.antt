@@ -2,6 +2,7 @@
 pub mod Lengths
 pub mod Sizes
 pub mod Answers
+pub mod Outcomes
 pub mod Fresh
 pub mod Frames
 pub mod Passed

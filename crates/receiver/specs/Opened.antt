@@ -6,8 +6,8 @@ use Rattle.reply.specs.Opened.{replyOpen}
 use Rattle.receiver.specs.Anew.{anewAnswer, anewFits, anewRows, flaggedRows}
 use Rattle.receiver.specs.Behind.{behindAnswer, behindBy, behindIn, behindOut}
 use Rattle.receiver.specs.Cause.{causeAnswer, causeFit, causeIn, causeOut}
-use Rattle.receiver.specs.Fetch.{dueIn, fetchAnswer, fetchOut, fetchRecord, fetchRows, fits, outIfDue, recordOf, reportIfDue, rowsIfDue}
-use Rattle.receiver.specs.Frame.{frameAnswer, frameRows, frameStore, gatheredBy, marksBy, portRows, refusalBy, settledBy, steadyRows, storeBy, takenRows, takenStore}
+use Rattle.receiver.specs.Fetch.{dueIn, fetchOf, fits, outIfDue, recordOf, reportIfDue, rowsIfDue}
+use Rattle.receiver.specs.Frame.{frameOf, gatheredBy, marksBy, portRows, refusalBy, settledBy, steadyRows, storeBy, takenFrame}
 use Rattle.receiver.specs.Heard.{heardAnswer, heardFit, heardOf, heardOut, saidAt}
 use Rattle.receiver.specs.Lengths.{fetchFits, frameFits, outputFor, rowsFit}
 use Rattle.receiver.specs.Report.{frameInto, framesInto, outputBy, outputOf, replyPort, replyPorts, reportBy, reportOf, reportedOf, rulingEpoch, seenAll, seenOf, startsOf, statePut, statesPut, statesWorkedOut, withState}
@@ -17,8 +17,7 @@ use Rattle.receiver.specs.Shown.{portIn, portShown, portsAnswer, portsOu
 use Rattle.receiver.specs.Starting.{freshPort, freshPorts, sizedAnswer, sizedFits, sizedRows, startAsAnswer, startAsRows, startFits, startRight, timesWithin}
 
 unfoldable pub receiverOpen : ℕ
-unfolding phasesOpen judgeOpen replyOpen causeAnswer causeFit causeIn causeOut dueIn fetchAnswer fetchOut fetchRecord fetchRows fits outIfDue recordOf reportIfDue rowsIfDue frameAnswer
-    frameRows frameStore gatheredBy marksBy portRows refusalBy settledBy steadyRows storeBy takenRows takenStore fetchFits frameFits outputFor rowsFit
+unfolding phasesOpen judgeOpen replyOpen causeAnswer causeFit causeIn causeOut dueIn fetchOf fits outIfDue recordOf reportIfDue rowsIfDue frameOf gatheredBy marksBy portRows refusalBy settledBy steadyRows storeBy takenFrame fetchFits frameFits outputFor rowsFit
     frameInto framesInto outputBy outputOf replyPort replyPorts reportBy reportOf reportedOf rulingEpoch seenAll seenOf startsOf statePut statesPut
     statesWorkedOut withState portIn portShown portsAnswer portsOut replyAnswer replyFit replyOf replyOut shownFit freshPort freshPorts sizedAnswer
     sizedFits sizedRows startAsAnswer startAsRows startFits startRight timesWithin flaggedRows anewFits anewAnswer anewRows behindBy behindIn

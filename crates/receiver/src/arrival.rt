@@ -9,8 +9,7 @@ use store::frames;
 use store::marks;
 ghost use mathlib.Core.Path.{_≡_};
 ghost use mathlib.Core.Bool.{true};
-ghost use lib.ListN.{length};
-ghost use Rattle.receiver.specs.Frame.{decidedAnswer, decidedRows, decidedStore, frameAnswer, frameRows, frameStore, gatheredBy, marksBy, portRows, refusalBy, settledBy, steadyRows, storeBy, takenRows, takenStore};
+ghost use Rattle.receiver.specs.Frame.{decidedFrame, frameOf, gatheredBy, marksBy, portRows, refusalBy, settledBy, steadyRows, storeBy, takenFrame};
 ghost use Rattle.phases.specs.Sizes.{portsIn};
 ghost use Rattle.rows.specs.Group.{groupAt};
 ghost use Rattle.rows.specs.Packets.{marksAt, packetsAt, putMarks, putPackets};
@@ -110,8 +109,8 @@ fn take(
     payload: &[u8],
     store: &mut [u8],
 )
-    ensures { λ _. ⌜ (now (state .exit) ≡ takenRows group (portsIn group) (now (state .entry)) port taken h4 (now (payload .entry)) (now (store .entry)))
-        × (now (store .exit) ≡ takenStore group port taken h4 (now (payload .entry)) (now (store .entry))) ⌝ }
+    ensures { λ _. ⌜ (now (state .exit) ≡ takenFrame group (portsIn group) (now (state .entry)) port taken h4 (now (payload .entry)) (now (store .entry)) .rows)
+        × (now (store .exit) ≡ takenFrame group (portsIn group) (now (state .entry)) port taken h4 (now (payload .entry)) (now (store .entry)) .store) ⌝ }
 {
     if taken.answer != answers::OUTSIDE {
         put_port(group.kind, state, port, taken, h4);
@@ -129,9 +128,9 @@ fn decided(
     payload: &[u8],
     store: &mut [u8],
 ) -> u8
-    ensures { λ r. ⌜ (r ≡ decidedAnswer (now (state .entry)) port failed h4)
-        × (now (state .exit) ≡ decidedRows (now (state .entry)) port failed h4 (now (payload .entry)) (now (store .entry)))
-        × (now (store .exit) ≡ decidedStore (now (state .entry)) port failed h4 (now (payload .entry)) (now (store .entry))) ⌝ }
+    ensures { λ r. ⌜ (r ≡ decidedFrame (now (state .entry)) port failed h4 (now (payload .entry)) (now (store .entry)) .answer)
+        × (now (state .exit) ≡ decidedFrame (now (state .entry)) port failed h4 (now (payload .entry)) (now (store .entry)) .rows)
+        × (now (store .exit) ≡ decidedFrame (now (state .entry)) port failed h4 (now (payload .entry)) (now (store .entry)) .store) ⌝ }
 {
     let group = rows::group::get(state);
     let step = rows::step::get(state, port);
@@ -164,9 +163,9 @@ fn arrive(
     store: &mut [u8],
 ) -> u8
     requires { ⌜ group ≡ groupAt (now state) ⌝ }
-    ensures { λ r. ⌜ (r ≡ decidedAnswer (now (state .entry)) port failed h4)
-        × (now (state .exit) ≡ decidedRows (now (state .entry)) port failed h4 (now (payload .entry)) (now (store .entry)))
-        × (now (store .exit) ≡ decidedStore (now (state .entry)) port failed h4 (now (payload .entry)) (now (store .entry))) ⌝ }
+    ensures { λ r. ⌜ (r ≡ decidedFrame (now (state .entry)) port failed h4 (now (payload .entry)) (now (store .entry)) .answer)
+        × (now (state .exit) ≡ decidedFrame (now (state .entry)) port failed h4 (now (payload .entry)) (now (store .entry)) .rows)
+        × (now (store .exit) ≡ decidedFrame (now (state .entry)) port failed h4 (now (payload .entry)) (now (store .entry)) .store) ⌝ }
 {
     if group.kind == kinds::VC12 {
         return decided(state, port, failed, h4, payload, store);
@@ -205,9 +204,9 @@ pub fn frame(
     payload: &[u8],
     store: &mut [u8],
 ) -> u8
-    ensures { λ r. ⌜ (r ≡ frameAnswer (now (state .entry)) port failed h4 (length (now (payload .entry))) (length (now (store .entry))))
-        × (now (state .exit) ≡ frameRows (now (state .entry)) port failed h4 (now (payload .entry)) (now (store .entry)))
-        × (now (store .exit) ≡ frameStore (now (state .entry)) port failed h4 (now (payload .entry)) (now (store .entry))) ⌝ }
+    ensures { λ r. ⌜ (r ≡ frameOf (now (state .entry)) port failed h4 (now (payload .entry)) (now (store .entry)) .answer)
+        × (now (state .exit) ≡ frameOf (now (state .entry)) port failed h4 (now (payload .entry)) (now (store .entry)) .rows)
+        × (now (store .exit) ≡ frameOf (now (state .entry)) port failed h4 (now (payload .entry)) (now (store .entry)) .store) ⌝ }
 {
     let group = rows::group::get(state);
     let ports = phases::ports_in(group);

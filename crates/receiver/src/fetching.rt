@@ -10,7 +10,7 @@ use rows::Group;
 use step::answers;
 ghost use mathlib.Core.Path.{_≡_};
 ghost use lib.ListN.{length};
-ghost use Rattle.receiver.specs.Fetch.{dueIn, fetchAnswer, fetchOut, fetchRecord, fetchRows, outIfDue, reportIfDue, rowsIfDue, noneDue, recordOf};
+ghost use Rattle.receiver.specs.Fetch.{dueIn, fetchOf, outIfDue, reportIfDue, rowsIfDue, noneDue, recordOf};
 ghost use Rattle.receiver.specs.Report.{outputOf, reportOf, reportedOf, seenAll};
 
 // A host fetches after every frame: the two flags come first, and the ports end at the first one that still owes a frame.
@@ -108,10 +108,10 @@ fn put_record(given: Report, to: &mut [u8])
 
 // The report of the oldest epoch not yet reported, if it is due: its frames into the output, and what it says into the record.
 pub fn fetch(state: &mut [[u8; 16]], store: &[u8], out: &mut [u8], report: &mut [u8]) -> u8
-    ensures { λ r. ⌜ (r ≡ fetchAnswer (now (state .entry)) (now (store .entry)) (now (out .entry)) (now (report .entry)))
-        × (now (state .exit) ≡ fetchRows (now (state .entry)) (now (store .entry)) (now (out .entry)) (now (report .entry)))
-        × (now (out .exit) ≡ fetchOut (now (state .entry)) (now (store .entry)) (now (out .entry)) (now (report .entry)))
-        × (now (report .exit) ≡ fetchRecord (now (state .entry)) (now (store .entry)) (now (out .entry)) (now (report .entry))) ⌝ }
+    ensures { λ r. ⌜ (r ≡ fetchOf (now (state .entry)) (now (store .entry)) (now (out .entry)) (now (report .entry)) .answer)
+        × (now (state .exit) ≡ fetchOf (now (state .entry)) (now (store .entry)) (now (out .entry)) (now (report .entry)) .rows)
+        × (now (out .exit) ≡ fetchOf (now (state .entry)) (now (store .entry)) (now (out .entry)) (now (report .entry)) .out)
+        × (now (report .exit) ≡ fetchOf (now (state .entry)) (now (store .entry)) (now (out .entry)) (now (report .entry)) .report) ⌝ }
 {
     let group = rows::group::get(state);
     let ports = phases::ports_in(group);

@@ -9,8 +9,8 @@ use Rattle.ground.specs.Types.{Bytes, Rows}
 use Rattle.bytes.specs.Bytes.{indexOf}
 use Rattle.phases.specs.Sizes.{startSized}
 use Rattle.receiver.specs.Cause.{causeOut}
-use Rattle.receiver.specs.Fetch.{fetchOut, fetchRecord, fetchRows}
-use Rattle.receiver.specs.Frame.{frameRows, frameStore}
+use Rattle.receiver.specs.Fetch.{fetchOf}
+use Rattle.receiver.specs.Frame.{frameOf}
 use Rattle.receiver.specs.Starting.{startAsRows, timesWithin}
 use Rattle.recording.specs.Opening.{Opening}
 use Rattle.recording.specs.Opening.{Opening as O}
@@ -173,11 +173,11 @@ payloadAt size place text = bytesIn (slice place (place + size + size) text) (re
 module _ (r : Replay) (port h4 flag : ℕ) (payload : List ℕ) (rows : List (List ℕ)) (store : List ℕ) where
   unfoldable pub framedRows : List (List ℕ)
   framedRows =
-      frameRows (take (rowsFor (r .ports)) rows) port (flag == 1) h4 payload (take (storeOf (r .ports) (r .size) (r .window)) store) ++ drop (rowsFor (r .ports)) rows
+      frameOf (take (rowsFor (r .ports)) rows) port (flag == 1) h4 payload (take (storeOf (r .ports) (r .size) (r .window)) store) .rows ++ drop (rowsFor (r .ports)) rows
 
   unfoldable pub framedStore : Bytes
   framedStore =
-      frameStore (take (rowsFor (r .ports)) rows) port (flag == 1) h4 payload (take (storeOf (r .ports) (r .size) (r .window)) store)
+      frameOf (take (rowsFor (r .ports)) rows) port (flag == 1) h4 payload (take (storeOf (r .ports) (r .size) (r .window)) store) .store
       ++ drop (storeOf (r .ports) (r .size) (r .window)) store
 
 -- reports are fetched then, at most W of them
@@ -244,14 +244,14 @@ blamedIn rows = getD (causeOut rows (0 ∷ 255 ∷ [])) 1 0
 
 module _ (r : Replay) (rows : List (List ℕ)) (store out : List ℕ) where
   unfoldable pub fetchRecordBy : List ℕ
-  fetchRecordBy = fetchRecord (take (rowsFor (r .ports)) rows) (take (storeOf (r .ports) (r .size) (r .window)) store) out (replicate 8 0)
+  fetchRecordBy = fetchOf (take (rowsFor (r .ports)) rows) (take (storeOf (r .ports) (r .size) (r .window)) store) out (replicate 8 0) .report
 
   unfoldable pub fetchRowsBy : List (List ℕ)
   fetchRowsBy =
-      fetchRows (take (rowsFor (r .ports)) rows) (take (storeOf (r .ports) (r .size) (r .window)) store) out (replicate 8 0) ++ drop (rowsFor (r .ports)) rows
+      fetchOf (take (rowsFor (r .ports)) rows) (take (storeOf (r .ports) (r .size) (r .window)) store) out (replicate 8 0) .rows ++ drop (rowsFor (r .ports)) rows
 
   unfoldable pub fetchOutBy : Bytes
-  fetchOutBy = fetchOut (take (rowsFor (r .ports)) rows) (take (storeOf (r .ports) (r .size) (r .window)) store) out (replicate 8 0)
+  fetchOutBy = fetchOf (take (rowsFor (r .ports)) rows) (take (storeOf (r .ports) (r .size) (r .window)) store) out (replicate 8 0) .out
 
   -- none is due where the mark is 0
   abbrev pub isDue : Bool

@@ -5,7 +5,7 @@ ghost use mathlib.Core.Path.{_≡_};
 ghost use mathlib.Core.List.{_++_};
 ghost use Prim.Native.Nat.{_≤_};
 ghost use lib.ListN.{drop, length, take};
-ghost use Rattle.receiver.specs.Fetch.{fetchOut, fetchRecord, fetchRows};
+ghost use Rattle.receiver.specs.Fetch.{fetchOf};
 ghost use Rattle.replaying.specs.Laws.Due.{dueAt, dueOf};
 ghost use Rattle.replaying.specs.Turn.{blamedIn, clearedRows, clearedStore, startedRows, storeIn, timesFit};
 
@@ -70,9 +70,9 @@ pub(crate) fn fetch(
     report: &mut [u8],
 )
     requires { ⌜ (count ≤ length (now rows)) × (bytes ≤ length (now store)) ⌝ }
-    ensures { λ _. ⌜ (now (rows .exit) ≡ fetchRows (take count (now (rows .entry))) (take bytes (now (store .entry))) (now (out .entry)) (now (report .entry)) ++ drop count (now (rows .entry)))
-        × (now (out .exit) ≡ fetchOut (take count (now (rows .entry))) (take bytes (now (store .entry))) (now (out .entry)) (now (report .entry)))
-        × (now (report .exit) ≡ fetchRecord (take count (now (rows .entry))) (take bytes (now (store .entry))) (now (out .entry)) (now (report .entry))) ⌝ }
+    ensures { λ _. ⌜ (now (rows .exit) ≡ fetchOf (take count (now (rows .entry))) (take bytes (now (store .entry))) (now (out .entry)) (now (report .entry)) .rows ++ drop count (now (rows .entry)))
+        × (now (out .exit) ≡ fetchOf (take count (now (rows .entry))) (take bytes (now (store .entry))) (now (out .entry)) (now (report .entry)) .out)
+        × (now (report .exit) ≡ fetchOf (take count (now (rows .entry))) (take bytes (now (store .entry))) (now (out .entry)) (now (report .entry)) .report) ⌝ }
 {
     receiver::fetch(&mut rows[..count], &store[..bytes], out, report);
 }

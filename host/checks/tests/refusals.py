@@ -11,6 +11,11 @@ pub fn write(fields: Fields, h4: &mut [u8]) -> Answer
 {
     x
 }
+pub fn frame(rows: &mut [u8], port: u32) -> u8
+    ensures { λ r. ⌜ (r ≡ frameOf (now (rows .entry)) port .answer) × (now (rows .exit) ≡ frameOf (now (rows .entry)) port .rows) ⌝ }
+{
+    x
+}
 pub fn add(table: Table, slot: u32) -> Step
     ensures { λ r. ⌜ r ≡ outcomeOf table (AddSlot slot) ⌝ }
 {
@@ -34,6 +39,7 @@ TABLE = """use Packets as packet
 entries =
     row "one::write" packet.write packet.write-copes
     ∷ row "one::add" packet.add packet.add-copes
+    ∷ row "one::frame" packet.frame packet.frame-copes
     ∷ row "in_bytes" packet.addC packet.addC-copes
     ∷ row "tells" packet.tellsC packet.tellsC-copes
     ∷ []
@@ -46,6 +52,9 @@ write (f, h4) =
 -- write (f, h4) = stateless
 abbrev pub add : Table × ℕ → Call
 add (table, slot) = stateful [] (numberOf (outcomeOf table (AddSlot slot) .answer)) [] [] table (outcomeOf table (AddSlot slot) .table) table
+
+abbrev pub frame : List ℕ × ℕ → Call
+frame (rows, port) = stateful [] (frameOf rows port .answer) [] [] rows (frameOf rows port .rows) rows
 
 idle : State → Bool
 idle Idle = true
@@ -91,6 +100,9 @@ CASES = [
     ("another state returned", other("(outcomeOf table (AddSlot slot) .table)", "(outcomeOf table (RemoveSlot slot) .table)"), "one::add\twhat is returned is no part"),
     ("the state returned as given", other("table (outcomeOf table (AddSlot slot) .table) table", "table table table"), "one::add\twhat is returned is no part"),
     ("the state left out", other("stateful [] (numberOf (outcomeOf table (AddSlot slot) .answer)) [] [] table (outcomeOf table (AddSlot slot) .table) table", "stateless [] (numberOf (outcomeOf table (AddSlot slot) .answer)) [] []"), "one::add\tthe answer is a part of the result, and the rest"),
+    ("another field for the answer", other("(frameOf rows port .answer)", "(frameOf rows port .told)"), "one::frame\tthe answer is not the result"),
+    ("the outcome for the answer", other("(frameOf rows port .answer)", "(frameOf rows port)"), "one::frame\tthe answer is not the result"),
+    ("another field left", other("(frameOf rows port .rows)", "(frameOf rows port .store)"), "one::frame\twhat is returned for rows"),
     ("another state left behind a definition", other("(stateC fits call state) state", "(otherC fits call state) state"), "in_bytes\twhat is returned for state"),
     ("another argument to a definition", other("inBytes state true", "inBytes state false"), "in_bytes\tthe answer is not the result"),
     ("a row with a parameter less", other("addC (state, slot)", "addC state"), "in_bytes\tthe row has 1 parameters, the function 2"),

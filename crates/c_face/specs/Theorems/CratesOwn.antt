@@ -17,7 +17,7 @@ use Rattle.packet.specs.Writing.{writeAnswer, writeBytes, writingNumber}
 use Rattle.payload.specs.Answers.{numberOf}
 use Rattle.payload.specs.Joining.{joined, wholeAnswer}
 use Rattle.payload.specs.Spreading.{spreadAll}
-use Rattle.receiver.specs.Frame.{frameAnswer, frameRows, frameStore}
+use Rattle.receiver.specs.Frame.{frameOf}
 use Rattle.receiver.specs.Starting.{startAnswer, startAsAnswer, startAsRows, startRows}
 use Rattle.sender.specs.Board.{boardOf}
 use Rattle.sender.specs.Commands.{answered, freshOf, startOf}
@@ -158,11 +158,9 @@ start-as-named kind ports P W store hold restore s h = rw (lt-ltb kind 256 h) (r
 
 -- levelspruce_receiver_start (for the kind H4), _fetch, _ports and _reply promise the receiver's own definitions as they stand, so that no law is needed; levelspruce_receiver_frame is receiver::frame, told of the flag by 1 or 0
 pub frame-own : (s : List (List ℕ)) (i : ℕ) (failed : Bool) (h : ℕ) (payload store : List ℕ)
-    → (frameAnswer s i (failedC (cond failed 1 0)) h (length payload) (length store) ≡ frameAnswer s i failed h (length payload) (length store))
-    × (frameRows s i (failedC (cond failed 1 0)) h payload store ≡ frameRows s i failed h payload store)
-    × (frameStore s i (failedC (cond failed 1 0)) h payload store ≡ frameStore s i failed h payload store)
-frame-own s i true h payload store = (refl, refl, refl)
-frame-own s i false h payload store = (refl, refl, refl)
+    → frameOf s i (failedC (cond failed 1 0)) h payload store ≡ frameOf s i failed h payload store
+frame-own s i true h payload store = refl
+frame-own s i false h payload store = refl
 
 -- or by any other number for 1
 pub any-failed : (failed : ℕ) → (failed ≡ 0 → ⊥) → failedC failed ≡ true

@@ -5,7 +5,7 @@ use mathlib.Core.List.{List, [], _∷_, _++_}
 use Prim.Native.Nat.{ℕ}
 use lib.ListN.{replicate}
 use Rattle.conformance.specs.Clauses.Filled.{nines, zeros}
-use Rattle.receiver.specs.Frame.{frameAnswer, frameRows, frameStore, marksBy, portRows, steadyRows, storeBy, takenRows, takenStore}
+use Rattle.receiver.specs.Frame.{frameOf, marksBy, portRows, steadyRows, storeBy, takenFrame}
 use Rattle.rows.specs.declared.group.Group.{Group}
 use Rattle.rows.specs.declared.step.Step.{Step}
 use Rattle.rows.specs.Group.{groupAt, putGroup}
@@ -104,17 +104,17 @@ port = (refl, refl, refl, refl, refl, refl, refl, refl, refl, refl, refl, refl, 
 stored :
     (storeBy group 1 (taken 0 true 12 false) 0xA5 (3 ∷ 4 ∷ []) (nines 96) ≡ nines 51 ++ (3 ∷ 4 ∷ 0xA5 ∷ []) ++ nines 42)
     × (storeBy group 1 (taken 0 false 12 false) 0xA5 (3 ∷ 4 ∷ []) (nines 96) ≡ nines 96)
-    × (takenStore group 1 (taken 0 true 12 false) 0xA5 (3 ∷ 4 ∷ []) (nines 96) ≡ nines 51 ++ (3 ∷ 4 ∷ 0xA5 ∷ []) ++ nines 42)
-    × (takenStore group 1 (taken 11 true 12 false) 0xA5 (3 ∷ 4 ∷ []) (nines 96) ≡ nines 96)
-    × (takenRows group 2 rows 1 (taken 11 true 31 false) 0xA5 (3 ∷ 4 ∷ []) (nines 96) ≡ rows)
-    × (takenRows group 2 rows 1 (taken 0 true 31 false) 0xA2 (3 ∷ 4 ∷ []) (nines 96) ≡ arrived)
+    × (takenFrame group 2 rows 1 (taken 0 true 12 false) 0xA5 (3 ∷ 4 ∷ []) (nines 96) .store ≡ nines 51 ++ (3 ∷ 4 ∷ 0xA5 ∷ []) ++ nines 42)
+    × (takenFrame group 2 rows 1 (taken 11 true 12 false) 0xA5 (3 ∷ 4 ∷ []) (nines 96) .store ≡ nines 96)
+    × (takenFrame group 2 rows 1 (taken 11 true 31 false) 0xA5 (3 ∷ 4 ∷ []) (nines 96) .rows ≡ rows)
+    × (takenFrame group 2 rows 1 (taken 0 true 31 false) 0xA2 (3 ∷ 4 ∷ []) (nines 96) .rows ≡ arrived)
 unfolding allOpen
 stored = (refl, refl, refl, refl, refl, refl)
 
 -- 'When no port is readable any more, receiving stops': where something can follow from the frame, and only there
 follows :
-    (groupAt (takenRows group 2 rows 1 (losing true) 0xA5 (3 ∷ 4 ∷ []) (nines 96)) .begun ≡ 0)
-    × (groupAt (takenRows group 2 rows 1 (losing false) 0xA5 (3 ∷ 4 ∷ []) (nines 96)) .begun ≡ 1)
+    (groupAt (takenFrame group 2 rows 1 (losing true) 0xA5 (3 ∷ 4 ∷ []) (nines 96) .rows) .begun ≡ 0)
+    × (groupAt (takenFrame group 2 rows 1 (losing false) 0xA5 (3 ∷ 4 ∷ []) (nines 96) .rows) .begun ≡ 1)
 unfolding allOpen
 follows = (refl, refl)
 
@@ -123,10 +123,10 @@ abbrev waits : List (List ℕ)
 waits = putStep rows 1 (step 32 925)
 
 handed :
-    (frameAnswer waits 1 false 0xAD 2 96 ≡ 0)
-    × (frameStore waits 1 false 0xAD (3 ∷ 4 ∷ []) (nines 96) ≡ nines 78 ++ (3 ∷ 4 ∷ 0xAD ∷ []) ++ nines 15)
-    × (stepAt (frameRows waits 1 false 0xAD (3 ∷ 4 ∷ []) (nines 96)) 1 .next ≡ 926)
-    × (packetsAt (frameRows waits 1 false 0xAD (3 ∷ 4 ∷ []) (nines 96)) 1 ≡ (replicate 5 7 ++ (10 ∷ replicate 10 7)) ∷ replicate 16 6 ∷ [])
-    × (frameStore waits 1 true 0xAD (3 ∷ 4 ∷ []) (nines 96) ≡ nines 96)
+    (frameOf waits 1 false 0xAD (3 ∷ 4 ∷ []) (nines 96) .answer ≡ 0)
+    × (frameOf waits 1 false 0xAD (3 ∷ 4 ∷ []) (nines 96) .store ≡ nines 78 ++ (3 ∷ 4 ∷ 0xAD ∷ []) ++ nines 15)
+    × (stepAt (frameOf waits 1 false 0xAD (3 ∷ 4 ∷ []) (nines 96) .rows) 1 .next ≡ 926)
+    × (packetsAt (frameOf waits 1 false 0xAD (3 ∷ 4 ∷ []) (nines 96) .rows) 1 ≡ (replicate 5 7 ++ (10 ∷ replicate 10 7)) ∷ replicate 16 6 ∷ [])
+    × (frameOf waits 1 true 0xAD (3 ∷ 4 ∷ []) (nines 96) .store ≡ nines 96)
 unfolding allOpen
 handed = (refl, refl, refl, refl, refl)

@@ -7,8 +7,8 @@ use lib.ListN.{drop, getD, replicate, take}
 use Rattle.conformance.specs.Clauses.Filled.{nines, zeros}
 use Rattle.ground.specs.Table.{tabulate}
 use Rattle.ground.specs.Types.{Rows}
-use Rattle.receiver.specs.Fetch.{fetchOut, fetchRecord, fetchRows}
-use Rattle.receiver.specs.Frame.{frameAnswer, frameRows, frameStore}
+use Rattle.receiver.specs.Fetch.{fetchOf}
+use Rattle.receiver.specs.Frame.{frameOf}
 use Rattle.rows.specs.Group.{groupAt, putGroup}
 use Rattle.rows.specs.Member.{memberAt, putMember}
 use Rattle.rows.specs.Packets.{marksAt, packetsAt, putMarks, putPackets}
@@ -85,13 +85,13 @@ gathering =
     withPort 2 (step 935) (sixteen 3) (sixteen 2) 8 (withPort 1 (step 933) (sixteen 5) (sixteen 4) 4 (withPort 0 (step 925) (sixteen 7) (sixteen 6) 2 empty))
 
 abbrev now₀ : List (List ℕ)
-now₀ = frameRows gathering 0 false 0x9D (8 ∷ []) (nines 96)
+now₀ = frameOf gathering 0 false 0x9D (8 ∷ []) (nines 96) .rows
 
 abbrev now₁ : List (List ℕ)
-now₁ = frameRows gathering 1 false 0xB5 (8 ∷ []) (nines 96)
+now₁ = frameOf gathering 1 false 0xB5 (8 ∷ []) (nines 96) .rows
 
 abbrev now₂ : List (List ℕ)
-now₂ = frameRows gathering 2 false 0xC7 (8 ∷ []) (nines 96)
+now₂ = frameOf gathering 2 false 0xC7 (8 ∷ []) (nines 96) .rows
 
 -- each port's tag to come, and what it gathers
 abbrev waiting : Rows → List ℕ
@@ -115,13 +115,13 @@ own-frames :
     × (marked now₀ ≡ 2 ∷ 4 ∷ 8 ∷ [])
     × (marked now₁ ≡ 2 ∷ 4 ∷ 8 ∷ [])
     × (marked now₂ ≡ 2 ∷ 4 ∷ 9 ∷ [])
-    × (frameStore gathering 0 false 0x9D (8 ∷ []) (nines 96) ≡ nines 20 ++ (8 ∷ 0x9D ∷ []) ++ nines 74)
-    × (frameStore gathering 1 false 0xB5 (8 ∷ []) (nines 96) ≡ nines 36 ++ (8 ∷ 0xB5 ∷ []) ++ nines 58)
-    × (frameStore gathering 2 false 0xC7 (8 ∷ []) (nines 96) ≡ nines 72 ++ (8 ∷ 0xC7 ∷ []) ++ nines 22)
-    × (frameAnswer gathering 2 false 0xC7 1 96 ≡ 0)
-    × (frameAnswer gathering 3 false 0xC7 1 96 ≡ 1)
-    × (frameAnswer gathering 2 false 0xC7 2 96 ≡ 9)
-    × (frameRows empty 3 true 0xC7 (8 ∷ []) (nines 96) ≡ empty)
+    × (frameOf gathering 0 false 0x9D (8 ∷ []) (nines 96) .store ≡ nines 20 ++ (8 ∷ 0x9D ∷ []) ++ nines 74)
+    × (frameOf gathering 1 false 0xB5 (8 ∷ []) (nines 96) .store ≡ nines 36 ++ (8 ∷ 0xB5 ∷ []) ++ nines 58)
+    × (frameOf gathering 2 false 0xC7 (8 ∷ []) (nines 96) .store ≡ nines 72 ++ (8 ∷ 0xC7 ∷ []) ++ nines 22)
+    × (frameOf gathering 2 false 0xC7 (nines 1) (nines 96) .answer ≡ 0)
+    × (frameOf gathering 3 false 0xC7 (nines 1) (nines 96) .answer ≡ 1)
+    × (frameOf gathering 2 false 0xC7 (nines 2) (nines 96) .answer ≡ 9)
+    × (frameOf empty 3 true 0xC7 (8 ∷ []) (nines 96) .rows ≡ empty)
 unfolding allOpen
 own-frames = (refl, refl, refl, refl, refl, refl, refl, refl, refl, refl, refl, refl, refl, refl, refl, refl)
 
@@ -130,7 +130,7 @@ abbrev unfinished : List (List ℕ)
 unfinished = putMarks (putMarks (putMarks (putGroup gathering (group 0)) 0 (1 ∷ zeros 15)) 1 (1 ∷ zeros 15)) 2 (zeros 16)
 
 abbrev finished : List (List ℕ)
-finished = frameRows unfinished 2 false 0xC7 (8 ∷ []) (nines 64 ++ replicate 32 0x30)
+finished = frameOf unfinished 2 false 0xC7 (8 ∷ []) (nines 64 ++ replicate 32 0x30) .rows
 
 -- 'gathered, in the call that makes it due': port 2's packet is read with the frame that has just come
 own-gathering :
@@ -151,8 +151,8 @@ late = withPort 2 (step 935) (zeros 16) (zeros 16) 0 (withPort 1 (step 935) (pac
 
 -- whether a port ends an odd packet is asked of what it has gathered itself
 own-odd :
-    (stepAt (frameRows late 1 false 0x27 (8 ∷ []) (nines 96)) 1 .odd ≡ 1)
-    × (stepAt (frameRows late 2 false 0x27 (8 ∷ []) (nines 96)) 2 .odd ≡ 0)
+    (stepAt (frameOf late 1 false 0x27 (8 ∷ []) (nines 96) .rows) 1 .odd ≡ 1)
+    × (stepAt (frameOf late 2 false 0x27 (8 ∷ []) (nines 96) .rows) 2 .odd ≡ 0)
     × (endsOdd 0 (packet 2 1 3 9) 935 0x27 ≡ true)
     × (endsOdd 0 (packet 2 1 3 9) 919 0x27 ≡ false)
 unfolding allOpen
@@ -177,7 +177,7 @@ abbrev store : List ℕ
 store = tabulate 96 (λ i. i)
 
 abbrev fetched : List (List ℕ)
-fetched = fetchRows due store (nines 50) (nines 8)
+fetched = fetchOf due store (nines 50) (nines 8) .rows
 
 -- what is left of a port: its state, number and what was told of it
 abbrev told : Rows → ℕ → List ℕ
@@ -185,19 +185,19 @@ told s i = memberAt s i .state ∷ memberAt s i .«state_number» ∷ memberAt s
 
 -- A report is of all ports: sure, X 3, 48 bytes, those of ports 1, 2 and 0 by turns, from place 5 of each ring on. All three are OK under their numbers, and RS-Ack turns for port 2. Nothing is due while port 2 lacks its frames, whatever rules it; with ADD it has no rank, and X is 2.
 own-reports :
-    (fetchRecord due store (nines 50) (nines 8) ≡ 3 ∷ 58 ∷ 3 ∷ 0 ∷ 0 ∷ 0 ∷ 0 ∷ 48 ∷ [])
-    × (take 6 (fetchOut due store (nines 50) (nines 8)) ≡ 42 ∷ 74 ∷ 10 ∷ 44 ∷ 76 ∷ 12 ∷ [])
-    × (drop 45 (fetchOut due store (nines 50) (nines 8)) ≡ 40 ∷ 72 ∷ 8 ∷ 9 ∷ 9 ∷ [])
+    (fetchOf due store (nines 50) (nines 8) .report ≡ 3 ∷ 58 ∷ 3 ∷ 0 ∷ 0 ∷ 0 ∷ 0 ∷ 48 ∷ [])
+    × (take 6 (fetchOf due store (nines 50) (nines 8) .out) ≡ 42 ∷ 74 ∷ 10 ∷ 44 ∷ 76 ∷ 12 ∷ [])
+    × (drop 45 (fetchOf due store (nines 50) (nines 8) .out) ≡ 40 ∷ 72 ∷ 8 ∷ 9 ∷ 9 ∷ [])
     × (told fetched 0 ≡ 2 ∷ 2 ∷ 3 ∷ 2 ∷ [])
     × (told fetched 1 ≡ 2 ∷ 0 ∷ 2 ∷ 0 ∷ [])
     × (told fetched 2 ≡ 2 ∷ 1 ∷ 2 ∷ 1 ∷ [])
     × (groupAt fetched .«rs_ack» ≡ 1)
     × (groupAt fetched .oldest ≡ 59)
     × (marksAt fetched 0 ++ marksAt fetched 1 ++ marksAt fetched 2 ≡ zeros 48)
-    × (fetchRows early store (nines 50) (nines 8) ≡ early)
-    × (fetchRecord early store (nines 50) (nines 8) ≡ zeros 8)
-    × (fetchOut early store (nines 50) (nines 8) ≡ nines 50)
-    × (fetchOut early-add store (nines 50) (nines 8) ≡ nines 50)
-    × (fetchRecord (putMarks early-add 2 (1 ∷ zeros 15)) store (nines 50) (nines 8) ≡ 3 ∷ 58 ∷ 2 ∷ 0 ∷ 0 ∷ 0 ∷ 0 ∷ 32 ∷ [])
+    × (fetchOf early store (nines 50) (nines 8) .rows ≡ early)
+    × (fetchOf early store (nines 50) (nines 8) .report ≡ zeros 8)
+    × (fetchOf early store (nines 50) (nines 8) .out ≡ nines 50)
+    × (fetchOf early-add store (nines 50) (nines 8) .out ≡ nines 50)
+    × (fetchOf (putMarks early-add 2 (1 ∷ zeros 15)) store (nines 50) (nines 8) .report ≡ 3 ∷ 58 ∷ 2 ∷ 0 ∷ 0 ∷ 0 ∷ 0 ∷ 32 ∷ [])
 unfolding allOpen
 own-reports = (refl, refl, refl, refl, refl, refl, refl, refl, refl, refl, refl, refl, refl, refl)

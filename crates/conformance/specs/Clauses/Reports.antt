@@ -11,8 +11,8 @@ use Rattle.judge.specs.Cause.{markOf}
 use Rattle.judge.specs.declared.order.Order.{Order}
 use Rattle.judge.specs.declared.seen.Seen.{Seen}
 use Rattle.receiver.specs.Cause.{causeAnswer, causeOut}
-use Rattle.receiver.specs.Fetch.{dueIn, fetchAnswer, fetchOut, fetchRecord, fetchRows, outIfDue, recordOf, reportIfDue, rowsIfDue}
-use Rattle.receiver.specs.Frame.{frameAnswer, frameRows, frameStore, gatheredBy, refusalBy}
+use Rattle.receiver.specs.Fetch.{dueIn, fetchOf, outIfDue, recordOf, reportIfDue, rowsIfDue}
+use Rattle.receiver.specs.Frame.{frameOf, gatheredBy, refusalBy}
 use Rattle.receiver.specs.Report.{framesInto, outputBy, outputOf, replyPort, replyPorts, reportBy, reportOf, rulingEpoch, seenAll, seenOf, startsOf, statesWorkedOut, withState}
 use Rattle.receiver.specs.Starting.{startRows}
 use Rattle.reply.specs.Waiting.{standing}
@@ -133,28 +133,28 @@ states = (refl, refl)
 
 -- 'A fetch with none due answers 0, says so, and changes nothing'; 9 changes nothing either, not even the record
 fetches :
-    (fetchRecord rows (nines 96) (nines 64) (nines 8) ≡ zeros 8)
-    × (fetchAnswer rows (nines 96) (nines 64) (nines 8) ≡ 0)
-    × (fetchRows rows (nines 96) (nines 64) (nines 8) ≡ rows)
-    × (fetchOut rows (nines 96) (nines 64) (nines 8) ≡ nines 64)
-    × (fetchRecord rows (nines 96) (nines 63) (nines 8) ≡ nines 8)
-    × (fetchAnswer rows (nines 96) (nines 63) (nines 8) ≡ 9)
-    × (fetchAnswer rows (nines 96) (nines 65) (nines 8) ≡ 0)
+    (fetchOf rows (nines 96) (nines 64) (nines 8) .report ≡ zeros 8)
+    × (fetchOf rows (nines 96) (nines 64) (nines 8) .answer ≡ 0)
+    × (fetchOf rows (nines 96) (nines 64) (nines 8) .rows ≡ rows)
+    × (fetchOf rows (nines 96) (nines 64) (nines 8) .out ≡ nines 64)
+    × (fetchOf rows (nines 96) (nines 63) (nines 8) .report ≡ nines 8)
+    × (fetchOf rows (nines 96) (nines 63) (nines 8) .answer ≡ 9)
+    × (fetchOf rows (nines 96) (nines 65) (nines 8) .answer ≡ 0)
 unfolding allOpen
 fetches = (refl, refl, refl, refl, refl, refl, refl)
 
 -- a frame: 1 for the port, then 9; both leave rows and store
 frames :
-    (frameAnswer rows 1 false 0 2 96 ≡ 12)
-    × (frameAnswer rows 2 false 0 2 96 ≡ 1)
-    × (frameAnswer rows 2 false 0 3 96 ≡ 1)
-    × (frameAnswer rows 1 false 0 3 96 ≡ 9)
-    × (frameAnswer rows 1 false 0 1 96 ≡ 9)
-    × (frameAnswer rows 1 false 0 2 95 ≡ 9)
-    × (frameAnswer rows 1 true 0 2 96 ≡ 10)
-    × (frameRows rows 2 true 0 (nines 2) (nines 96) ≡ rows)
-    × (frameRows rows 1 true 0 (nines 3) (nines 96) ≡ rows)
-    × (frameStore rows 2 false 0 (nines 2) (nines 96) ≡ nines 96)
+    (frameOf rows 1 false 0 (nines 2) (nines 96) .answer ≡ 12)
+    × (frameOf rows 2 false 0 (nines 2) (nines 96) .answer ≡ 1)
+    × (frameOf rows 2 false 0 (nines 3) (nines 96) .answer ≡ 1)
+    × (frameOf rows 1 false 0 (nines 3) (nines 96) .answer ≡ 9)
+    × (frameOf rows 1 false 0 (nines 1) (nines 96) .answer ≡ 9)
+    × (frameOf rows 1 false 0 (nines 2) (nines 95) .answer ≡ 9)
+    × (frameOf rows 1 true 0 (nines 2) (nines 96) .answer ≡ 10)
+    × (frameOf rows 2 true 0 (nines 2) (nines 96) .rows ≡ rows)
+    × (frameOf rows 1 true 0 (nines 3) (nines 96) .rows ≡ rows)
+    × (frameOf rows 2 false 0 (nines 2) (nines 96) .store ≡ nines 96)
     × (refusalBy (group 0) 2 1 11 2 96 ≡ 0)
     × (refusalBy (group 0) 2 2 11 2 96 ≡ 1)
     × (refusalBy (group 0) 2 1 11 2 97 ≡ 9)

@@ -10,7 +10,7 @@ use Rattle.ground.specs.Table.{tabulate}
 use Rattle.conformance.specs.Clauses.Filled.{zeros}
 use Rattle.packet.specs.Counts.{toldBits}
 use Rattle.packet.specs.Kinds.{vc12Kind}
-use Rattle.receiver.specs.Frame.{frameAnswer, frameRows}
+use Rattle.receiver.specs.Frame.{frameOf}
 use Rattle.receiver.specs.Starting.{sizedRows}
 use Rattle.rows.specs.Rows.{rowsFor}
 use Rattle.conformance.specs.Opened.{allOpen}
@@ -22,7 +22,7 @@ fresh = sizedRows vc12Kind 2 1 32 128 [] [] (replicate (rowsFor 2) (zeros 16))
 -- no frame is stored
 abbrev answered : List (List ℕ) → List ℕ → List ℕ
 answered rows [] = []
-answered rows (byte ∷ bytes) = frameAnswer rows 0 false byte 1 128 ∷ answered (frameRows rows 0 false byte (0xAA ∷ []) (zeros 128)) bytes
+answered rows (byte ∷ bytes) = frameOf rows 0 false byte (0xAA ∷ []) (zeros 128) .answer ∷ answered (frameOf rows 0 false byte (0xAA ∷ []) (zeros 128) .rows) bytes
 
 -- a packet with this count, zeros behind it
 abbrev packet : ℕ → List ℕ
@@ -60,12 +60,12 @@ left-out = refl
 
 abbrev handed : List (List ℕ) → List ℕ → List (List ℕ)
 handed rows [] = rows
-handed rows (byte ∷ bytes) = handed (frameRows rows 0 false byte (0xAA ∷ []) (zeros 128)) bytes
+handed rows (byte ∷ bytes) = handed (frameOf rows 0 false byte (0xAA ∷ []) (zeros 128) .rows) bytes
 
 -- A flagged frame in the place of the third packet's first ends the run, and that it says a start is not looked at: packets 7 and 8 are not two, packets 8 and 9 are.
 flagged-start :
-    (frameAnswer (handed fresh (packet 5 ++ packet 6)) 0 true 2 1 128 ≡ 10)
-    × (answered (frameRows (handed fresh (packet 5 ++ packet 6)) 0 true 2 (0xAA ∷ []) (zeros 128)) (drop 1 (packet 7) ++ packet 8 ++ packet 9) ≡ replicate 94 12 ++ (0 ∷ []))
+    (frameOf (handed fresh (packet 5 ++ packet 6)) 0 true 2 (0xAA ∷ []) (zeros 128) .answer ≡ 10)
+    × (answered (frameOf (handed fresh (packet 5 ++ packet 6)) 0 true 2 (0xAA ∷ []) (zeros 128) .rows) (drop 1 (packet 7) ++ packet 8 ++ packet 9) ≡ replicate 94 12 ++ (0 ∷ []))
 unfolding allOpen
 flagged-start = (refl, refl)
 

@@ -13,8 +13,8 @@ use Rattle.ground.specs.Circle.{after}
 use Rattle.ground.specs.Plain.{if_then_else_, _==_, _<?_, _≤?_}
 use Rattle.packet.specs.Kinds.{distanceOf, firstTag, frames, lead, payloadRight, tags}
 use Rattle.phases.specs.Sizes.{knownKind, portsIn, sized, startSized, storeFor}
-use Rattle.receiver.specs.Fetch.{fetchAnswer, fetchOut, fetchRecord, fetchRows, fits}
-use Rattle.receiver.specs.Frame.{frameAnswer, frameRows, frameStore, oddIn, refusalBy, storeBy, takenRows, takenStore}
+use Rattle.receiver.specs.Fetch.{fetchOf, fits}
+use Rattle.receiver.specs.Frame.{FrameOutcome, frameOf, oddIn, refusalBy, storeBy, takenFrame}
 use Rattle.receiver.specs.Lengths.{fetchFits, frameFits, outputFor, rowsFit}
 use Rattle.receiver.specs.Shown.{portsAnswer, portsOut, replyAnswer, replyFit, replyOut, shownFit}
 use Rattle.receiver.specs.Starting.{emptyGroup, sizedAnswer, sizedFits, sizedRows, startAnswer, startAsAnswer, startAsRows, startFits, startRight, startRows, timesWithin}
@@ -183,27 +183,28 @@ frame (state, port, failed, h4, payload, store) =
     (Unless 1 (port <? portsOf (groupAt state))
     ∷ Unless 9 (rowsOf (portsOf (groupAt state)) (length state) && length payload == groupAt state .payload && length store == storeOf (groupAt state))
     ∷ portRefusals (groupAt state) (stepAt state port) failed (oddIn state port h4) h4)
-    (frameAnswer state port failed h4 (length payload) (length store)) (store ∷ []) (frameStore state port failed h4 payload store ∷ [])
-    state (frameRows state port failed h4 payload store) state
+    (frameOf state port failed h4 payload store .answer) (store ∷ []) (frameOf state port failed h4 payload store .store ∷ [])
+    state (frameOf state port failed h4 payload store .rows) state
 
 frames-on : (b l : Bool) (g : Group) (n : ℕ) (s : List (List ℕ)) (i : ℕ) (failed odd : Bool) (h4 : ℕ) (payload store : List ℕ)
-    → Copes (stateful (Unless 1 b ∷ Unless 9 l ∷ portRefusals g (stepAt s i) failed odd h4)
-    (if (if b then (if l then 0 else 9) else 1) == 0 then takenOf g (stepAt s i) failed odd h4 .answer else if b then (if l then 0 else 9) else 1)
-    (store ∷ [])
-    ((if (if b then (if l then 0 else 9) else 1) == 0 then takenStore g i (takenOf g (stepAt s i) failed odd h4) h4 payload store else store) ∷ [])
-    s
-    (if (if b then (if l then 0 else 9) else 1) == 0 then takenRows g n s i (takenOf g (stepAt s i) failed odd h4) h4 payload store else s)
-    s)
-unfolding takenRows takenStore storeBy flagged countsOn frameDropped keeps outside joining
+    → (let o : FrameOutcome =
+    if (if b then (if l then 0 else 9) else 1) == 0
+    then takenFrame g n s i (takenOf g (stepAt s i) failed odd h4) h4 payload store
+    else (record { answer = if b then (if l then 0 else 9) else 1; rows = s; store = store }) in
+    Copes (stateful (Unless 1 b ∷ Unless 9 l ∷ portRefusals g (stepAt s i) failed odd h4) (o .answer) (store ∷ []) (o .store ∷ []) s (o .rows) s))
+unfolding takenFrame storeBy flagged countsOn frameDropped keeps outside joining
 frames-on false l g n s i failed odd h4 payload store = refused _ 1 (refl, refl, refl)
 frames-on true false g n s i failed odd h4 payload store = refused _ 9 (refl, refl, refl)
 frames-on true true g n s i failed odd h4 payload store =
-    by-number (λ t k. Under (stateful (Unless 1 true ∷ Unless 9 true ∷ portRefusals g (stepAt s i) failed odd h4) (t .answer) (store ∷ []) (takenStore g i t h4 payload store ∷ []) s (takenRows g n s i t h4 payload store) s) k)
+    by-number
+    (λ t k.
+    let o = takenFrame g n s i t h4 payload store in
+    Under (stateful (Unless 1 true ∷ Unless 9 true ∷ portRefusals g (stepAt s i) failed odd h4) (o .answer) (store ∷ []) (o .store ∷ []) s (o .rows) s) k)
     g (stepAt s i) failed odd h4
     (refused _ 10 (refl, refl, tt)) (refused _ 12 (refl, refl, tt)) (done _ refl) (done _ refl) (refused _ 11 (refl, refl, refl)) (done _ refl)
 
 pub frame-copes : (x : List (List ℕ) × ℕ × Bool × ℕ × List ℕ × List ℕ) → Copes (frame x)
-unfolding frameAnswer frameRows frameStore refusalBy frameFits rowsFit storeFor portsIn knownKind sized frames tags
+unfolding frameOf refusalBy frameFits rowsFit storeFor portsIn knownKind sized frames tags
 frame-copes (state, port, failed, h4, payload, store) = frames-on _ _ (groupAt state) (portsOf (groupAt state)) state port failed (oddIn state port h4) h4 payload store
 
 abbrev pub frameC : List (List ℕ) × ℕ × ℕ × ℕ × List ℕ × List ℕ → Call
@@ -222,11 +223,11 @@ fetch (state, store, out, report) =
     && portsOf (groupAt state) * framesOf (groupAt state .kind) * groupAt state .payload ≤? length out
     && length report == 8)
     ∷ [])
-    (fetchAnswer state store out report) (out ∷ report ∷ []) (fetchOut state store out report ∷ fetchRecord state store out report ∷ [])
-    state (fetchRows state store out report) state
+    (fetchOf state store out report .answer) (out ∷ report ∷ []) (fetchOf state store out report .out ∷ fetchOf state store out report .report ∷ [])
+    state (fetchOf state store out report .rows) state
 
 pub fetch-copes : (x : List (List ℕ) × List ℕ × List ℕ × List ℕ) → Copes (fetch x)
-unfolding fetchAnswer fetchOut fetchRecord fetchRows fits fetchFits rowsFit storeFor outputFor portsIn knownKind sized frames tags
+unfolding fetchOf fits fetchFits rowsFit storeFor outputFor portsIn knownKind sized frames tags
 fetch-copes (state, store, out, report) = copes _ (λ l. rw l, λ l. rw l (refl, refl, refl))
 
 -- The ports read out, each port's eight bytes a lent slice, and the reply's two bytes.

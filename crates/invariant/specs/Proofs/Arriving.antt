@@ -1,30 +1,24 @@
 -- A frame's call, case by case: all stays, or the port's rows and the store change and then what follows for all ports.
-use mathlib.Core.Path.{_≡_, refl}
+use mathlib.Core.Path.{_≡_}
 use mathlib.Core.Logic.{_≢_}
-use mathlib.Core.Bool.{Bool, true, false, cond}
+use mathlib.Core.Bool.{Bool}
 use mathlib.Core.List.{List}
 use Prim.Native.Nat.{ℕ, _≤_, _<_}
 use native.Mathlib.Omega.{arith}
-use lib.Dec.{eqb}
 use lib.ListN.{length}
-use borrow.Author.Tests.{eqb-true, eqb-false}
 use Rattle.invariant.specs.Kept.Group.{Kept}
 use Rattle.invariant.specs.Proofs.Settles.{settles-always}
 use Rattle.ground.specs.Truth.{cond-by}
 use Rattle.phases.specs.Settling.{settledOf}
 use Rattle.phases.specs.Sizes.{portsIn, storeFor}
-use Rattle.receiver.specs.Frame.{frameRefusal, frameRows, frameStore, settledBy, takenIn, takenRows, takenStore}
+use Rattle.receiver.specs.Frame.{FrameOutcome, frameOf, frameRefusal, settledBy, takenIn}
 use Rattle.receiver.specs.Laws.Answers.{Fitting, unrefused}
 use Rattle.receiver.specs.Laws.Frames.{frame-group, length-frame}
+use Rattle.receiver.specs.Laws.Outcomes.{frame-cases}
 use Rattle.receiver.specs.Laws.Sizes.{ports-are}
 use Rattle.rows.specs.Group.{groupAt}
 use Rattle.rows.specs.Rows.{rowsFor}
-use Rattle.step.specs.declared.arrival.Taken.{Taken}
 use Rattle.invariant.specs.Calls.{portAfter, storeAfter}
-
-by-both : (P : List (List ℕ) → List ℕ → Type 0) (b : Bool) (x y : List (List ℕ)) (v w : List ℕ) → (b ≡ true → P x v) → (b ≡ false → P y w) → P (cond b x y) (cond b v w)
-by-both P true x y v w p q = p refl
-by-both P false x y v w p q = q refl
 
 -- they leave the group
 pub after-group : (s : List (List ℕ)) (i : ℕ) (failed : Bool) (h : ℕ) → groupAt (portAfter s i failed h) ≡ groupAt s
@@ -46,28 +40,16 @@ pub record Counts (s : List (List ℕ)) (i : ℕ) (failed : Bool) (h : ℕ) (pay
 pub frame-by : (P : List (List ℕ) → List ℕ → Type 0) (s : List (List ℕ)) → Kept s → (i : ℕ) (failed : Bool) (h : ℕ) (payload store : List ℕ)
     → P s store
     → (Counts s i failed h payload store → P (settledOf (groupAt s .count) (storeAfter s i failed h payload store) (portAfter s i failed h)) (storeAfter s i failed h payload store))
-    → P (frameRows s i failed h payload store) (frameStore s i failed h payload store)
-unfolding frameRows frameStore takenRows takenStore
+    → P (frameOf s i failed h payload store .rows) (frameOf s i failed h payload store .store)
 frame-by P s k i failed h payload store stays goes =
-    by-both P (eqb (frameRefusal s i (length payload) (length store)) 0) (cond (eqb (t .answer) 11) s after) s (cond (eqb (t .answer) 11) store left) store
-    (λ e. by-both P (eqb (t .answer) 11) s after store left (λ f. stays) (λ f. taken e f)) (λ e. stays)
+    frame-cases s i failed h payload store (λ (o : FrameOutcome). P (o .rows) (o .store)) (λ e. stays) (λ e f. stays) taken
   where
-    t : Taken
-    t = takenIn s i failed h
-
-    left : List ℕ
-    left = storeAfter s i failed h payload store
-
-    after : List (List ℕ)
-    after = settledBy (takenIn s i failed h .settles) (portsIn (groupAt s)) (storeAfter s i failed h payload store) (portAfter s i failed h)
-
     ports : portsIn (groupAt s) ≡ groupAt s .count
     ports = ports-are (groupAt s) (k .lasting .group .sizes)
 
-    taken : eqb (frameRefusal s i (length payload) (length store)) 0 ≡ true → eqb (takenIn s i failed h .answer) 11 ≡ false
+    taken : frameRefusal s i (length payload) (length store) ≡ 0 → takenIn s i failed h .answer ≢ 11
         → P (settledBy (takenIn s i failed h .settles) (portsIn (groupAt s)) (storeAfter s i failed h payload store) (portAfter s i failed h)) (storeAfter s i failed h payload store)
-    taken e f =
-        let none : frameRefusal s i (length payload) (length store) ≡ 0 = eqb-true (frameRefusal s i (length payload) (length store)) 0 e in
+    taken none other =
         let o : Fitting (groupAt s) (portsIn (groupAt s)) i (length s) (length payload) (length store) = unrefused (groupAt s) (portsIn (groupAt s)) i (length s) (length payload) (length store) none in
         let b : i < groupAt s .count = rw ports at (o .port) in
         rw (ports, settles-always s k i failed h b (storeAfter s i failed h payload store))
@@ -76,7 +58,7 @@ frame-by P s k i failed h payload store stays goes =
           port = b;
           bytes = o .bytes;
           stored = rw ports at (o .stored);
-          answer = eqb-false (takenIn s i failed h .answer) 11 f;
+          answer = other;
           long = after-long s i failed h (groupAt s .count) (k .lasting .rows);
         }))
 
@@ -86,25 +68,11 @@ pub frame-any : (P : List (List ℕ) → Type 0) (s : List (List ℕ)) (i : ℕ)
     → (frameRefusal s i (length payload) (length store) ≡ 0 → takenIn s i failed h .answer ≢ 11 → P (portAfter s i failed h))
     → (frameRefusal s i (length payload) (length store) ≡ 0 → takenIn s i failed h .answer ≢ 11 → rowsFor (portsIn (groupAt s)) ≤ length (portAfter s i failed h)
     → P (settledOf (portsIn (groupAt s)) (storeAfter s i failed h payload store) (portAfter s i failed h)))
-    → P (frameRows s i failed h payload store)
-unfolding frameRows takenRows settledBy
+    → P (frameOf s i failed h payload store .rows)
+unfolding settledBy
 frame-any P s i failed h payload store stays alone goes =
-    cond-by P (eqb (frameRefusal s i (length payload) (length store)) 0) (cond (eqb (t .answer) 11) s (cond (t .settles) after a)) s
-    (λ e.
-    let none : frameRefusal s i (length payload) (length store) ≡ 0 = eqb-true (frameRefusal s i (length payload) (length store)) 0 e in
-    cond-by P (eqb (t .answer) 11) s (cond (t .settles) after a) (λ f. stays)
-    (λ f.
-    let other : takenIn s i failed h .answer ≢ 11 = eqb-false (t .answer) 11 f in
+    frame-cases s i failed h payload store (λ (o : FrameOutcome). P (o .rows)) (λ e. stays) (λ e f. stays)
+    (λ none other.
     let o = unrefused (groupAt s) (portsIn (groupAt s)) i (length s) (length payload) (length store) none in
     let long = after-long s i failed h (portsIn (groupAt s)) (o .whole) in
-    cond-by P (t .settles) after a (λ q. goes none other long) (λ q. alone none other)))
-    (λ e. stays)
-  where
-    t : Taken
-    t = takenIn s i failed h
-
-    a : List (List ℕ)
-    a = portAfter s i failed h
-
-    after : List (List ℕ)
-    after = settledOf (portsIn (groupAt s)) (storeAfter s i failed h payload store) (portAfter s i failed h)
+    cond-by P (takenIn s i failed h .settles) _ _ (λ q. goes none other long) (λ q. alone none other))

@@ -19,7 +19,7 @@ use Rattle.invariant.specs.Proofs.Laws.Settling.{settled-by}
 use Rattle.invariant.specs.Proofs.Laws.Window.{tag-next, tag-passed}
 use Rattle.invariant.specs.Proofs.Sizes.{call-sizes}
 use Rattle.ground.specs.Table.{getD-tabulate, tabulate}
-use Rattle.ground.specs.Truth.{cond-by, eq-or-ne}
+use Rattle.ground.specs.Truth.{eq-or-ne}
 use Rattle.judge.specs.Seen.{sizeOf}
 use Rattle.packet.specs.Kinds.{frames}
 use Rattle.packet.specs.Laws.Epochs.{first-epoch}
@@ -31,10 +31,11 @@ use Rattle.phases.specs.Laws.Passed.{passed-group, passed-of-port, passedOn}
 use Rattle.phases.specs.Passing.{passedGroup, passedOf, passedStep}
 use Rattle.phases.specs.Settling.{begunOf, clearedStep, settledOf, stoppedOf}
 use Rattle.phases.specs.Sizes.{portsIn, storeFor}
-use Rattle.receiver.specs.Fetch.{dueIn, fetchRows, fits, rowsIfDue}
-use Rattle.receiver.specs.Frame.{frameRows, frameStore, marksBy, oddIn, storeBy, takenIn}
-use Rattle.receiver.specs.Laws.Answers.{taken-answer, unrefused}
+use Rattle.receiver.specs.Fetch.{fetchOf}
+use Rattle.receiver.specs.Frame.{frameOf, marksBy, oddIn, storeBy, takenIn}
+use Rattle.receiver.specs.Laws.Answers.{unrefused}
 use Rattle.receiver.specs.Laws.Frames.{frame-other, frame-port, frameOn}
+use Rattle.receiver.specs.Laws.Outcomes.{fetch-cases, taken-answer}
 use Rattle.receiver.specs.Laws.Passed.{cleared-joined, passed-kind, passed-oldest, passed-origin, passed-payload, passed-window}
 use Rattle.receiver.specs.Laws.Sizes.{ports-are}
 use Rattle.receiver.specs.Laws.Told.{statesIn, told-group, told-of-port, toldOn, withAck}
@@ -222,7 +223,7 @@ module _ (tag : ℕ) (bytes : List ℕ) (h4 : ℕ) where
         inr (record {
           port = refl;
           unflagged = w .unflagged;
-          answer = taken-answer s i failed h (length payload) (length store) (o .unrefused) ∙ w .answer;
+          answer = taken-answer s i failed h payload store (o .unrefused) ∙ w .answer;
           tag-is = next;
           h4-is = q .0;
           bytes-are = q .1;
@@ -259,32 +260,25 @@ module _ (tag : ℕ) (bytes : List ℕ) (h4 : ℕ) where
         absurd (begun-none (groupAt z) n z (rw (length-stopped (groupAt a) n a) (o .long)) st j b c))
 
   pub frame-claimed : (s : List (List ℕ)) → Kept s → (i : ℕ) (failed : Bool) (h : ℕ) (payload store : List ℕ) (j : ℕ) → j < groupAt s .count
-      → Claimed (frameRows s i failed h payload store) (frameStore s i failed h payload store) j tag bytes h4
+      → Claimed (frameOf s i failed h payload store .rows) (frameOf s i failed h payload store .store) j tag bytes h4
       → Claimed s store j tag bytes h4 ⊎ Handed s i failed h payload store j tag bytes h4
   frame-claimed s k i failed h payload store j b =
       frame-by (λ (r : List (List ℕ)) (m : List ℕ). Claimed r m j tag bytes h4 → Claimed s store j tag bytes h4 ⊎ Handed s i failed h payload store j tag bytes h4) s k i failed h payload store
       (λ c. inl c)
       (λ o c. taken-claimed s k i failed h payload store o j b (settled-claimed s k i failed h payload store o j b c))
 
-  pub fetch-claimed : (s : List (List ℕ)) → Kept s → (store out report : List ℕ) (j : ℕ) → j < groupAt s .count → Claimed (fetchRows s store out report) store j tag bytes h4
+  pub fetch-claimed : (s : List (List ℕ)) → Kept s → (store out report : List ℕ) (j : ℕ) → j < groupAt s .count → Claimed (fetchOf s store out report .rows) store j tag bytes h4
       → Claimed s store j tag bytes h4
-  unfolding fetchRows rowsIfDue reportedOf
+  unfolding reportedOf
   fetch-claimed s k store out report j b =
-      cond-by On (fits s store out report) (cond (dueIn (groupAt s) (portsIn (groupAt s)) s) (reportedOf (groupAt s) store (portsIn (groupAt s)) s) s) s
-      (λ e.
-      cond-by On (dueIn (groupAt s) (portsIn (groupAt s)) s) (reportedOf (groupAt s) store (portsIn (groupAt s)) s) s
-      (λ d c.
+      fetch-cases s store out report (λ r. Claimed r store j tag bytes h4 → Claimed s store j tag bytes h4) (λ c. c)
+      (λ e d c.
       let q : Due (groupAt s) (groupAt s .count) s = due-says (groupAt s) (groupAt s .count) s (rw ports at d) in
       let p : List (List ℕ) = passedOf (groupAt s) store (groupAt s .count) s in
       let l : rowsFor (groupAt s .count) ≤ length p = rw (length-passed (groupAt s) store (groupAt s .count) s) (let r = k .lasting .rows in omega arith) in
       passed-claimed (groupAt s .count) s (k .lasting) refl store store (q .begun) (q .brought) j b
       (told-claimed (groupAt p) (groupAt s .count) p refl l store j b (rw ports at c)))
-      (λ d c. c))
-      (λ e c. c)
     where
-      On : List (List ℕ) → Type 0
-      On r = Claimed r store j tag bytes h4 → Claimed s store j tag bytes h4
-
       ports : portsIn (groupAt s) ≡ groupAt s .count
       ports = ports-are (groupAt s) (k .lasting .group .sizes)
 

@@ -16,16 +16,17 @@ use Rattle.invariant.specs.Proofs.Kept.Taken.{taken-whole}
 use Rattle.invariant.specs.Proofs.Laws.Flags.{off-flag}
 use Rattle.invariant.specs.Proofs.Laws.Settling.{settled-by}
 use Rattle.invariant.specs.Proofs.Sizes.{call-sizes}
-use Rattle.ground.specs.Truth.{cond-by, eq-or-ne}
+use Rattle.ground.specs.Truth.{eq-or-ne}
 use Rattle.phases.specs.Laws.Cleared.{begun-port, stopped-port}
 use Rattle.phases.specs.Laws.Lengths.{length-passed, length-stopped}
 use Rattle.phases.specs.Laws.Passed.{passed-group, passed-of-port}
 use Rattle.phases.specs.Passing.{passedOf}
 use Rattle.phases.specs.Settling.{stoppedOf}
 use Rattle.phases.specs.Sizes.{portsIn}
-use Rattle.receiver.specs.Fetch.{dueIn, fetchRows, fits, rowsIfDue}
-use Rattle.receiver.specs.Frame.{frameRows, frameStore, oddIn, takenIn}
+use Rattle.receiver.specs.Fetch.{fetchOf}
+use Rattle.receiver.specs.Frame.{frameOf, oddIn, takenIn}
 use Rattle.receiver.specs.Laws.Frames.{frame-other, frame-port}
+use Rattle.receiver.specs.Laws.Outcomes.{fetch-cases}
 use Rattle.receiver.specs.Laws.Passed.{cleared-whole, passed-oldest, step-whole}
 use Rattle.receiver.specs.Laws.Sizes.{ports-are}
 use Rattle.receiver.specs.Laws.Told.{told-group, told-of-port}
@@ -73,7 +74,7 @@ module _ (s : List (List ℕ)) (k : Kept s) (i : ℕ) (failed : Bool) (h : ℕ) 
       (λ (d : j ≢ i). rw (frame-other (groupAt s .kind) s i (takenIn s i failed h) h j d) (record { ruling = refl; whole = refl }))
       (eq-or-ne j i)
 
-  pub frame-ruled : Ruled x call (frameStore s i failed h payload store) (frameRows s i failed h payload store)
+  pub frame-ruled : Ruled x call (frameOf s i failed h payload store .store) (frameOf s i failed h payload store .rows)
   frame-ruled =
       frame-by (λ (r : List (List ℕ)) (m : List ℕ). Ruled x call m r) s k i failed h payload store
       (inl (record { ports = λ j c. record { ruling = refl; whole = refl }; oldest = refl }))
@@ -124,11 +125,9 @@ module _ (s : List (List ℕ)) (k : Kept s) (store out report : List ℕ) where
       l : rowsFor (groupAt s .count) ≤ length (passedOf (groupAt s) store (groupAt s .count) s)
       l = rw (length-passed (groupAt s) store (groupAt s .count) s) enough
 
-  pub fetch-ruled : Ruled y (Fetch out report) store (fetchRows s store out report)
-  unfolding fetchRows rowsIfDue
+  pub fetch-ruled : Ruled y (Fetch out report) store (fetchOf s store out report .rows)
   fetch-ruled =
-      cond-by (Ruled y (Fetch out report) store) (fits s store out report) (cond (dueIn g (portsIn g) s) (reportedOf g store (portsIn g) s) s) s
-      (λ e. cond-by (Ruled y (Fetch out report) store) (dueIn g (portsIn g) s) (reportedOf g store (portsIn g) s) s (λ d. inr (inr (rw ports (reported (due-says g (portsIn g) s d .begun))))) (λ d. stays)) (λ e. stays)
+      fetch-cases s store out report (Ruled y (Fetch out report) store) stays (λ e d. inr (inr (rw ports (reported (due-says g (portsIn g) s d .begun)))))
     where
       g : Group
       g = groupAt s

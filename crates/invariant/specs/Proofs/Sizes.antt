@@ -1,5 +1,5 @@
 -- What no call changes: the kind of packet, the count of ports, P and W. And how many ports there are at most.
-use mathlib.Core.Bool.{Bool, cond}
+use mathlib.Core.Bool.{Bool}
 use mathlib.Core.List.{List, [], _∷_}
 use Prim.Native.Nat.{ℕ, _≤_, _<_}
 use native.Mathlib.Omega.{arith}
@@ -13,8 +13,8 @@ use Rattle.phases.specs.Laws.Passed.{passed-group}
 use Rattle.phases.specs.Laws.Sizes.{SameSizes, settled-sizes, sizes-stay, sizes-then}
 use Rattle.phases.specs.Passing.{passedOf}
 use Rattle.phases.specs.Sizes.{portsIn, sized}
-use Rattle.receiver.specs.Fetch.{dueIn, fetchRows, fits, rowsIfDue}
-use Rattle.receiver.specs.Frame.{frameRows}
+use Rattle.receiver.specs.Fetch.{fetchOf}
+use Rattle.receiver.specs.Frame.{frameOf}
 use Rattle.receiver.specs.Laws.Sizes.{sizes-of}
 use Rattle.receiver.specs.Laws.Passed.{passed-count, passed-kind, passed-payload, passed-window}
 use Rattle.receiver.specs.Laws.Told.{told-group}
@@ -22,6 +22,7 @@ use Rattle.receiver.specs.Report.{reportedOf, statesWorkedOut}
 use Rattle.rows.specs.declared.group.Group.{Group}
 use Rattle.rows.specs.Group.{groupAt}
 use Rattle.invariant.specs.Calls.{Fetch, Frame, Receiver, ReceiverCall, portAfter, receiverAfter, receiverRun, storeAfter}
+use Rattle.receiver.specs.Laws.Outcomes.{fetch-cases}
 
 pub ports-at-most-64 : (g : Group) → portsIn g ≤ 64
 unfolding portsIn
@@ -29,24 +30,17 @@ ports-at-most-64 g =
     cond-by (λ (m : ℕ). m ≤ 64) (sized (g .kind) (g .count) (g .payload) (g .window)) (g .count) 0
     (λ e. sizes-of (g .kind) (g .count) (g .payload) (g .window) e .few-ports) (λ e. omega arith)
 
-pub frame-sizes : (s : List (List ℕ)) → Kept s → (i : ℕ) (failed : Bool) (h : ℕ) (payload store : List ℕ) → SameSizes (groupAt (frameRows s i failed h payload store)) (groupAt s)
+pub frame-sizes : (s : List (List ℕ)) → Kept s → (i : ℕ) (failed : Bool) (h : ℕ) (payload store : List ℕ) → SameSizes (groupAt (frameOf s i failed h payload store .rows)) (groupAt s)
 frame-sizes s k i failed h payload store =
     frame-by (λ (r : List (List ℕ)) (m : List ℕ). SameSizes (groupAt r) (groupAt s)) s k i failed h payload store (sizes-stay (groupAt s))
     (λ (o : Counts s i failed h payload store).
     rw (after-group s i failed h) at (settled-sizes (groupAt s .count) (storeAfter s i failed h payload store) (portAfter s i failed h) (let l = o .long in omega arith)))
 
-pub fetch-sizes : (s : List (List ℕ)) → Kept s → (store out report : List ℕ) → SameSizes (groupAt (fetchRows s store out report)) (groupAt s)
-unfolding fetchRows rowsIfDue reportedOf
+pub fetch-sizes : (s : List (List ℕ)) → Kept s → (store out report : List ℕ) → SameSizes (groupAt (fetchOf s store out report .rows)) (groupAt s)
+unfolding reportedOf
 fetch-sizes s k store out report =
-    cond-by On (fits s store out report) (cond (dueIn g (portsIn g) s) (reportedOf g store (portsIn g) s) s) s
-    (λ e. cond-by On (dueIn g (portsIn g) s) (reportedOf g store (portsIn g) s) s (λ d. reported) (λ d. sizes-stay (groupAt s))) (λ e. sizes-stay (groupAt s))
+    fetch-cases s store out report (λ r. SameSizes (groupAt r) (groupAt s)) (sizes-stay (groupAt s)) (λ e d. reported)
   where
-    g : Group
-    g = groupAt s
-
-    On : List (List ℕ) → Type 0
-    On r = SameSizes (groupAt r) (groupAt s)
-
     m : ℕ
     m = portsIn (groupAt s)
 

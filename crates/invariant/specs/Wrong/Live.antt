@@ -3,13 +3,13 @@ use mathlib.Core.Path.{_≡_, refl}
 use mathlib.Core.Bool.{false}
 use mathlib.Core.List.{List, [], _∷_}
 use Prim.Native.Nat.{ℕ, _+_, _%_}
-use lib.ListN.{length, replicate}
+use lib.ListN.{replicate}
 use Rattle.invariant.specs.Calls.{Fetch, Frame, Receiver, ReceiverCall, receiverAfter, receiverRun, startedWith}
 use Rattle.invariant.specs.Live.{heardOf, packetHeard}
 use Rattle.invariant.specs.Wrong.Sample.{sentH4}
 use Rattle.ground.specs.Plain.{if_then_else_, _==_, _<?_}
 use Rattle.ground.specs.Table.{tabulate}
-use Rattle.receiver.specs.Frame.{frameAnswer}
+use Rattle.receiver.specs.Frame.{frameOf}
 use Rattle.rows.specs.Port.{portAt}
 use Rattle.receiver.specs.Opened.{receiverOpen}
 
@@ -25,7 +25,7 @@ wrong-heard : Receiver → List ReceiverCall → List ℕ → List ℕ
 wrong-heard x [] heard = heard
 wrong-heard x (Frame i failed h payload ∷ calls) heard =
     wrong-heard (receiverAfter x (Frame i failed h payload)) calls
-    (if frameAnswer (x .rows) i failed h (length payload) (length (x .store)) == 0 then h ∷ heard else heard)
+    (if frameOf (x .rows) i failed h payload (x .store) .answer == 0 then h ∷ heard else heard)
 wrong-heard x (Fetch out report ∷ calls) heard = wrong-heard (receiverAfter x (Fetch out report)) calls heard
 
 came : List ℕ

@@ -12,7 +12,7 @@ use Rattle.judge.specs.Verdict.{SURE}
 use Rattle.packet.specs.Layout.{h4Of, nibblesOf}
 use Rattle.packet.specs.Words.{EOS, NORM}
 use Rattle.step.specs.OwnCount.{ownRuling}
-use Rattle.receiver.specs.Fetch.{fetchOut, reportIfDue}
+use Rattle.receiver.specs.Fetch.{fetchOf, reportIfDue}
 use Rattle.receiver.specs.Report.{framesInto}
 use Rattle.rows.specs.declared.group.Group.{Group}
 use Rattle.rows.specs.Group.{putGroup}
@@ -57,7 +57,7 @@ sixteen : ℕ → ℕ → List ℕ
 sixteen a b = tabulate 32 (λ k. if k % 2 == 0 then a else b)
 
 order-breaks :
-    (fetchOut rows store (replicate 32 0) (replicate 8 0) ≡ sixteen 10 11)
+    (fetchOf rows store (replicate 32 0) (replicate 8 0) .out ≡ sixteen 10 11)
     × (reportIfDue group 2 rows .mark ≡ SURE)
     × (wrong-out ≡ sixteen 11 10)
 unfolding receiverOpen packet group port rows sent store wrong-seen wrong-out sixteen

@@ -16,7 +16,7 @@ use Rattle.packet.specs.Fixed.{fixedNibbles}
 use Rattle.packet.specs.Kinds.{fixedKind}
 use Rattle.packet.specs.Layout.{h4Of}
 use Rattle.phases.specs.Passing.{groupTo}
-use Rattle.receiver.specs.Fetch.{fetchOut, reportIfDue}
+use Rattle.receiver.specs.Fetch.{fetchOf, reportIfDue}
 use Rattle.receiver.specs.Report.{framesInto, seenAll}
 use Rattle.receiver.specs.Starting.{groupWith}
 use Rattle.rows.specs.declared.group.Group.{Group}
@@ -65,6 +65,6 @@ ports-seen-breaks :
     (wrong-mark seen 3 ≡ SURE)
     × (wrong-out ≡ tabulate 32 (λ k. if k % 2 == 0 then 10 else 11) ++ replicate 16 0)
     × (reportIfDue group 3 rows .mark ≡ HELD)
-    × (fetchOut rows store (replicate 48 0) (replicate 8 0) ≡ replicate 48 0)
+    × (fetchOf rows store (replicate 48 0) (replicate 8 0) .out ≡ replicate 48 0)
 unfolding receiverOpen group port rows sent store wrong-mark seen wrong-out
 ports-seen-breaks = (refl, refl, refl, refl)

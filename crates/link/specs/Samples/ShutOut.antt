@@ -16,7 +16,7 @@ use Rattle.link.specs.Moments.{Beginning, NotAfter, Ready, Run, Unready,
 use Rattle.link.specs.Link.{roadOf}
 use Rattle.link.specs.Theorems.{demand3, spared-until}
 use Rattle.link.specs.Running.{fresh, hasBegun, lentAt, outputAt, recordAt}
-use Rattle.receiver.specs.Fetch.{fetchAnswer}
+use Rattle.receiver.specs.Fetch.{fetchOf}
 use Rattle.link.specs.Told.{Told}
 use Rattle.link.specs.Road.{times}
 use Rattle.link.specs.Proofs.Histories.Ours.{ours}
@@ -293,7 +293,7 @@ by-theorem = told-then (reached (roadOf link) (started link)) itself
 
 -- After each turn its fetches have ended: one more is answered 0 and says that none is due.
 fetched-out :
-    (let m = ownRun link (started link) 180 [] in fetchAnswer (m .rows) (m .store) (outputAt (roadOf link) m) (lentAt (roadOf link) m) ≡ 0)
+    (let m = ownRun link (started link) 180 [] in fetchOf (m .rows) (m .store) (outputAt (roadOf link) m) (lentAt (roadOf link) m) .answer ≡ 0)
     × (getD (recordAt (roadOf link) (ownRun link (started link) 180 [])) 0 0 ≡ 0)
 fetched-out = demand3 link met .fetched-out (started link) starts at-180
 

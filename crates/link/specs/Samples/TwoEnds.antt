@@ -6,8 +6,8 @@ use Prim.Native.Nat.{ℕ, zero, suc, _+_, _-_, _/_, _%_}
 use lib.ListN.{getD, replicate}
 use Rattle.ground.specs.Flags.{oneIf}
 use Rattle.ground.specs.Plain.{_==_, _≤?_}
-use Rattle.receiver.specs.Fetch.{fetchRecord, fetchRows}
-use Rattle.receiver.specs.Frame.{frameRows, frameStore}
+use Rattle.receiver.specs.Fetch.{fetchOf}
+use Rattle.receiver.specs.Frame.{frameOf}
 use Rattle.receiver.specs.Heard.{heardOut}
 use Rattle.receiver.specs.Shown.{replyOf}
 use Rattle.receiver.specs.Starting.{startAsRows}
@@ -59,11 +59,11 @@ told e rows =
 -- a frame with this byte, and a fetch
 unfoldable framed : End → ℕ → End
 framed e h4 =
-    let rows = frameRows (e .rows) 0 false h4 (0 ∷ []) (e .store) in
-    let store = frameStore (e .rows) 0 false h4 (0 ∷ []) (e .store) in
-    let said = fetchRecord rows store (replicate 16 0) (replicate 8 0) in
+    let rows = frameOf (e .rows) 0 false h4 (0 ∷ []) (e .store) .rows in
+    let store = frameOf (e .rows) 0 false h4 (0 ∷ []) (e .store) .store in
+    let said = fetchOf rows store (replicate 16 0) (replicate 8 0) .report in
     let next : End = record { sender = e .sender; sent = e .sent; rows = rows; store = store; log = e .log } in
-    elim (getD said 0 0 == 0) [ true ↦ next | false ↦ told next (fetchRows rows store (replicate 16 0) (replicate 8 0)) ]
+    elim (getD said 0 0 == 0) [ true ↦ next | false ↦ told next (fetchOf rows store (replicate 16 0) (replicate 8 0) .rows) ]
 
 -- the frame that comes in frame time t from an end whose frames take d frame times
 unfoldable comes : End → End → ℕ → ℕ → End

@@ -4,6 +4,7 @@ use mathlib.Core.Logic.{_⊎_, inl, inr, ⊎-elim}
 use mathlib.Core.Bool.{Bool, true, false, cond, _&&_, false≢true}
 use mathlib.Core.List.{List, [], _∷_, _++_}
 use Prim.Native.Nat.{ℕ, zero, suc, _*_, _≤_, _<_}
+use Rattle.ground.specs.Truth.{cond-by}
 use native.Mathlib.Nat.{mul-le-mul-left}
 use native.Mathlib.Omega.{arith}
 use lib.Dec.{eqb, ltb}
@@ -27,8 +28,9 @@ use Rattle.none_due.specs.Proofs.Fetched.{few-due}
 use Rattle.packet.specs.Kinds.{fixedKind, frames}
 use Rattle.packet.specs.Theorems.Tags.{frames-two}
 use Rattle.phases.specs.Sizes.{portsIn}
-use Rattle.receiver.specs.Fetch.{dueIn, fetchRecord, fetchRows, fits, noneDue, recordOf, reportIfDue}
-use Rattle.receiver.specs.Frame.{frameRows}
+use Rattle.receiver.specs.declared.report.Report.{Report}
+use Rattle.receiver.specs.Fetch.{FetchOutcome, dueIn, fetchOf, fits, recordOf, reportIfDue}
+use Rattle.receiver.specs.Frame.{frameOf}
 use Rattle.receiver.specs.Report.{reportBy, reportOf, seenAll}
 use Rattle.recording.specs.declared.record.Record.{Record}
 use Rattle.recording.specs.declared.record.Record.the-variants as R
@@ -66,17 +68,19 @@ module _ (out : List ℕ) where
 
   -- a mark above 0 says that a report was given
   due-is : (d : Desk) → isDueAt out d ≡ givesAt d
-  unfolding fetchRecordBy fetchRecord reportIfDue recordOf reportOf reportBy
-  due-is d = go (fits (ownRows d) (ownStore d) out eight) (dueIn (groupAt (ownRows d)) (portsIn (groupAt (ownRows d))) (ownRows d))
+  unfolding fetchRecordBy fetchOf reportIfDue recordOf reportOf reportBy
+  due-is d =
+      cond-by
+      (λ (o : FetchOutcome). ltb 0 (getD (o .report) 0 0) ≡ (fits (ownRows d) (ownStore d) out eight && dueIn (groupAt (ownRows d)) (portsIn (groupAt (ownRows d))) (ownRows d)))
+      (fits (ownRows d) (ownStore d) out eight) _ _
+      (λ e.
+      rw e
+      (cond-by (λ (r : Report). ltb 0 (getD (recordOf r) 0 0) ≡ dueIn (groupAt (ownRows d)) (portsIn (groupAt (ownRows d))) (ownRows d)) (dueIn (groupAt (ownRows d)) (portsIn (groupAt (ownRows d))) (ownRows d)) _ _
+      (λ f. mark ∙ sym f) (λ f. sym f)))
+      (λ e. rw e refl)
     where
       mark : ltb 0 (judgeOf (groupAt (ownRows d) .kind) (seenAll (groupAt (ownRows d)) (ownRows d) (portsIn (groupAt (ownRows d)))) (sizeOf (portsIn (groupAt (ownRows d))))) ≡ true
       mark = lt-ltb 0 _ (judge-some (groupAt (ownRows d) .kind) (seenAll (groupAt (ownRows d)) (ownRows d) (portsIn (groupAt (ownRows d)))) (sizeOf (portsIn (groupAt (ownRows d)))))
-
-      go : (a b : Bool)
-          → ltb 0 (getD (cond a (recordOf (cond b (reportOf (groupAt (ownRows d)) (seenAll (groupAt (ownRows d)) (ownRows d) (portsIn (groupAt (ownRows d)))) (portsIn (groupAt (ownRows d)))) noneDue)) eight) 0 0) ≡ (a && b)
-      go true true = mark
-      go true false = refl
-      go false b = refl
 
   due-given : (d : Desk) → isDueAt out d ≡ true → Given (ownRows d) (ownStore d) out eight
   due-given d e = go (fits (ownRows d) (ownStore d) out eight) (dueIn (groupAt (ownRows d)) (portsIn (groupAt (ownRows d))) (ownRows d)) refl refl (sym (due-is d) ∙ e)
@@ -87,17 +91,17 @@ module _ (out : List ℕ) where
       go false b e f t = absurd (false≢true t)
 
   -- the group's own rows behind a fetch and behind a frame
-  fetched-own : (d : Desk) → Going d → ownRows (fetched out d) ≡ fetchRows (ownRows d) (ownStore d) out eight
+  fetched-own : (d : Desk) → Going d → ownRows (fetched out d) ≡ fetchOf (ownRows d) (ownStore d) out eight .rows
   unfolding fetchRowsBy
   fetched-own d g =
       let n = rowsFor (d .replay .ports) in
-      let x = fetchRows (ownRows d) (ownStore d) out eight in
+      let x = fetchOf (ownRows d) (ownStore d) out eight .rows in
       let e : length x ≡ n = length-fetch-rows (ownRows d) (ownStore d) out eight ∙ length-take-le n (d .rows) (g .enough) in
       ap (λ (m : ℕ). take m (x ++ drop n (d .rows))) (sym e) ∙ take-append-seam x (drop n (d .rows))
 
   fetched-long : (d : Desk) → Going d → length (fetched out d .rows) ≡ length (d .rows)
   unfolding fetchRowsBy
-  fetched-long d g = length-part (rowsFor (d .replay .ports)) (d .rows) (fetchRows (ownRows d) (ownStore d) out eight) (g .enough) (length-fetch-rows (ownRows d) (ownStore d) out eight)
+  fetched-long d g = length-part (rowsFor (d .replay .ports)) (d .rows) (fetchOf (ownRows d) (ownStore d) out eight .rows) (g .enough) (length-fetch-rows (ownRows d) (ownStore d) out eight)
 
   fetched-goes : (d : Desk) → Going d → Going (fetched out d)
   fetched-goes d g =
@@ -112,7 +116,7 @@ module _ (out : List ℕ) where
   framed-goes d g line port h4 flag place =
       let n = rowsFor (d .replay .ports) in
       let p = payloadAt (d .replay .size) place line in
-      let x = frameRows (ownRows d) port (eqb flag 1) h4 p (ownStore d) in
+      let x = frameOf (ownRows d) port (eqb flag 1) h4 p (ownStore d) .rows in
       let l = length-frame-rows (ownRows d) port (eqb flag 1) h4 p (ownStore d) in
       let e : length x ≡ n = l ∙ length-take-le n (d .rows) (g .enough) in
       let own : take n (x ++ drop n (d .rows)) ≡ x = ap (λ (m : ℕ). take m (x ++ drop n (d .rows))) (sym e) ∙ take-append-seam x (drop n (d .rows)) in
@@ -128,7 +132,7 @@ module _ (out : List ℕ) where
   unfolding fetchRowsBy
   none-stays d g e =
       let n = rowsFor (d .replay .ports) in
-      let same : fetchRows (ownRows d) (ownStore d) out eight ++ drop n (d .rows) ≡ d .rows =
+      let same : fetchOf (ownRows d) (ownStore d) out eight .rows ++ drop n (d .rows) ≡ d .rows =
       ap (λ (x : List (List ℕ)). x ++ drop n (d .rows)) (fetch-none (ownRows d) (ownStore d) out eight (sym (due-is d) ∙ e)) ∙ take-append-drop n (d .rows) in
       ap (λ (r : List (List ℕ)). isDueAt out (record { replay = d .replay; rows = r; store = d .store })) same ∙ e
 

@@ -31,7 +31,7 @@ use Rattle.phases.specs.Laws.Sizes.{SameSizes}
 use Rattle.phases.specs.Passing.{passedGroup, passedOf, passedStep}
 use Rattle.phases.specs.Sizes.{portsIn}
 use Rattle.phases.specs.Theorems.Settled.{passed-begun}
-use Rattle.receiver.specs.Fetch.{fetchRows, rowsIfDue}
+use Rattle.receiver.specs.Fetch.{fetchOf, rowsIfDue}
 use Rattle.receiver.specs.Laws.Passed.{step-joined}
 use Rattle.receiver.specs.Laws.Sizes.{ports-are}
 use Rattle.receiver.specs.Laws.Told.{told-group, told-of-port, withAck}
@@ -72,8 +72,8 @@ given-due s k store out report v = due-says (groupAt s) (groupAt s .count) s (rw
 
 -- a report brings the window nearer
 nearer : (i far : ℕ) (s : List (List ℕ)) → Kept s → i < groupAt s .count → (store out report : List ℕ) → Given s store out report → Behind i far s
-    → (frames (groupAt s .kind) ≤ far) × ((near : ℕ) → near + frames (groupAt s .kind) ≡ far → Behind i near (fetchRows s store out report))
-unfolding fetchRows rowsIfDue reportedOf
+    → (frames (groupAt s .kind) ≤ far) × ((near : ℕ) → near + frames (groupAt s .kind) ≡ far → Behind i near (fetchOf s store out report .rows))
+unfolding fetchOf rowsIfDue reportedOf
 nearer i far s k b store out report v o =
     let g : Group = groupAt s in
     let n : ℕ = groupAt s .count in
@@ -111,9 +111,9 @@ many i far x (Fetch out report ∷ calls) k b o a =
     let less : frames (groupAt s .kind) ≤ far = n .0 in
     let near : ℕ = far - frames (groupAt s .kind) in
     let e : near + frames (groupAt s .kind) ≡ far = omega arith in
-    let z : SameSizes (groupAt (fetchRows s (x .store) out report)) (groupAt s) = fetch-sizes s k (x .store) out report in
-    let c : i < groupAt (fetchRows s (x .store) out report) .count = rw (z .count) b in
-    let rest : length calls * frames (groupAt (fetchRows s (x .store) out report) .kind) ≤ near =
+    let z : SameSizes (groupAt (fetchOf s (x .store) out report .rows)) (groupAt s) = fetch-sizes s k (x .store) out report in
+    let c : i < groupAt (fetchOf s (x .store) out report .rows) .count = rw (z .count) b in
+    let rest : length calls * frames (groupAt (fetchOf s (x .store) out report .rows) .kind) ≤ near =
     many i near (receiverAfter x (Fetch out report)) calls (call-kept x (Fetch out report) k) c (n .1 near e) (a .1) in
     let same : length calls * f ≤ near = rw (z .kind) at rest in
     let sum : suc (length calls) * f ≡ length calls * f + f = suc-mul (length calls) f in

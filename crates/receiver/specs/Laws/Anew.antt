@@ -15,7 +15,7 @@ use Rattle.phases.specs.Passing.{passedOf}
 use Rattle.phases.specs.Settling.{beginBy, gatherBy, settledOf, stopBy}
 use Rattle.phases.specs.Sizes.{portsIn, storeFor}
 use Rattle.receiver.specs.Anew.{anewFits, flaggedRows}
-use Rattle.receiver.specs.Frame.{frameRefusal, frameRows, gatheredBy, portRows, settledBy, storeBy, takenRows}
+use Rattle.receiver.specs.Frame.{frameOf, frameRefusal, gatheredBy, portRows, settledBy, storeBy, takenFrame}
 use Rattle.receiver.specs.Laws.Answers.{fit-rows, fitting-none}
 use Rattle.receiver.specs.Laws.Frames.{frame-group, length-frame}
 use Rattle.receiver.specs.Lengths.{rowsFit}
@@ -78,8 +78,8 @@ module _ (store : List ℕ) where
 
 -- A flagged frame that is not refused, whatever its H4 byte and its payload.
 pub flagged-frame : (s : List (List ℕ)) (i h : ℕ) (payload store : List ℕ) → frameRefusal s i (length payload) (length store) ≡ 0
-    → frameRows s i true h payload store ≡ flaggedPort store i s
-unfolding frameRows takenRows storeBy takenOf flagged flaggedPort portRows gatheredBy
+    → frameOf s i true h payload store .rows ≡ flaggedPort store i s
+unfolding frameOf takenFrame storeBy takenOf flagged flaggedPort portRows gatheredBy
 flagged-frame s i h payload store e = rw (eq-eqb (frameRefusal s i (length payload) (length store)) 0 e) refl
 
 pub same-ports : (g h : Group) → SameSizes g h → portsIn g ≡ portsIn h
@@ -134,6 +134,6 @@ module _ (s : List (List ℕ)) (store : List ℕ) (o : AnewFits s store) where
   unfolding flaggedRows flaggedPorts
   flagged-rows zero b = refl
   flagged-rows (suc k) b =
-      ap (λ (t : List (List ℕ)). frameRows t k true 0 (replicate (groupAt s .payload) 0) store) (flagged-rows k (omega arith))
+      ap (λ (t : List (List ℕ)). frameOf t k true 0 (replicate (groupAt s .payload) 0) store .rows) (flagged-rows k (omega arith))
       ∙ flagged-frame (flaggedPorts store k s) k 0 (replicate (groupAt s .payload) 0) store
       (unrefused k (replicate (groupAt s .payload) 0) b (length-replicate {A = ℕ} (groupAt s .payload) 0))

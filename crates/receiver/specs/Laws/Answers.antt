@@ -2,14 +2,13 @@
 use mathlib.Core.Path.{_≡_, refl}
 use mathlib.Core.Logic.{⊎-elim}
 use mathlib.Core.Bool.{Bool, true, false, cond, _&&_, or-true}
-use mathlib.Core.List.{List}
 use Prim.Native.Nat.{ℕ, _≤_, _<_}
 use native.Mathlib.Omega.{arith}
 use lib.Dec.{eqb, leb, ltb}
 use borrow.Author.Tests.{eq-eqb, eqb-true, leb-true, lt-ltb, ltb-true}
 use Rattle.ground.specs.Truth.{and-left, and-right, or-cases}
 use Rattle.phases.specs.Sizes.{storeFor}
-use Rattle.receiver.specs.Frame.{frameAnswer, frameRefusal, refusalBy, takenIn}
+use Rattle.receiver.specs.Frame.{refusalBy}
 use Rattle.receiver.specs.Lengths.{fetchFits, frameFits, outputFor, reportBytes, rowsFit}
 use Rattle.rows.specs.declared.group.Group.{Group}
 use Rattle.rows.specs.Rows.{rowsFor}
@@ -47,11 +46,6 @@ pub fitting-none : (g : Group) (n i rows payload store : ℕ) → Fitting g n i 
 unfolding refusalBy frameFits rowsFit
 fitting-none g n i rows payload store f =
     rw (lt-ltb i n (f .port), eq-eqb rows (rowsFor n) (f .whole), eq-eqb payload (g .payload) (f .bytes), eq-eqb store (storeFor g n) (f .stored), or-true (eqb n 0)) refl
-
--- it is answered as the step rule says
-pub taken-answer : (s : List (List ℕ)) (i : ℕ) (failed : Bool) (h payload store : ℕ) → frameRefusal s i payload store ≡ 0 → frameAnswer s i failed h payload store ≡ takenIn s i failed h .answer
-unfolding frameAnswer
-taken-answer s i failed h payload store e = rw (eq-eqb (frameRefusal s i payload store) 0 e) refl
 
 -- a fetch that is not 9
 pub record Lent (g : Group) (n rows store out : ℕ) : Type 0 where

@@ -1,12 +1,14 @@
 -- Where no report is due a fetch gives none and changes nothing.
-use mathlib.Core.Path.{_≡_, refl, ap, _∙_}
-use mathlib.Core.Bool.{Bool, true, false, cond}
+use mathlib.Core.Path.{_≡_, refl, ap, _∙_, sym}
+use mathlib.Core.Bool.{Bool, false, true≢false}
 use mathlib.Core.List.{List, _++_}
 use Prim.Native.Nat.{ℕ}
+use Rattle.ground.specs.Truth.{cond-by}
 use lib.Dec.{ltb}
 use lib.ListN.{drop, getD, replicate, take, take-append-drop}
 use Rattle.phases.specs.Sizes.{portsIn}
-use Rattle.receiver.specs.Fetch.{dueIn, fetchOut, fetchRecord, fetchRows, fits, outIfDue, recordOf, reportIfDue, rowsIfDue}
+use Rattle.receiver.specs.Fetch.{FetchOutcome, dueIn, fetchOf, fits, outIfDue, recordOf, reportIfDue}
+use Rattle.receiver.specs.Laws.Outcomes.{fetch-cases}
 use Rattle.replaying.specs.declared.replay.Replay.{Replay}
 use Rattle.replaying.specs.Replay.{storeOf}
 use Rattle.replaying.specs.Turn.{fetchOutBy, fetchRecordBy, fetchRowsBy, isDue}
@@ -20,26 +22,17 @@ dueOf g s = dueIn g (portsIn g) s
 abbrev pub dueAt : List (List ℕ) → Bool
 dueAt s = dueOf (groupAt s) s
 
-either-same : {A : Type 0} (b : Bool) (x y : A) → x ≡ y → cond b x y ≡ y
-either-same true x y e = e
-either-same false x y e = refl
-
 module _ (s : List (List ℕ)) (store out : List ℕ) (d : dueAt s ≡ false) where
-  record-none : getD (fetchRecord s store out (replicate 8 0)) 0 0 ≡ 0
-  unfolding fetchRecord reportIfDue recordOf
-  record-none = rw d (go (fits s store out (replicate 8 0)))
-    where
-      go : (b : Bool) → getD (cond b (recordOf (record { mark = 0; epoch = 0; x = 0; cause = 0; bytes = 0 })) (replicate 8 0)) 0 0 ≡ 0
-      go true = refl
-      go false = refl
+  record-none : getD (fetchOf s store out (replicate 8 0) .report) 0 0 ≡ 0
+  unfolding fetchOf reportIfDue recordOf
+  record-none = cond-by (λ (o : FetchOutcome). getD (o .report) 0 0 ≡ 0) (fits s store out (replicate 8 0)) _ _ (λ e. rw d refl) (λ e. refl)
 
-  rows-none : fetchRows s store out (replicate 8 0) ≡ s
-  unfolding fetchRows rowsIfDue
-  rows-none = rw d (either-same (fits s store out (replicate 8 0)) s s refl)
+  rows-none : fetchOf s store out (replicate 8 0) .rows ≡ s
+  rows-none = fetch-cases s store out (replicate 8 0) (λ r. r ≡ s) refl (λ e f. absurd (true≢false (sym f ∙ d)))
 
-  out-none : fetchOut s store out (replicate 8 0) ≡ out
-  unfolding fetchOut outIfDue
-  out-none = rw d (either-same (fits s store out (replicate 8 0)) out out refl)
+  out-none : fetchOf s store out (replicate 8 0) .out ≡ out
+  unfolding fetchOf outIfDue
+  out-none = cond-by (λ (o : FetchOutcome). o .out ≡ out) (fits s store out (replicate 8 0)) _ _ (λ e. rw d refl) (λ e. refl)
 
 module _ (r : Replay) (rows : List (List ℕ)) (store out : List ℕ) (d : dueAt (take (rowsFor (r .ports)) rows) ≡ false) where
   pub none-due : isDue r rows store out ≡ false

@@ -3,6 +3,7 @@ use mathlib.Core.Path.{_≡_, refl, _∙_}
 use mathlib.Core.Bool.{Bool, true, false, cond, not, _&&_}
 use mathlib.Core.List.{List, _++_}
 use Prim.Native.Nat.{ℕ, _≤_}
+use Rattle.ground.specs.Truth.{cond-by}
 use native.Mathlib.Omega.{arith}
 use lib.Dec.{eqb}
 use lib.ListN.{drop, length, take, length-append, length-drop}
@@ -18,11 +19,12 @@ use Rattle.step.specs.Arrival.{flagOf}
 use Rattle.phases.specs.Laws.Lengths.{length-begin, length-passed, length-stop}
 use Rattle.phases.specs.Settling.{gatherBy, settledOf}
 use Rattle.phases.specs.Sizes.{portsIn}
-use Rattle.receiver.specs.Fetch.{dueIn, fetchOut, fetchRecord, fetchRows, fits, outIfDue, rowsIfDue}
-use Rattle.receiver.specs.Frame.{frameRefusal, frameRows, frameStore, portRows, settledBy, storeBy, takenIn, takenRows, takenStore}
+use Rattle.receiver.specs.Fetch.{FetchOutcome, dueIn, fetchOf, fits, outIfDue}
+use Rattle.receiver.specs.Frame.{FrameOutcome, frameOf, portRows, settledBy, storeBy, takenIn}
 use Rattle.receiver.specs.Laws.Frames.{length-frame}
 use Rattle.receiver.specs.Laws.Fresh.{length-started}
 use Rattle.receiver.specs.Laws.Lengths.{length-frames-into}
+use Rattle.receiver.specs.Laws.Outcomes.{fetch-cases, frame-cases}
 use Rattle.receiver.specs.Laws.Told.{length-told}
 use Rattle.receiver.specs.Report.{framesInto, outputBy, outputOf, reportedOf, seenAll}
 use Rattle.receiver.specs.Starting.{emptyGroup, groupWith, sizedFits, sizedRows, startAsRows, startRight}
@@ -38,6 +40,10 @@ either : {A : Type 0} (b : Bool) (x y : List A) (n : ℕ) → length x ≡ n →
 either true x y n h k = h
 either false x y n h k = k
 
+both-by : {A : Type 0} (R : A → A → Type 0) (b : Bool) (x y u v : A) → R x u → R y v → R (cond b x y) (cond b u v)
+both-by R true x y u v h k = h
+both-by R false x y u v h k = k
+
 length-gather : (g : Group) (store : List ℕ) (n : ℕ) (s : List (List ℕ)) → length (gatherBy g store n s) ≡ length s
 unfolding gatherBy
 length-gather g store n s = either (flagOf (g .begun) && not (flagOf (g .gathered)) && brought g s n) (passedOf g store n s) s (length s) (length-passed g store n s) refl
@@ -50,22 +56,18 @@ module _ (s : List (List ℕ)) (i : ℕ) (failed : Bool) (h : ℕ) (payload stor
   taken : Taken
   taken = takenIn s i failed h
 
-  pub length-frame-rows : length (frameRows s i failed h payload store) ≡ length s
-  unfolding frameRows takenRows settledBy
+  pub length-frame-rows : length (frameOf s i failed h payload store .rows) ≡ length s
+  unfolding settledBy
   length-frame-rows =
       let p : length (portRows (groupAt s .kind) s i (takenIn s i failed h) h) ≡ length s = length-frame (groupAt s .kind) s i (takenIn s i failed h) h in
-      either (eqb (frameRefusal s i (length payload) (length store)) 0) _ s (length s)
-      (either (eqb (takenIn s i failed h .answer) 11) s _ (length s) refl
-      (either (takenIn s i failed h .settles) _ (portRows (groupAt s .kind) s i (takenIn s i failed h) h) (length s) (length-settled _ _ (portRows (groupAt s .kind) s i (takenIn s i failed h) h) ∙ p) p))
-      refl
+      frame-cases s i failed h payload store (λ (o : FrameOutcome). length (o .rows) ≡ length s) (λ e. refl) (λ e f. refl)
+      (λ e f. either (takenIn s i failed h .settles) _ (portRows (groupAt s .kind) s i (takenIn s i failed h) h) (length s) (length-settled _ _ (portRows (groupAt s .kind) s i (takenIn s i failed h) h) ∙ p) p)
 
-  pub length-frame-store : length (frameStore s i failed h payload store) ≡ length store
-  unfolding frameStore takenStore storeBy
+  pub length-frame-store : length (frameOf s i failed h payload store .store) ≡ length store
+  unfolding storeBy
   length-frame-store =
-      either (eqb (frameRefusal s i (length payload) (length store)) 0) _ store (length store)
-      (either (eqb (takenIn s i failed h .answer) 11) store _ (length store) refl
-      (either (takenIn s i failed h .kept) _ store (length store) (length-stored store _ payload h) refl))
-      refl
+      frame-cases s i failed h payload store (λ (o : FrameOutcome). length (o .store) ≡ length store) (λ e. refl) (λ e f. refl)
+      (λ e f. either (takenIn s i failed h .kept) _ store (length store) (length-stored store _ payload h) refl)
 
 length-reported : (g : Group) (store : List ℕ) (n : ℕ) (s : List (List ℕ)) → length (reportedOf g store n s) ≡ length s
 unfolding reportedOf
@@ -77,28 +79,25 @@ length-output g seen n store out =
     either (eqb (judgeOf (g .kind) seen (sizeOf n)) HELD) out (framesInto g (orderOf seen (sizeOf n)) store (frames (g .kind)) out) (length out) refl (length-frames-into g (orderOf seen (sizeOf n)) store (frames (g .kind)) out)
 
 module _ (s : List (List ℕ)) (store out report : List ℕ) where
-  pub length-fetch-rows : length (fetchRows s store out report) ≡ length s
-  unfolding fetchRows rowsIfDue
+  pub length-fetch-rows : length (fetchOf s store out report .rows) ≡ length s
   length-fetch-rows =
-      either (fits s store out report) _ s (length s)
-      (either (dueIn (groupAt s) (portsIn (groupAt s)) s) _ s (length s) (length-reported (groupAt s) store (portsIn (groupAt s)) s) refl)
-      refl
+      fetch-cases s store out report (λ (r : List (List ℕ)). length r ≡ length s) refl (λ e d. length-reported (groupAt s) store (portsIn (groupAt s)) s)
 
-  pub length-fetch-out : length (fetchOut s store out report) ≡ length out
-  unfolding fetchOut outIfDue
+  pub length-fetch-out : length (fetchOf s store out report .out) ≡ length out
+  unfolding fetchOf outIfDue
   length-fetch-out =
-      either (fits s store out report) _ out (length out)
-      (either (dueIn (groupAt s) (portsIn (groupAt s)) s) _ out (length out) (length-output (groupAt s) (seenAll (groupAt s) s (portsIn (groupAt s))) (portsIn (groupAt s)) store out) refl)
-      refl
+      cond-by (λ (o : FetchOutcome). length (o .out) ≡ length out) (fits s store out report) _ _
+      (λ e. either (dueIn (groupAt s) (portsIn (groupAt s)) s) _ out (length out) (length-output (groupAt s) (seenAll (groupAt s) s (portsIn (groupAt s))) (portsIn (groupAt s)) store out) refl)
+      (λ e. refl)
 
   -- of the output a fetch looks at the length alone
-  pub fetch-rows-alike : (other : List ℕ) → length other ≡ length out → fetchRows s store other report ≡ fetchRows s store out report
-  unfolding fetchRows fits
-  fetch-rows-alike other e = rw e
+  pub fetch-rows-alike : (other : List ℕ) → length other ≡ length out → fetchOf s store other report .rows ≡ fetchOf s store out report .rows
+  unfolding fetchOf fits
+  fetch-rows-alike other e = rw e (both-by (λ (o p : FetchOutcome). o .rows ≡ p .rows) (fits s store out report) _ _ _ _ refl refl)
 
-  pub fetch-record-alike : (other : List ℕ) → length other ≡ length out → fetchRecord s store other report ≡ fetchRecord s store out report
-  unfolding fetchRecord fits
-  fetch-record-alike other e = rw e
+  pub fetch-record-alike : (other : List ℕ) → length other ≡ length out → fetchOf s store other report .report ≡ fetchOf s store out report .report
+  unfolding fetchOf fits
+  fetch-record-alike other e = rw e (both-by (λ (o p : FetchOutcome). o .report ≡ p .report) (fits s store out report) _ _ _ _ refl refl)
 
 pub length-started-rows : (g : Settings) (s : List (List ℕ)) → length (startedRows g s) ≡ length s
 unfolding startedRows startAsRows sizedRows

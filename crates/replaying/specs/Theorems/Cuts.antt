@@ -14,8 +14,8 @@ use borrow.Author.Tests.{le-leb, lt-leb, lt-ltb, ltb-false, ltb-true}
 use Rattle.bytes.specs.Bytes.{indexOf}
 use Rattle.ground.specs.Truth.{and-true}
 use Rattle.packet.specs.Kinds.{frames}
-use Rattle.receiver.specs.Fetch.{fetchRows}
-use Rattle.receiver.specs.Frame.{frameRows, frameStore}
+use Rattle.receiver.specs.Fetch.{fetchOf}
+use Rattle.receiver.specs.Frame.{frameOf}
 use Rattle.receiver.specs.Laws.Sizes.{start-sizes-of}
 use Rattle.recording.specs.Opening.{Opening}
 use Rattle.recording.specs.Opening.{Opening as O}
@@ -152,7 +152,7 @@ module _ (r : Replay) (rows : List (List ℕ)) (store lent out : List ℕ) (e : 
 
   length-rows : rowsFor (r .ports) ≤ length rows → length (T.fetchRowsBy r rows store lent) ≡ length rows
   unfolding T.fetchRowsBy
-  length-rows h = length-part (rowsFor (r .ports)) rows (fetchRows (take (rowsFor (r .ports)) rows) (take (storeOf (r .ports) (r .size) (r .window)) store) lent (replicate 8 0)) h (length-fetch-rows (take (rowsFor (r .ports)) rows) (take (storeOf (r .ports) (r .size) (r .window)) store) lent (replicate 8 0))
+  length-rows h = length-part (rowsFor (r .ports)) rows (fetchOf (take (rowsFor (r .ports)) rows) (take (storeOf (r .ports) (r .size) (r .window)) store) lent (replicate 8 0) .rows) h (length-fetch-rows (take (rowsFor (r .ports)) rows) (take (storeOf (r .ports) (r .size) (r .window)) store) lent (replicate 8 0))
 
   length-out : length (T.fetchOutBy r rows store lent) ≡ length lent
   unfolding T.fetchOutBy
@@ -229,13 +229,13 @@ module _ (r : Replay) (port h4 flag : ℕ) (payload : List ℕ) (rows : List (Li
   framed-rows : rowsFor (r .ports) ≤ length rows → length (T.framedRows r port h4 flag payload rows store) ≡ length rows
   unfolding T.framedRows
   framed-rows h =
-      length-part (rowsFor (r .ports)) rows (frameRows (take (rowsFor (r .ports)) rows) port (eqb flag 1) h4 payload (take (storeOf (r .ports) (r .size) (r .window)) store)) h
+      length-part (rowsFor (r .ports)) rows (frameOf (take (rowsFor (r .ports)) rows) port (eqb flag 1) h4 payload (take (storeOf (r .ports) (r .size) (r .window)) store) .rows) h
       (length-frame-rows (take (rowsFor (r .ports)) rows) port (eqb flag 1) h4 payload (take (storeOf (r .ports) (r .size) (r .window)) store))
 
   framed-store : storeOf (r .ports) (r .size) (r .window) ≤ length store → length (T.framedStore r port h4 flag payload rows store) ≡ length store
   unfolding T.framedStore
   framed-store h =
-      length-part (storeOf (r .ports) (r .size) (r .window)) store (frameStore (take (rowsFor (r .ports)) rows) port (eqb flag 1) h4 payload (take (storeOf (r .ports) (r .size) (r .window)) store)) h
+      length-part (storeOf (r .ports) (r .size) (r .window)) store (frameOf (take (rowsFor (r .ports)) rows) port (eqb flag 1) h4 payload (take (storeOf (r .ports) (r .size) (r .window)) store) .store) h
       (length-frame-store (take (rowsFor (r .ports)) rows) port (eqb flag 1) h4 payload (take (storeOf (r .ports) (r .size) (r .window)) store))
 
 long-line : (ports size : ℕ) (l : List ℕ) → MOST < length l → lineRecord ports size 0 0 l ≡ Malformed 0

@@ -1,20 +1,21 @@
 -- Why a report is held or doubtful, as its line says it (2026-05): by the packets of the ports that this very report saw.
 use mathlib.Core.Path.{_≡_, refl, sym, ap, _∙_}
-use mathlib.Core.Bool.{Bool, true, false, cond, _&&_}
+use mathlib.Core.Bool.{Bool, true, false, _&&_}
 use mathlib.Core.List.{List}
 use Prim.Native.Nat.{ℕ}
 use native.Mathlib.Nat.{not-suc-le-zero}
 use lib.Dec.{eqb, leb, ltb}
 use lib.ListN.{getD, length, replicate, take}
 use borrow.Author.Tests.{ltb-true}
-use Rattle.ground.specs.Truth.{and-left}
+use Rattle.ground.specs.Truth.{and-left, cond-by}
 use Rattle.judge.specs.Cause.{blamedBy, blamedOf, causeOf, markOf}
 use Rattle.judge.specs.Seen.{sizeOf}
 use Rattle.judge.specs.Theorems.Cause.{mark-by-cause}
 use Rattle.judge.specs.declared.seen.Seen.{Seen}
 use Rattle.phases.specs.Sizes.{portsIn, storeFor}
+use Rattle.receiver.specs.declared.report.Report.{Report}
 use Rattle.receiver.specs.Cause.{causeFit, causeIn, causeOut}
-use Rattle.receiver.specs.Fetch.{dueIn, fetchRecord, fits, noneDue, recordOf, reportIfDue}
+use Rattle.receiver.specs.Fetch.{FetchOutcome, dueIn, fetchOf, fits, noneDue, recordOf, reportIfDue}
 use Rattle.receiver.specs.Lengths.{fetchFits, outputFor, rowsFit}
 use Rattle.receiver.specs.Report.{reportBy, reportOf, seenAll}
 use Rattle.replaying.specs.declared.replay.Replay.{Replay}
@@ -36,16 +37,19 @@ module _ (s : List (List ℕ)) (store out : List ℕ) where
   ports = seenAll g s n
 
   abbrev rec : List ℕ
-  rec = fetchRecord s store out (replicate 8 0)
+  rec = fetchOf s store out (replicate 8 0) .report
 
   given : ltb 0 (getD rec 0 0) ≡ true → (fits s store out (replicate 8 0) ≡ true) × (dueIn g n s ≡ true)
-  unfolding fetchRecord reportIfDue recordOf
-  given h = go (fits s store out (replicate 8 0)) (dueIn g n s) h
+  unfolding fetchOf reportIfDue
+  given =
+      cond-by (λ (o : FetchOutcome). ltb 0 (getD (o .report) 0 0) ≡ true → (fits s store out (replicate 8 0) ≡ true) × (dueIn g n s ≡ true)) (fits s store out (replicate 8 0)) _ _
+      (λ f. cond-by (λ (r : Report). ltb 0 (getD (recordOf r) 0 0) ≡ true → (fits s store out (replicate 8 0) ≡ true) × (dueIn g n s ≡ true)) (dueIn g n s) _ _
+      (λ d t. (f, d)) none)
+      (λ f t. absurd (not-suc-le-zero (ltb-true 0 0 t)))
     where
-      go : (a b : Bool) → ltb 0 (getD (cond a (recordOf (cond b (reportOf g ports n) noneDue)) (replicate 8 0)) 0 0) ≡ true → (a ≡ true) × (b ≡ true)
-      go true true t = (refl, refl)
-      go true false t = absurd (not-suc-le-zero (ltb-true 0 0 t))
-      go false b t = absurd (not-suc-le-zero (ltb-true 0 0 t))
+      none : dueIn g n s ≡ false → ltb 0 (getD (recordOf noneDue) 0 0) ≡ true → (fits s store out (replicate 8 0) ≡ true) × (dueIn g n s ≡ true)
+      unfolding recordOf
+      none d t = absurd (not-suc-le-zero (ltb-true 0 0 t))
 
   rows-fit : fits s store out (replicate 8 0) ≡ true → rowsFit n (length s) ≡ true
   unfolding fits fetchFits
@@ -56,11 +60,11 @@ module _ (s : List (List ℕ)) (store out : List ℕ) where
       and-left a b (and-left (a && b) c (and-left (a && b && c) (eqb 8 8) e))
 
   own-cause : ltb 0 (getD rec 0 0) ≡ true → getD rec 3 0 ≡ causeOf (g .kind) ports (sizeOf n)
-  unfolding fetchRecord reportIfDue recordOf reportOf reportBy
+  unfolding fetchOf reportIfDue recordOf reportOf reportBy
   own-cause h = let e = given h in rw (e .0, e .1) refl
 
   own-mark : ltb 0 (getD rec 0 0) ≡ true → getD rec 0 0 ≡ markOf (g .kind) (causeOf (g .kind) ports (sizeOf n))
-  unfolding fetchRecord reportIfDue recordOf reportOf reportBy
+  unfolding fetchOf reportIfDue recordOf reportOf reportBy
   own-mark h = let e = given h in rw (e .0, e .1) (mark-by-cause (g .kind) ports (sizeOf n))
 
   own-port : ltb 0 (getD rec 0 0) ≡ true → blamedIn s ≡ blamedBy ports (sizeOf n) (causeOf (g .kind) ports (sizeOf n))

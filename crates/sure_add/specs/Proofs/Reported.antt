@@ -14,7 +14,7 @@ use Rattle.packet.specs.Theorems.Tags.{mst-eight}
 use Rattle.phases.specs.Laws.Passed.{passed-of-port}
 use Rattle.phases.specs.Passing.{notedBy}
 use Rattle.phases.specs.Sizes.{portsIn}
-use Rattle.receiver.specs.Fetch.{fetchRows}
+use Rattle.receiver.specs.Fetch.{fetchOf}
 use Rattle.receiver.specs.Laws.Sizes.{size-is}
 use Rattle.receiver.specs.Laws.Told.{reply-port}
 use Rattle.receiver.specs.Report.{replyPort, replyPorts}
@@ -105,7 +105,7 @@ module _ (s : List (List ℕ)) (store out report : List ℕ) (given : Given s st
 
   -- what is left of each port
   abbrev after : List (List ℕ)
-  after = fetchRows s store out report
+  after = fetchOf s store out report .rows
 
   left : (p : ℕ) → p < n → standingIn after p ≡ (standingAt seen n p .state ∷ standingAt seen n p .number ∷ (memberAt s p .«hold_off») ∷ (memberAt s p .restore) ∷ standingAt seen n p .elapsed ∷ [])
   left p b = report-standing p s store out report given b ∙ rw (size-is n few) refl

@@ -22,11 +22,11 @@ use Rattle.packet.specs.Theorems.Tags.{first-of}
 use Rattle.packet.specs.Words.{IDLE}
 use Rattle.phases.specs.Passing.{passedOf}
 use Rattle.phases.specs.Sizes.{portsIn}
-use Rattle.receiver.specs.Fetch.{dueIn, fetchAnswer, fits}
+use Rattle.receiver.specs.Fetch.{dueIn}
 use Rattle.receiver.specs.Laws.Fresh.{started-port}
 use Rattle.receiver.specs.Report.{replyPort, replyPorts}
 use Rattle.receiver.specs.Shown.{replyOf}
-use Rattle.receiver.specs.Frame.{frameRows}
+use Rattle.receiver.specs.Frame.{frameOf}
 use Rattle.receiver.specs.Starting.{freshPorts, groupWith, sizedFits, sizedRows, startAsRows, startFits, startRight}
 use Rattle.reply.specs.Reports.{Undisputed}
 use Rattle.reply.specs.Theorems.Undisputed.{ok-at-once}
@@ -78,7 +78,7 @@ use Rattle.link.specs.Proofs.Standing.{Before, Later, Lined}
 use Rattle.link.specs.Proofs.Transport.Call.{ports-are}
 use Rattle.link.specs.Proofs.Transport.Due.{AllCome, all-read, brought-all, first-all}
 use Rattle.link.specs.Proofs.Transport.EachCall.{calls-do}
-use Rattle.link.specs.Proofs.Transport.Fetches.{fetch-answered}
+use Rattle.link.specs.Proofs.Transport.Fetches.{fits-now}
 use Rattle.link.specs.Proofs.Transport.Passed.{PassedTo, open-passed, passed-to, ruling-now}
 use Rattle.link.specs.Proofs.Transport.Start.{start}
 use Rattle.link.specs.Proofs.Transport.Times.{CallsDo, along}
@@ -91,10 +91,6 @@ use Rattle.sure_add.specs.Proofs.Reported.{left-state, left-under, mst-i
 pub empty : {A : Type 0} (l : List A) → length l ≡ 0 → l ≡ []
 empty [] e = refl
 empty (x ∷ l) e = absurd (omega arith)
-
-fits-by : (b : Bool) → _≡_ {A = ℕ} (cond b 0 9) 0 → b ≡ true
-fits-by true e = refl
-fits-by false e = absurd (let z : _≡_ {A = ℕ} 9 0 = e in omega arith)
 
 -- A report that is fetched on a road where every port has brought the epoch, as it hears each port.
 module _ (r : Road) (f : Fair r) (m : Moment) (coming : ℕ → ℕ) (from i : ℕ) (o : Later r m coming from i) (all : AllCome r coming (suc i)) where
@@ -114,10 +110,10 @@ module _ (r : Road) (f : Fair r) (m : Moment) (coming : ℕ → ℕ) (from i : �
   enough = rw ports-is (let l = o .open-at .lined .rows-long in omega arith)
 
   given : Given (m .rows) (m .store) (outputAt r m) (lentAt r m)
-  unfolding dueIn fetchAnswer
+  unfolding dueIn
   given =
       record {
-        fitting = fits-by (fits (m .rows) (m .store) (outputAt r m) (lentAt r m)) (fetch-answered r f m (o .open-at .lined));
+        fitting = fits-now r f m (o .open-at .lined);
         due = rw (ports-is, brought-all r f m coming (suc i) (o .open-at) all, lt-ltb 0 (r .ports) (sizes-in r f .some-ports), o .open-at .begun, o .gathered) refl;
       }
 
@@ -362,13 +358,13 @@ module _ (k : Link) (a : Assumed k) (as-sent : AsSent k) where
               record { ok = λ p c t. state p ∙ v .ok p c t; under = λ p c t. number p ∙ v .under p c t; idle = λ p c t. state p ∙ v .idle p c t });
         }
       where
-        kept : (p : ℕ) → standingIn (frameRows (m .rows) q false (r .h4 q x) (r .bytes q x) (m .store)) p ≡ standingIn (m .rows) p
+        kept : (p : ℕ) → standingIn (frameOf (m .rows) q false (r .h4 q x) (r .bytes q x) (m .store) .rows) p ≡ standingIn (m .rows) p
         kept p = frame-standing p (m .rows) q false (r .h4 q x) (r .bytes q x) (m .store)
 
-        state : (p : ℕ) → memberAt (frameRows (m .rows) q false (r .h4 q x) (r .bytes q x) (m .store)) p .state ≡ memberAt (m .rows) p .state
+        state : (p : ℕ) → memberAt (frameOf (m .rows) q false (r .h4 q x) (r .bytes q x) (m .store) .rows) p .state ≡ memberAt (m .rows) p .state
         state p = ap (λ (l : List ℕ). getD l 0 0) (kept p)
 
-        number : (p : ℕ) → memberAt (frameRows (m .rows) q false (r .h4 q x) (r .bytes q x) (m .store)) p .«state_number» ≡ memberAt (m .rows) p .«state_number»
+        number : (p : ℕ) → memberAt (frameOf (m .rows) q false (r .h4 q x) (r .bytes q x) (m .store) .rows) p .«state_number» ≡ memberAt (m .rows) p .«state_number»
         number p = ap (λ (l : List ℕ). getD l 1 0) (kept p)
 
     one-more : (m : Moment) → length (fetched r m .told) ≡ length (m .told) + 1

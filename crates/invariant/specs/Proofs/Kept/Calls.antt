@@ -1,19 +1,19 @@
 -- What holds after a frame, and after a fetch.
 use mathlib.Core.Path.{_≡_, refl, ap, _∙_}
-use mathlib.Core.Bool.{Bool, true, cond, not, _&&_}
+use mathlib.Core.Bool.{Bool, true, not, _&&_}
 use mathlib.Core.List.{List}
 use Prim.Native.Nat.{ℕ, _≤_, _<_}
 use native.Mathlib.Omega.{arith}
-use lib.Dec.{eqb, ltb}
+use lib.Dec.{ltb}
 use lib.ListN.{length}
-use borrow.Author.Tests.{eqb-true, ltb-true}
+use borrow.Author.Tests.{ltb-true}
 use Rattle.invariant.specs.Kept.Group.{Kept, Lasting}
 use Rattle.invariant.specs.Proofs.Kept.Settling.{SteadyOf, steady-settled}
 use Rattle.invariant.specs.Proofs.Kept.Told.{lasting-told}
 use Rattle.invariant.specs.Proofs.Kept.WithinCall.{lasting-frame, lasting-passed}
 use Rattle.invariant.specs.Proofs.Settles.{settles-always}
 use Rattle.counting.specs.Laws.Tests.{every-ext}
-use Rattle.ground.specs.Truth.{and-left, and-right, clash, cond-by}
+use Rattle.ground.specs.Truth.{and-left, and-right, clash}
 use Rattle.judge.specs.Seen.{sizeOf}
 use Rattle.phases.specs.Due.{brought, silent}
 use Rattle.phases.specs.Laws.Lengths.{length-passed}
@@ -22,10 +22,11 @@ use Rattle.phases.specs.Passing.{passedGroup, passedOf}
 use Rattle.phases.specs.Settling.{Settled, settledOf}
 use Rattle.phases.specs.Sizes.{portsIn}
 use Rattle.phases.specs.Theorems.Settled.{passed-begun, passed-silent, settled}
-use Rattle.receiver.specs.Fetch.{dueIn, fetchRows, fits, rowsIfDue}
-use Rattle.receiver.specs.Frame.{frameRefusal, frameRows, portRows, settledBy, storeBy, takenIn, takenRows}
+use Rattle.receiver.specs.Fetch.{dueIn, fetchOf}
+use Rattle.receiver.specs.Frame.{FrameOutcome, frameOf, portRows, settledBy, storeBy, takenIn}
 use Rattle.receiver.specs.Laws.Answers.{unrefused}
 use Rattle.receiver.specs.Laws.Frames.{frame-group}
+use Rattle.receiver.specs.Laws.Outcomes.{fetch-cases, frame-cases}
 use Rattle.receiver.specs.Laws.Passed.{passed-count, passed-gathered}
 use Rattle.receiver.specs.Laws.Sizes.{ports-are}
 use Rattle.receiver.specs.Laws.Told.{told-group, told-step, withAck}
@@ -62,18 +63,13 @@ module _ (s : List (List ℕ)) (k : Kept s) where
       let l : rowsFor n ≤ length a = (let e = ka .lasting .rows in let c = ka .count in omega arith) in
       rw (settles-always s k i failed h b store) (kept-of n (settledOf n store a) (steady-settled n store a ka) (settled n store a l))
 
-  pub frame-kept : (i : ℕ) (failed : Bool) (h : ℕ) (payload store : List ℕ) → Kept (frameRows s i failed h payload store)
-  unfolding frameRows takenRows
+  pub frame-kept : (i : ℕ) (failed : Bool) (h : ℕ) (payload store : List ℕ) → Kept (frameOf s i failed h payload store .rows)
   frame-kept i failed h payload store =
       let t : Taken = takenIn s i failed h in
-      let after : List (List ℕ) = settledBy (t .settles) (portsIn g) (storeBy g i t h payload store) (portRows (g .kind) s i t h) in
-      cond-by Kept (eqb (frameRefusal s i (length payload) (length store)) 0) (cond (eqb (t .answer) 11) s after) s
-      (λ e.
-      cond-by Kept (eqb (t .answer) 11) s after (λ f. k)
-      (λ f.
-      let o = unrefused g (portsIn g) i (length s) (length payload) (length store) (eqb-true (frameRefusal s i (length payload) (length store)) 0 e) in
-      rw ports (taken-kept i failed h (storeBy g i t h payload store) (rw ports at (o .port)))))
-      (λ e. k)
+      frame-cases s i failed h payload store (λ (o : FrameOutcome). Kept (o .rows)) (λ e. k) (λ e f. k)
+      (λ e f.
+      let o = unrefused g (portsIn g) i (length s) (length payload) (length store) e in
+      rw ports (taken-kept i failed h (storeBy g i t h payload store) (rw ports at (o .port))))
 
 ack-readable : (g : Group) (ack : ℕ) (q : Step) → readable (withAck g ack) q ≡ readable g q
 unfolding readable inStep
@@ -161,14 +157,9 @@ due-says g n s e =
       brought = and-right (a && b && c) (brought g s n) e;
     }
 
-pub fetch-kept : (s : List (List ℕ)) → Kept s → (store out report : List ℕ) → Kept (fetchRows s store out report)
-unfolding fetchRows rowsIfDue
+pub fetch-kept : (s : List (List ℕ)) → Kept s → (store out report : List ℕ) → Kept (fetchOf s store out report .rows)
 fetch-kept s k store out report =
-    cond-by Kept (fits s store out report) (cond (dueIn g (portsIn g) s) (reportedOf g store (portsIn g) s) s) s
-    (λ e.
-    cond-by Kept (dueIn g (portsIn g) s) (reportedOf g store (portsIn g) s) s
-    (λ d. rw ports (let o = due-says g (groupAt s .count) s (rw ports at d) in reported-kept s k store (o .begun) (o .brought))) (λ d. k))
-    (λ e. k)
+    fetch-cases s store out report Kept k (λ e d. rw ports (let o = due-says g (groupAt s .count) s (rw ports at d) in reported-kept s k store (o .begun) (o .brought)))
   where
     g : Group
     g = groupAt s

@@ -7,7 +7,7 @@ use Prim.Native.Nat.{ℕ, _≤_, _<_}
 use native.Mathlib.Omega.{arith}
 use lib.Dec.{eqb, ltb}
 use lib.ListN.{getD, length}
-use borrow.Author.Tests.{eq-eqb, eqb-false, eqb-true, ne-eqb}
+use borrow.Author.Tests.{eq-eqb, ne-eqb}
 use Rattle.ground.specs.Truth.{cond-by, eq-or-ne}
 use Rattle.invariant.specs.Calls.{Fetch, Frame, Receiver, ReceiverCall, portAfter, receiverAfter, receiverRun, startedWith, storeAfter}
 use Rattle.invariant.specs.Kept.Group.{Kept}
@@ -28,12 +28,13 @@ use Rattle.phases.specs.Laws.Passed.{passed-of-port, passedOn}
 use Rattle.phases.specs.Passing.{passedOf, passedStep}
 use Rattle.phases.specs.Settling.{clearedStep, settledOf, stoppedOf}
 use Rattle.phases.specs.Sizes.{portsIn}
-use Rattle.receiver.specs.Fetch.{dueIn, fetchRows, fits, rowsIfDue}
-use Rattle.receiver.specs.Frame.{frameAnswer, frameRefusal, frameRows, oddIn, refusalBy, settledBy, takenIn, takenRows}
+use Rattle.receiver.specs.Fetch.{fetchOf}
+use Rattle.receiver.specs.Frame.{FrameOutcome, frameOf, frameRefusal, oddIn, refusalBy, settledBy, takenIn}
 use Rattle.receiver.specs.Lengths.{frameFits}
 use Rattle.receiver.specs.Laws.Answers.{unrefused}
 use Rattle.receiver.specs.Laws.Frames.{frame-gathering, frame-other, frame-port, length-frame}
 use Rattle.receiver.specs.Laws.Fresh.{started-port}
+use Rattle.receiver.specs.Laws.Outcomes.{fetch-cases, frame-cases}
 use Rattle.receiver.specs.Laws.Sizes.{ports-are}
 use Rattle.receiver.specs.Laws.Told.{told-of-port}
 use Rattle.receiver.specs.Report.{reportedOf}
@@ -98,10 +99,6 @@ module _ (n : ℕ) (store : List ℕ) (a : List (List ℕ)) (j : ℕ) (c : j < n
       let p : List (List ℕ) = passedOf (groupAt a) store n a in
       let l : rowsFor n ≤ length p = rw (length-passed (groupAt a) store n a) long in
       rw (told-of-port (groupAt p) n p j c l, passed-of-port (groupAt a) store n a j c long) (passed-same (groupAt a) store j (portAt a j))
-
-by-said : (P : List (List ℕ) → ℕ → Type 0) (b : Bool) (x y : List (List ℕ)) (v w : ℕ) → (b ≡ true → P x v) → (b ≡ false → P y w) → P (cond b x y) (cond b v w)
-by-said P true x y v w p q = p refl
-by-said P false x y v w p q = q refl
 
 unheard : (b c : Bool) → c ≡ false → (b && c) ≡ false
 unheard true c e = e
@@ -173,14 +170,14 @@ module _ (None : Type 0) (s : List (List ℕ)) (k : Kept s) (i : ℕ) (failed : 
       (λ (d : j ≢ i). rw (ne-eqb i j (λ (e : i ≡ j). d (sym e)), frame-other kind s i t h j d) live)
       (eq-or-ne j i)
 
-  said : eqb (frameRefusal s i (length payload) (length store)) 0 ≡ true → eqb (t .answer) 11 ≡ false
+  said : frameRefusal s i (length payload) (length store) ≡ 0 → t .answer ≢ 11
       → Now (settledBy (t .settles) (portsIn (groupAt s)) (storeAfter s i failed h payload store) a) (t .answer)
   unfolding settledBy
   said e f =
       let ports : portsIn (groupAt s) ≡ n = ports-are (groupAt s) (k .lasting .group .sizes) in
-      let o = unrefused (groupAt s) (portsIn (groupAt s)) i (length s) (length payload) (length store) (eqb-true (frameRefusal s i (length payload) (length store)) 0 e) in
+      let o = unrefused (groupAt s) (portsIn (groupAt s)) i (length s) (length payload) (length store) e in
       let b : i < n = rw ports at (o .port) in
-      let now : Now a (t .answer) = after b (eqb-false (t .answer) 11 f) in
+      let now : Now a (t .answer) = after b f in
       let long : rowsFor n ≤ length a = rw (length-frame kind s i t h) enough in
       let st : List ℕ = storeAfter s i failed h payload store in
       rw ports
@@ -188,30 +185,18 @@ module _ (None : Type 0) (s : List (List ℕ)) (k : Kept s) (i : ℕ) (failed : 
       (λ q. live-same None kind (portAt a j) (portAt (settledOf n st a) j) (cond (eqb i j && isHeard (t .answer)) (h ∷ heard) heard) (settled-same n st a j c long) now)
       (λ q. now))
 
-  frame-live : Now (frameRows s i failed h payload store) (frameAnswer s i failed h (length payload) (length store))
-  unfolding frameRows frameAnswer takenRows
+  frame-live : Now (frameOf s i failed h payload store .rows) (frameOf s i failed h payload store .answer)
   frame-live =
-      let refusal : ℕ = frameRefusal s i (length payload) (length store) in
-      let rest : List (List ℕ) = settledBy (t .settles) (portsIn (groupAt s)) (storeAfter s i failed h payload store) a in
-      by-said Now (eqb refusal 0) (cond (eqb (t .answer) 11) s rest) s (t .answer) refusal
+      frame-cases s i failed h payload store (λ (o : FrameOutcome). Now (o .rows) (o .answer))
       (λ e.
-      cond-by (λ (r : List (List ℕ)). Now r (t .answer)) (eqb (t .answer) 11) s rest
-      (λ f. stays (t .answer) (rw (eqb-true (t .answer) 11 f) refl)) (λ f. said e f))
-      (λ e. stays refusal (refusal-unheard (groupAt s) (portsIn (groupAt s)) i (length s) (length payload) (length store) e))
+      stays (frameRefusal s i (length payload) (length store)) (refusal-unheard (groupAt s) (portsIn (groupAt s)) i (length s) (length payload) (length store) e))
+      (λ e f. stays (t .answer) (rw f refl)) said
 
 fetch-live : (None : Type 0) (s : List (List ℕ)) → Kept s → (store out report : List ℕ) (j : ℕ) → j < groupAt s .count → (heard : List ℕ) → LivePort None (groupAt s .kind) (portAt s j) heard
-    → LivePort None (groupAt s .kind) (portAt (fetchRows s store out report) j) heard
-unfolding fetchRows rowsIfDue
+    → LivePort None (groupAt s .kind) (portAt (fetchOf s store out report .rows) j) heard
 fetch-live None s k store out report j c heard live =
-    cond-by Now (fits s store out report) (cond (dueIn g (portsIn g) s) (reportedOf g store (portsIn g) s) s) s
-    (λ e. cond-by Now (dueIn g (portsIn g) s) (reportedOf g store (portsIn g) s) s (λ d. rw ports reported) (λ d. live)) (λ e. live)
+    fetch-cases s store out report (λ r. LivePort None (groupAt s .kind) (portAt r j) heard) live (λ e d. rw ports reported)
   where
-    g : Group
-    g = groupAt s
-
-    Now : List (List ℕ) → Type 0
-    Now r = LivePort None (groupAt s .kind) (portAt r j) heard
-
     ports : portsIn (groupAt s) ≡ groupAt s .count
     ports = ports-are (groupAt s) (k .lasting .group .sizes)
 

@@ -5,7 +5,6 @@ use mathlib.Core.Bool.{Bool, true, false, cond, not, true≢false}
 use mathlib.Core.List.{List, [], _∷_}
 use Prim.Native.Nat.{ℕ, suc, _<_}
 use native.Mathlib.Omega.{arith}
-use lib.Dec.{eqb}
 use lib.ListN.{getD, length}
 use borrow.Author.Tests.{ne-eqb}
 use Rattle.ground.specs.Truth.{and-left, clash}
@@ -25,7 +24,8 @@ use Rattle.packet.specs.Kinds.{tagAfter}
 use Rattle.packet.specs.Laws.Back.{before-after}
 use Rattle.packet.specs.Laws.Counting.{counts-h4}
 use Rattle.phases.specs.Sizes.{portsIn}
-use Rattle.receiver.specs.Frame.{frameAnswer, frameRefusal, takenIn}
+use Rattle.receiver.specs.Frame.{FrameOutcome, frameOf, frameRefusal, takenIn}
+use Rattle.receiver.specs.Laws.Outcomes.{frame-cases}
 use Rattle.receiver.specs.Starting.{groupWith, startAsAnswer}
 use Rattle.rows.specs.declared.group.Group.{Group}
 use Rattle.rows.specs.declared.step.Step.{Step}
@@ -158,27 +158,20 @@ module _ (kind count P W : ℕ) (hold restore : List ℕ) (rows : List (List ℕ
   recorded on = record { breaks = said .breaks-are on; odd = said .odd-is on }
 
   module _ (on : inStepAt kind (port .step .count) ≡ true) (h : ℕ) (payload : List ℕ)
-      (frame : isHeard (frameAnswer (x .rows) j false h (length payload) (length (x .store))) ≡ true) where
+      (frame : isHeard (frameOf (x .rows) j false h payload (x .store) .answer) ≡ true) where
     abbrev s : Step
     s = stepAt (x .rows) j
 
     abbrev answer : ℕ
-    answer = frameAnswer (x .rows) j false h (length payload) (length (x .store))
+    answer = frameOf (x .rows) j false h payload (x .store) .answer
 
-    taken : frameAnswer (x .rows) j false h (length payload) (length (x .store)) ≡ takenIn (x .rows) j false h .answer
-    unfolding frameAnswer
-    taken = go (eqb refusal 0) refl frame
-      where
-        refusal : ℕ
-        refusal = frameRefusal (x .rows) j (length payload) (length (x .store))
-
-        go : (q : Bool) → eqb (frameRefusal (x .rows) j (length payload) (length (x .store))) 0 ≡ q
-            → isHeard (cond q (takenIn (x .rows) j false h .answer) (frameRefusal (x .rows) j (length payload) (length (x .store)))) ≡ true
-            → cond q (takenIn (x .rows) j false h .answer) (frameRefusal (x .rows) j (length payload) (length (x .store))) ≡ takenIn (x .rows) j false h .answer
-        go true q z = refl
-        go false q z =
-            clash (isHeard (frameRefusal (x .rows) j (length payload) (length (x .store)))) z
-            (refusal-unheard (groupAt (x .rows)) (portsIn (groupAt (x .rows))) j (length (x .rows)) (length payload) (length (x .store)) q)
+    taken : frameOf (x .rows) j false h payload (x .store) .answer ≡ takenIn (x .rows) j false h .answer
+    taken =
+        frame-cases (x .rows) j false h payload (x .store) (λ (o : FrameOutcome). isHeard (o .answer) ≡ true → o .answer ≡ takenIn (x .rows) j false h .answer)
+        (λ q z.
+        clash (isHeard (frameRefusal (x .rows) j (length payload) (length (x .store)))) z
+        (refusal-unheard (groupAt (x .rows)) (portsIn (groupAt (x .rows))) j (length (x .rows)) (length payload) (length (x .store)) q))
+        (λ e f z. refl) (λ e f z. refl) frame
 
     here : j < groupAt (x .rows) .count
     here = rw count-is b
@@ -195,6 +188,6 @@ module _ (kind count P W : ℕ) (hold restore : List ℕ) (rows : List (List ℕ
         (rule (groupAt (x .rows)) (stepAt (x .rows) j) (getD (packetsAt (x .rows) j) 0 []) heard h (rw kind-is clock) (kept .lasting .ports j here .kept .run)
         (rw kind-is (stands kind count P W hold restore rows store e calls j b .live)) (rw kind-is on) (rw kind-is said))
 
-    pub lost-heard : (frameAnswer (x .rows) j false h (length payload) (length (x .store)) ≡ 12 → Fourth kind (port .step .next) h heard ⊎ Second kind (port .step .next) h heard)
-        × (Fourth kind (port .step .next) h heard ⊎ Second kind (port .step .next) h heard → frameAnswer (x .rows) j false h (length payload) (length (x .store)) ≡ 12)
+    pub lost-heard : (frameOf (x .rows) j false h payload (x .store) .answer ≡ 12 → Fourth kind (port .step .next) h heard ⊎ Second kind (port .step .next) h heard)
+        × (Fourth kind (port .step .next) h heard ⊎ Second kind (port .step .next) h heard → frameOf (x .rows) j false h payload (x .store) .answer ≡ 12)
     lost-heard = (λ z. by-rule .0 (sym taken ∙ z), λ w. taken ∙ by-rule .1 w)

@@ -6,7 +6,7 @@ use mathlib.Core.List.{List, [], _∷_}
 use Prim.Native.Nat.{ℕ, _+_, _≤_, _<_}
 use native.Mathlib.Omega.{arith}
 use lib.ListN.{getD, length}
-use Rattle.ground.specs.Truth.{cond-by, eq-or-ne}
+use Rattle.ground.specs.Truth.{eq-or-ne}
 use Rattle.invariant.specs.Calls.{Fetch, Frame, Receiver, ReceiverCall, portAfter, receiverAfter, receiverRun, startedWith, storeAfter}
 use Rattle.invariant.specs.Claims.{tagIn}
 use Rattle.invariant.specs.Kept.Group.{Kept, Lasting}
@@ -34,9 +34,10 @@ use Rattle.phases.specs.Laws.Passed.{passed-group, passed-of-port}
 use Rattle.phases.specs.Passing.{passedGroup, passedOf}
 use Rattle.phases.specs.Settling.{settledOf, stoppedOf}
 use Rattle.phases.specs.Sizes.{portsIn, storeFor}
-use Rattle.receiver.specs.Fetch.{dueIn, fetchRows, fits, rowsIfDue}
-use Rattle.receiver.specs.Frame.{frameRows, frameStore, marksBy, oddIn, storeBy, takenIn}
+use Rattle.receiver.specs.Fetch.{dueIn, fetchOf}
+use Rattle.receiver.specs.Frame.{frameOf, marksBy, oddIn, storeBy, takenIn}
 use Rattle.receiver.specs.Laws.Frames.{frame-other, frame-port, frameOn}
+use Rattle.receiver.specs.Laws.Outcomes.{fetch-cases}
 use Rattle.receiver.specs.Laws.Passed.{cleared-joined, cleared-whole, passed-kind, passed-oldest, passed-origin, passed-payload, passed-window, step-whole}
 use Rattle.receiver.specs.Laws.Sizes.{ports-are}
 use Rattle.receiver.specs.Laws.Told.{told-group, told-of-port, withAck}
@@ -219,20 +220,15 @@ module _ (s : List (List ℕ)) (k : Kept s) (i : ℕ) (failed : Bool) (h : ℕ) 
       rw (begun-port (groupAt z) n z j b (rw (length-stopped (groupAt a) n a) (o .long))) (cleared-numbered _ (groupAt z) true (portAt z j) _))
 
 frame-numbered : (s : List (List ℕ)) → Kept s → (i : ℕ) (failed : Bool) (h : ℕ) (payload store : List ℕ) (j : ℕ) → j < groupAt s .count → NumberedIn s store j
-    → NumberedIn (frameRows s i failed h payload store) (frameStore s i failed h payload store) j
+    → NumberedIn (frameOf s i failed h payload store .rows) (frameOf s i failed h payload store .store) j
 frame-numbered s k i failed h payload store j b was =
     frame-by (λ (r : List (List ℕ)) (m : List ℕ). NumberedIn r m j) s k i failed h payload store was (λ o. settled-numbered s k i failed h payload store o j b was)
 
-fetch-numbered : (s : List (List ℕ)) → Kept s → (store out report : List ℕ) (j : ℕ) → j < groupAt s .count → NumberedIn s store j → NumberedIn (fetchRows s store out report) store j
-unfolding fetchRows rowsIfDue reportedOf
+fetch-numbered : (s : List (List ℕ)) → Kept s → (store out report : List ℕ) (j : ℕ) → j < groupAt s .count → NumberedIn s store j → NumberedIn (fetchOf s store out report .rows) store j
+unfolding reportedOf
 fetch-numbered s k store out report j b was =
-    cond-by On (fits s store out report) (cond (dueIn (groupAt s) (portsIn (groupAt s)) s) (reportedOf (groupAt s) store (portsIn (groupAt s)) s) s) s
-    (λ e. cond-by On (dueIn (groupAt s) (portsIn (groupAt s)) s) (reportedOf (groupAt s) store (portsIn (groupAt s)) s) s (λ d. rw ports (reported (rw ports at d))) (λ d. was))
-    (λ e. was)
+    fetch-cases s store out report (λ r. NumberedIn r store j) was (λ e d. rw ports (reported (rw ports at d)))
   where
-    On : List (List ℕ) → Type 0
-    On r = NumberedIn r store j
-
     n : ℕ
     n = groupAt s .count
 

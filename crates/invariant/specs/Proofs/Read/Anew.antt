@@ -6,7 +6,6 @@ use mathlib.Core.List.{List, [], _∷_, _++_}
 use Prim.Native.Nat.{ℕ, zero, suc, _*_, _≤_, _<_}
 use native.Mathlib.Nat.{not-suc-le-zero}
 use native.Mathlib.Omega.{arith}
-use lib.Dec.{eqb}
 use lib.ListN.{length, replicate}
 use borrow.Author.Tests.{lt-leb}
 use Rattle.counting.specs.Laws.Tests.{every-all}
@@ -22,9 +21,10 @@ use Rattle.phases.specs.Passing.{passedStep}
 use Rattle.phases.specs.Settling.{clearedStep, settledOf, stoppedOf}
 use Rattle.phases.specs.Sizes.{portsIn}
 use Rattle.receiver.specs.Anew.{anewAnswer, anewFits, anewRows, flaggedRows}
-use Rattle.receiver.specs.Frame.{frameRefusal, frameRows, frameStore, portRows, settledBy, storeBy, takenStore}
+use Rattle.receiver.specs.Frame.{FrameOutcome, frameOf, portRows, settledBy, storeBy}
 use Rattle.receiver.specs.Laws.Anew.{anew-fits, flagged-rows, flaggedPort, flaggedPorts, length-flagged-ports, ports-sizes, same-ports}
 use Rattle.receiver.specs.Laws.Frames.{frame-other, frame-port, length-frame}
+use Rattle.receiver.specs.Laws.Outcomes.{frame-cases}
 use Rattle.receiver.specs.Laws.Sizes.{ports-are}
 use Rattle.rows.specs.declared.group.Group.{Group}
 use Rattle.rows.specs.declared.step.Step.{Step}
@@ -47,13 +47,9 @@ use Rattle.invariant.specs.Reports.{ackIn}
 use Rattle.invariant.specs.Times.{standingIn}
 
 -- A flagged frame leaves the store.
-store-left : (s : List (List ℕ)) (i h : ℕ) (payload store : List ℕ) → frameStore s i true h payload store ≡ store
-unfolding frameStore takenStore storeBy takenOf flagged
-store-left s i h payload store = go (eqb (frameRefusal s i (length payload) (length store)) 0)
-  where
-    go : (b : Bool) → cond b store store ≡ store
-    go true = refl
-    go false = refl
+store-left : (s : List (List ℕ)) (i h : ℕ) (payload store : List ℕ) → frameOf s i true h payload store .store ≡ store
+unfolding storeBy takenOf flagged
+store-left s i h payload store = frame-cases s i true h payload store (λ (o : FrameOutcome). o .store ≡ store) (λ e. refl) (λ e f. refl) (λ e f. refl)
 
 run-append : (x : Receiver) (a b : List ReceiverCall) → receiverRun x (a ++ b) ≡ receiverRun (receiverRun x a) b
 run-append x [] b = refl
@@ -66,7 +62,7 @@ flagged-run x P (suc n) =
     let rest = flagged-run x P n in
     run-append x (flagCalls P n) (Frame n true 0 (replicate P 0) ∷ [])
     ∙ ap (λ (y : Receiver). receiverAfter y (Frame n true 0 (replicate P 0))) rest
-    ∙ (λ i. record { rows = frameRows (flaggedRows P (x .store) n (x .rows)) n true 0 (replicate P 0) (x .store); store = store-left (flaggedRows P (x .store) n (x .rows)) n 0 (replicate P 0) (x .store) i })
+    ∙ (λ i. record { rows = frameOf (flaggedRows P (x .store) n (x .rows)) n true 0 (replicate P 0) (x .store) .rows; store = store-left (flaggedRows P (x .store) n (x .rows)) n 0 (replicate P 0) (x .store) i })
 
 pub anew-run : (s : List (List ℕ)) (store : List ℕ) → anewAnswer s (length store) ≡ 0
     → receiverRun (record { rows = s; store = store }) (flagCalls (groupAt s .payload) (portsIn (groupAt s))) .rows ≡ anewRows s store

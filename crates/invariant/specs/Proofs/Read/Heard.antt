@@ -13,7 +13,7 @@ use Rattle.ground.specs.Truth.{and-left, and-right}
 use Rattle.packet.specs.Ruling.{fieldsIn}
 use Rattle.packet.specs.Theorems.Tags.{before-first}
 use Rattle.phases.specs.Sizes.{portsIn}
-use Rattle.receiver.specs.Fetch.{fetchRows, reportIfDue}
+use Rattle.receiver.specs.Fetch.{fetchOf, reportIfDue}
 use Rattle.receiver.specs.Heard.{goodAt, heardOf, lowest, saidAt, silence}
 use Rattle.receiver.specs.Laws.Carried.{carried-epoch, seen-good}
 use Rattle.receiver.specs.Laws.Heard.{heard-none, lowest-holds, lowest-least}
@@ -94,7 +94,7 @@ module _ (kind count P W : ℕ) (hold restore : List ℕ) (rows : List (List ℕ
       go (nothing none is) = absurd (let z : getD (heardOf g now (portsIn g)) 0 0 ≡ 0 = ap (λ (l : List ℕ). getD l 0 0) is in omega arith)
 
   -- after a report it is the epoch of the report
-  pub heard-reported : (out report : List ℕ) → Given now (x .store) out report → rulingEpoch (groupAt (fetchRows now (x .store) out report)) ≡ reportIfDue g (portsIn g) now .epoch
+  pub heard-reported : (out report : List ℕ) → Given now (x .store) out report → rulingEpoch (groupAt (fetchOf now (x .store) out report .rows)) ≡ reportIfDue g (portsIn g) now .epoch
   unfolding rulingEpoch reportIfDue reportOf reportBy
   heard-reported out report o =
       rw (fetch-group now (x .store) out report o, passed-kind g, passed-oldest g, o .due) (before-first (g .kind) (g .oldest) (now-kept .lasting .group .oldest))

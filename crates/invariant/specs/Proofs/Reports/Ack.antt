@@ -15,8 +15,8 @@ use Rattle.phases.specs.Laws.Lengths.{length-stopped}
 use Rattle.phases.specs.Laws.Passed.{passed-group}
 use Rattle.phases.specs.Settling.{stoppedOf}
 use Rattle.phases.specs.Sizes.{portsIn}
-use Rattle.receiver.specs.Fetch.{dueIn, fetchRows, fits}
-use Rattle.receiver.specs.Frame.{frameRows}
+use Rattle.receiver.specs.Fetch.{dueIn, fetchOf, fits}
+use Rattle.receiver.specs.Frame.{frameOf}
 use Rattle.receiver.specs.Laws.Passed.{passed-ack}
 use Rattle.receiver.specs.Laws.Sizes.{size-is}
 use Rattle.receiver.specs.Laws.Told.{reply-port}
@@ -31,7 +31,7 @@ use Rattle.invariant.specs.Calls.{portAfter, storeAfter}
 use Rattle.invariant.specs.Reports.{Given, ackIn, passedRows, portSeen, reportPorts}
 
 -- no frame changes it
-pub frame-ack : (s : List (List ℕ)) (i : ℕ) (failed : Bool) (h : ℕ) (payload store : List ℕ) → ackIn (frameRows s i failed h payload store) ≡ ackIn s
+pub frame-ack : (s : List (List ℕ)) (i : ℕ) (failed : Bool) (h : ℕ) (payload store : List ℕ) → ackIn (frameOf s i failed h payload store .rows) ≡ ackIn s
 frame-ack s i failed h payload store =
     frame-any (λ (r : List (List ℕ)). ackIn r ≡ ackIn s) s i failed h payload store refl
     (λ e f. ap (λ (g : Group). g .«rs_ack») same)
@@ -62,12 +62,12 @@ frame-ack s i failed h payload store =
 
 -- nor does a fetch with none due
 pub none-ack : (s : List (List ℕ)) (store out report : List ℕ) → (fits s store out report && dueIn (groupAt s) (portsIn (groupAt s)) s) ≡ false
-    → ackIn (fetchRows s store out report) ≡ ackIn s
+    → ackIn (fetchOf s store out report .rows) ≡ ackIn s
 none-ack s store out report e = ap ackIn (fetch-none s store out report e)
 
 -- a report: as the good packets up to its epoch's own say
 pub report-ack : (s : List (List ℕ)) (store out report : List ℕ) → Given s store out report
-    → ackIn (fetchRows s store out report) ≡ ackOf (reportPorts s store) (portsIn (groupAt s)) (ackIn s)
+    → ackIn (fetchOf s store out report .rows) ≡ ackOf (reportPorts s store) (portsIn (groupAt s)) (ackIn s)
 report-ack s store out report o =
     ap (λ (g : Group). g .«rs_ack») (fetch-group s store out report o)
     ∙ ap (λ (n : ℕ). ackOf (reportPorts s store) n (ackIn s)) (size-is (portsIn (groupAt s)) (ports-at-most-64 (groupAt s)))
@@ -83,7 +83,7 @@ report-port s store i b =
 
 -- it stays, or turns over once
 pub report-turns : (s : List (List ℕ)) (store out report : List ℕ) → Given s store out report → ackIn s ≤ 1
-    → (ackIn (fetchRows s store out report) ≡ ackIn s) ⊎ (ackIn (fetchRows s store out report) ≡ 1 - ackIn s)
+    → (ackIn (fetchOf s store out report .rows) ≡ ackIn s) ⊎ (ackIn (fetchOf s store out report .rows) ≡ 1 - ackIn s)
 report-turns s store out report o b =
     ⊎-elim (λ (t : turns ports n ≡ true). inr (report-ack s store out report o ∙ ack-turned ports n (ackIn s) t b))
     (λ (t : turns ports n ≡ false). inl (report-ack s store out report o ∙ ack-kept ports n (ackIn s) t))

@@ -12,7 +12,7 @@ use Rattle.judge.specs.Theorems.Cause.{mark-by-cause}
 use Rattle.judge.specs.Verdict.{judgeOf}
 use Rattle.phases.specs.Sizes.{portsIn, storeFor}
 use Rattle.receiver.specs.Cause.{causeFit, causeIn, causeOut}
-use Rattle.receiver.specs.Fetch.{dueIn, fetchRecord, fits, recordOf, reportIfDue}
+use Rattle.receiver.specs.Fetch.{dueIn, fetchOf, fits, recordOf, reportIfDue}
 use Rattle.receiver.specs.Laws.Sizes.{size-is}
 use Rattle.receiver.specs.Lengths.{fetchFits, outputFor, rowsFit}
 use Rattle.receiver.specs.Report.{reportBy, reportOf, seenAll}
@@ -21,23 +21,23 @@ use Rattle.invariant.specs.Reports.{Given}
 
 module _ (s : List (List ℕ)) (store out report : List ℕ) where
   pub report-cause : Given s store out report
-      → getD (fetchRecord s store out report) 3 0 ≡ causeOf (groupAt s .kind) (seenAll (groupAt s) s (portsIn (groupAt s))) (portsIn (groupAt s))
-  unfolding fetchRecord reportIfDue recordOf reportOf reportBy
+      → getD (fetchOf s store out report .report) 3 0 ≡ causeOf (groupAt s .kind) (seenAll (groupAt s) s (portsIn (groupAt s))) (portsIn (groupAt s))
+  unfolding fetchOf reportIfDue recordOf reportOf reportBy
   report-cause o = rw (o .fitting, o .due, size-is (portsIn (groupAt s)) (ports-at-most-64 (groupAt s))) refl
 
   report-mark : Given s store out report
-      → getD (fetchRecord s store out report) 0 0 ≡ judgeOf (groupAt s .kind) (seenAll (groupAt s) s (portsIn (groupAt s))) (portsIn (groupAt s))
-  unfolding fetchRecord reportIfDue recordOf reportOf reportBy
+      → getD (fetchOf s store out report .report) 0 0 ≡ judgeOf (groupAt s .kind) (seenAll (groupAt s) s (portsIn (groupAt s))) (portsIn (groupAt s))
+  unfolding fetchOf reportIfDue recordOf reportOf reportBy
   report-mark o = rw (o .fitting, o .due, size-is (portsIn (groupAt s)) (ports-at-most-64 (groupAt s))) refl
 
-  pub mark-cause : Given s store out report → getD (fetchRecord s store out report) 0 0 ≡ markOf (groupAt s .kind) (getD (fetchRecord s store out report) 3 0)
+  pub mark-cause : Given s store out report → getD (fetchOf s store out report .report) 0 0 ≡ markOf (groupAt s .kind) (getD (fetchOf s store out report .report) 3 0)
   mark-cause o =
       report-mark o
       ∙ mark-by-cause (groupAt s .kind) (seenAll (groupAt s) s (portsIn (groupAt s))) (portsIn (groupAt s))
       ∙ ap (markOf (groupAt s .kind)) (sym (report-cause o))
 
-  pub none-cause : fits s store out report ≡ true → dueIn (groupAt s) (portsIn (groupAt s)) s ≡ false → getD (fetchRecord s store out report) 3 0 ≡ 0
-  unfolding fetchRecord reportIfDue recordOf
+  pub none-cause : fits s store out report ≡ true → dueIn (groupAt s) (portsIn (groupAt s)) s ≡ false → getD (fetchOf s store out report .report) 3 0 ≡ 0
+  unfolding fetchOf reportIfDue recordOf
   none-cause f d = rw (f, d) refl
 
   rows-fit : fits s store out report ≡ true → rowsFit (portsIn (groupAt s)) (length s) ≡ true
@@ -51,7 +51,7 @@ module _ (s : List (List ℕ)) (store out report : List ℕ) where
       and-left a b (and-left (a && b) c (and-left (a && b && c) (eqb (length report) 8) e))
 
   -- what is read before it
-  pub cause-read : Given s store out report → (lent : List ℕ) → length lent ≡ 2 → getD (causeOut s lent) 0 0 ≡ getD (fetchRecord s store out report) 3 0
+  pub cause-read : Given s store out report → (lent : List ℕ) → length lent ≡ 2 → getD (causeOut s lent) 0 0 ≡ getD (fetchOf s store out report .report) 3 0
   unfolding causeOut causeIn causeFit
   cause-read o lent l =
       rw (rows-fit (o .fitting), l)

@@ -1,7 +1,7 @@
 -- The group's record after a frame and after a fetch, on every state.
 use mathlib.Core.Path.{_≡_, refl, sym, ap, _∙_}
 use mathlib.Core.Logic.{_⊎_, inl, inr}
-use mathlib.Core.Bool.{Bool, true, false, cond, _&&_, true≢false}
+use mathlib.Core.Bool.{Bool, true, false, _&&_, true≢false}
 use mathlib.Core.List.{List}
 use Prim.Native.Nat.{ℕ, _<_}
 use native.Mathlib.Omega.{arith}
@@ -18,9 +18,10 @@ use Rattle.phases.specs.Laws.Lengths.{length-passed}
 use Rattle.phases.specs.Laws.Passed.{passed-group}
 use Rattle.phases.specs.Passing.{passedGroup}
 use Rattle.phases.specs.Sizes.{portsIn}
-use Rattle.receiver.specs.Fetch.{dueIn, fetchRows, fits, rowsIfDue}
-use Rattle.receiver.specs.Frame.{frameRefusal, frameRows, takenIn}
+use Rattle.receiver.specs.Fetch.{dueIn, fetchOf, fits, rowsIfDue}
+use Rattle.receiver.specs.Frame.{frameOf, frameRefusal, takenIn}
 use Rattle.receiver.specs.Laws.Answers.{lent}
+use Rattle.receiver.specs.Laws.Outcomes.{fetch-cases}
 use Rattle.receiver.specs.Laws.Passed.{passed-ack}
 use Rattle.receiver.specs.Laws.Told.{told-group, withAck}
 use Rattle.receiver.specs.Report.{replyPorts, reportedOf}
@@ -33,7 +34,7 @@ use Rattle.invariant.specs.Calls.{portAfter, storeAfter}
 use Rattle.invariant.specs.Reports.{Gathers, Given, ackAfter, passedRows, stopsWith}
 
 pub frame-holds : (s : List (List ℕ)) (i : ℕ) (failed : Bool) (h : ℕ) (payload store : List ℕ) → flagOf (groupAt s .begun) ≡ true → stopsWith s i failed h payload store ≡ false
-    → (groupAt (frameRows s i failed h payload store) ≡ groupAt s) ⊎ Gathers (groupAt s) (groupAt (frameRows s i failed h payload store))
+    → (groupAt (frameOf s i failed h payload store .rows) ≡ groupAt s) ⊎ Gathers (groupAt s) (groupAt (frameOf s i failed h payload store .rows))
 frame-holds s i failed h payload store begun goes =
     frame-any (λ (r : List (List ℕ)). (groupAt r ≡ groupAt s) ⊎ Gathers (groupAt s) (groupAt r)) s i failed h payload store
     (inl refl)
@@ -65,8 +66,8 @@ frame-holds s i failed h payload store begun goes =
     stops e f q = rw (e, f, begun, q) refl
 
 pub fetch-group : (s : List (List ℕ)) (store out report : List ℕ) → Given s store out report
-    → groupAt (fetchRows s store out report) ≡ withAck (passedGroup (groupAt s)) (ackAfter s store)
-unfolding fetchRows rowsIfDue reportedOf fits
+    → groupAt (fetchOf s store out report .rows) ≡ withAck (passedGroup (groupAt s)) (ackAfter s store)
+unfolding fetchOf rowsIfDue reportedOf fits
 fetch-group s store out report o =
     let n : ℕ = portsIn (groupAt s) in
     let p : List (List ℕ) = passedRows s store in
@@ -79,11 +80,6 @@ fetch-group s store out report o =
     ∙ ap (λ (x : Group). withAck x (ackOf (replyPorts (groupAt p) p n) (sizeOf n) (x .«rs_ack»))) passed
     ∙ ap (λ (b : ℕ). withAck (passedGroup (groupAt s)) (ackOf (replyPorts (groupAt p) p n) (sizeOf n) b)) (passed-ack (groupAt s)))
 
-pub fetch-none : (s : List (List ℕ)) (store out report : List ℕ) → (fits s store out report && dueIn (groupAt s) (portsIn (groupAt s)) s) ≡ false → fetchRows s store out report ≡ s
-unfolding fetchRows rowsIfDue
-fetch-none s store out report e = go (fits s store out report) (dueIn (groupAt s) (portsIn (groupAt s)) s) e
-  where
-    go : (a b : Bool) → (a && b) ≡ false → cond a (cond b (reportedOf (groupAt s) store (portsIn (groupAt s)) s) s) s ≡ s
-    go true true e = absurd (true≢false e)
-    go true false e = refl
-    go false b e = refl
+pub fetch-none : (s : List (List ℕ)) (store out report : List ℕ) → (fits s store out report && dueIn (groupAt s) (portsIn (groupAt s)) s) ≡ false → fetchOf s store out report .rows ≡ s
+fetch-none s store out report e =
+    fetch-cases s store out report (λ r. r ≡ s) refl (λ f d. absurd (true≢false (sym (rw (f, d) refl) ∙ e)))

@@ -6,7 +6,7 @@ use mathlib.Core.Bool.{Bool, true, false, cond, _&&_, true≢false}
 use mathlib.Core.List.{List, [], _∷_}
 use Prim.Native.Nat.{ℕ, _+_, _-_, _*_, _≤_, _<_}
 use native.Mathlib.Omega.{arith}
-use lib.Dec.{eqb, ltb}
+use lib.Dec.{eqb}
 use lib.ListN.{getD, length}
 use borrow.Author.Tests.{eq-eqb, ne-eqb, lt-ltb}
 use Rattle.invariant.specs.Kept.Group.{Kept, Lasting}
@@ -21,7 +21,7 @@ use Rattle.invariant.specs.Proofs.Laws.Settling.{settled-by}
 use Rattle.invariant.specs.Proofs.Laws.Window.{distance-passed, tag-next}
 use Rattle.invariant.specs.Proofs.Reports.Groups.{fetch-none}
 use Rattle.invariant.specs.Proofs.Sizes.{call-sizes, run-sizes}
-use Rattle.ground.specs.Truth.{and-left, and-right, clash}
+use Rattle.ground.specs.Truth.{and-left, and-right, clash, cond-by}
 use Rattle.judge.specs.Seen.{sizeOf}
 use Rattle.packet.specs.Kinds.{frames}
 use Rattle.packet.specs.Theorems.Tags.{frames-two}
@@ -32,14 +32,14 @@ use Rattle.phases.specs.Laws.Sizes.{SameSizes}
 use Rattle.phases.specs.Passing.{passedGroup, passedOf, passedStep}
 use Rattle.phases.specs.Sizes.{portsIn, storeFor}
 use Rattle.phases.specs.Theorems.Settled.{passed-begun}
-use Rattle.receiver.specs.Fetch.{dueIn, fetchRows, fits, rowsIfDue}
-use Rattle.receiver.specs.Frame.{frameAnswer, frameRefusal, frameRows, frameStore, oddIn, refusalBy, storeBy, takenIn, takenStore}
-use Rattle.receiver.specs.Laws.Answers.{Fitting, fitting-none, taken-answer, unrefused}
+use Rattle.receiver.specs.Fetch.{dueIn, fetchOf, fits, rowsIfDue}
+use Rattle.receiver.specs.Frame.{FrameOutcome, frameOf, frameRefusal, oddIn, storeBy, takenFrame, takenIn}
+use Rattle.receiver.specs.Laws.Answers.{Fitting, fitting-none, unrefused}
 use Rattle.receiver.specs.Laws.Frames.{frame-other}
+use Rattle.receiver.specs.Laws.Outcomes.{answered-above, frame-cases, taken-answer}
 use Rattle.receiver.specs.Laws.Passed.{step-joined}
 use Rattle.receiver.specs.Laws.Sizes.{ports-are}
 use Rattle.receiver.specs.Laws.Told.{told-group, told-of-port, withAck}
-use Rattle.receiver.specs.Lengths.{frameFits}
 use Rattle.receiver.specs.Report.{replyPorts, reportedOf}
 use Rattle.reply.specs.Telling.{ackOf}
 use Rattle.rows.specs.declared.group.Group.{Group}
@@ -130,7 +130,7 @@ module _ (i : ℕ) (run : Run) (gathering : List ℕ) (joined : ℕ) (on : flagO
 
   -- frames of other ports
   frame-still : (far : ℕ) (s : List (List ℕ)) → Kept s → i < groupAt s .count → (j : ℕ) (failed : Bool) (h : ℕ) (payload store : List ℕ) → j ≢ i
-      → stopsWith s j failed h payload store ≡ false → StillIn far s → StillIn far (frameRows s j failed h payload store)
+      → stopsWith s j failed h payload store ≡ false → StillIn far s → StillIn far (frameOf s j failed h payload store .rows)
   frame-still far s k b j failed h payload store d goes o =
       frame-by (λ (r : List (List ℕ)) (m : List ℕ). StillIn far r) s k j failed h payload store o
       (λ (c : Counts s j failed h payload store).
@@ -168,8 +168,8 @@ module _ (i : ℕ) (run : Run) (gathering : List ℕ) (joined : ℕ) (on : flagO
 
   -- a report
   report-still : (far less : ℕ) (s : List (List ℕ)) → Kept s → i < groupAt s .count → (store out report : List ℕ) → Given s store out report → StillIn far s
-      → far ≤ less + frames (groupAt s .kind) → StillIn less (fetchRows s store out report)
-  unfolding fetchRows rowsIfDue reportedOf
+      → far ≤ less + frames (groupAt s .kind) → StillIn less (fetchOf s store out report .rows)
+  unfolding fetchOf rowsIfDue reportedOf
   report-still far less s k b store out report v o l =
       let g : Group = groupAt s in
       let n : ℕ = groupAt s .count in
@@ -187,7 +187,7 @@ module _ (i : ℕ) (run : Run) (gathering : List ℕ) (joined : ℕ) (on : flagO
         within = rw (ack-offset (groupAt p) (ackOf (replyPorts (groupAt p) p n) (sizeOf n) (groupAt p .«rs_ack»)) (portAt p i .step)) (passed .within);
       })
 
-  fetch-still : (far : ℕ) (s : List (List ℕ)) → Kept s → i < groupAt s .count → (store out report : List ℕ) → StillIn far s → StillIn far (fetchRows s store out report)
+  fetch-still : (far : ℕ) (s : List (List ℕ)) → Kept s → i < groupAt s .count → (store out report : List ℕ) → StillIn far s → StillIn far (fetchOf s store out report .rows)
   fetch-still far s k b store out report o =
       ⊎-elim
       (λ (e : (fits s store out report && dueIn (groupAt s) (portsIn (groupAt s)) s) ≡ true).
@@ -238,21 +238,12 @@ module _ (i : ℕ) (run : Run) (gathering : List ℕ) (joined : ℕ) (on : flagO
 
 -- The lent store keeps its length.
 
-frame-length : (s : List (List ℕ)) (i : ℕ) (failed : Bool) (h : ℕ) (payload store : List ℕ) → length (frameStore s i failed h payload store) ≡ length store
-unfolding frameStore takenStore storeBy
-frame-length s i failed h payload store = go (eqb (frameRefusal s i (length payload) (length store)) 0) (eqb (t .answer) 11) (t .kept)
-  where
-    t : Taken
-    t = takenIn s i failed h
-
-    put : List ℕ
-    put = storedAt store (placeIn (groupAt s) i (takenIn s i failed h .at)) payload h
-
-    go : (a b c : Bool) → length (cond a (cond b store (cond c (storedAt store (placeIn (groupAt s) i (takenIn s i failed h .at)) payload h) store)) store) ≡ length store
-    go true true c = refl
-    go true false true = length-stored store (placeIn (groupAt s) i (t .at)) payload h
-    go true false false = refl
-    go false b c = refl
+frame-length : (s : List (List ℕ)) (i : ℕ) (failed : Bool) (h : ℕ) (payload store : List ℕ) → length (frameOf s i failed h payload store .store) ≡ length store
+unfolding storeBy
+frame-length s i failed h payload store =
+    let t : Taken = takenIn s i failed h in
+    frame-cases s i failed h payload store (λ (o : FrameOutcome). length (o .store) ≡ length store) (λ e. refl) (λ e f. refl)
+    (λ e f. cond-by (λ (l : List ℕ). length l ≡ length store) (t .kept) _ _ (λ c. length-stored store (placeIn (groupAt s) i (t .at)) payload h) (λ c. refl))
 
 pub run-length : (x : Receiver) (calls : List ReceiverCall) → length (receiverRun x calls .store) ≡ length (x .store)
 run-length x [] = refl
@@ -260,22 +251,10 @@ run-length x (Frame i failed h payload ∷ calls) =
     run-length (receiverAfter x (Frame i failed h payload)) calls ∙ frame-length (x .rows) i failed h payload (x .store)
 run-length x (Fetch out report ∷ calls) = run-length (receiverAfter x (Fetch out report)) calls
 
--- what 11 says of the call
-answered : (s : List (List ℕ)) (i : ℕ) (failed : Bool) (h payload store : ℕ) → frameAnswer s i failed h payload store ≡ 11
-    → (frameRefusal s i payload store ≡ 0) × (takenIn s i failed h .answer ≡ 11)
-unfolding frameAnswer refusalBy
-answered s i failed h payload store e = go (ltb i (portsIn (groupAt s))) (frameFits (groupAt s) (portsIn (groupAt s)) (length s) payload store) e
-  where
-    go : (a b : Bool) → _≡_ {A = ℕ} (cond (eqb (cond a (cond b 0 9) 1) 0) (takenIn s i failed h .answer) (cond a (cond b 0 9) 1)) 11
-        → (_≡_ {A = ℕ} (cond a (cond b 0 9) 1) 0) × (takenIn s i failed h .answer ≡ 11)
-    go true true e = (refl, e)
-    go true false e = absurd (omega arith)
-    go false b e = absurd (omega arith)
-
 kept-store : (s : List (List ℕ)) (i : ℕ) (failed : Bool) (h : ℕ) (payload store : List ℕ) (d : ℕ) (run : Run) → frameRefusal s i (length payload) (length store) ≡ 0
     → takenIn s i failed h ≡ keeps (groupAt s) (stepAt s i) run d
-    → (takenIn s i failed h .answer ≡ 0) × (frameStore s i failed h payload store ≡ storedAt store (placeIn (groupAt s) i d) payload h)
-unfolding frameStore takenStore storeBy keeps
+    → (takenIn s i failed h .answer ≡ 0) × (frameOf s i failed h payload store .store ≡ storedAt store (placeIn (groupAt s) i d) payload h)
+unfolding frameOf takenFrame storeBy keeps
 kept-store s i failed h payload store d run e t =
     (rw t refl, rw (eq-eqb (frameRefusal s i (length payload) (length store)) 0 e, t) refl)
 
@@ -308,11 +287,11 @@ same-odd s r i h k row next =
     ∙ ap (λ (t : ℕ). endsOdd (groupAt s .kind) (getD (packetsAt s i) 0 []) t h) next
 
 -- A frame answered 11 lies beyond the window. Calls that leave its port alone leave the port's run, its gathered packet and that it has joined (`reported-still`), and each report brings the window an epoch nearer: so behind one of them the same frame lies inside it, and is taken as `keeps` says.
-pub again : (x : Receiver) → Kept (x .rows) → (i : ℕ) (failed : Bool) (h : ℕ) (payload : List ℕ) → frameAnswer (x .rows) i failed h (length payload) (length (x .store)) ≡ 11
+pub again : (x : Receiver) → Kept (x .rows) → (i : ℕ) (failed : Bool) (h : ℕ) (payload : List ℕ) → frameOf (x .rows) i failed h payload (x .store) .answer ≡ 11
     → (calls : List ReceiverCall) → Others i calls → Unstopped x calls → (reportsOf x calls ≡ [] → ⊥) → Stored (receiverRun x calls) i failed h payload
 again x k i failed h payload e calls others goes some =
     record {
-      answer = taken-answer r i failed h (length payload) (length (y .store)) unrefused-now ∙ left .0;
+      answer = taken-answer r i failed h payload (y .store) unrefused-now ∙ left .0;
       at = d;
       inside = inside;
       tag = tag-next (groupAt r) (portAt r i .step .next) (ky .lasting .ports i now .kept .run .tag);
@@ -333,7 +312,7 @@ again x k i failed h payload e calls others goes some =
     d = offset (groupAt (receiverRun x calls .rows)) (portAt (receiverRun x calls .rows) i .step)
 
     said : (frameRefusal (x .rows) i (length payload) (length (x .store)) ≡ 0) × (takenIn (x .rows) i failed h .answer ≡ 11)
-    said = answered (x .rows) i failed h (length payload) (length (x .store)) e
+    said = answered-above (x .rows) i failed h payload (x .store) 11 (omega arith) e
 
     fit : Fitting (groupAt (x .rows)) (portsIn (groupAt (x .rows))) i (length (x .rows)) (length payload) (length (x .store))
     fit = unrefused (groupAt s) (portsIn (groupAt s)) i (length s) (length payload) (length (x .store)) (said .0)
@@ -389,5 +368,5 @@ again x k i failed h payload e calls others goes some =
         (fitting-none (groupAt r) (groupAt r .count) i (length r) (length payload) (length (y .store))
         (record { port = now; whole = ky .lasting .rows; bytes = bytes-now; stored = stored-now ∙ sym (store-of (groupAt r) (groupAt r .count)) }))
 
-    left : (takenIn (receiverRun x calls .rows) i failed h .answer ≡ 0) × (frameStore r i failed h payload (receiverRun x calls .store) ≡ storedAt (receiverRun x calls .store) (placeIn (groupAt r) i d) payload h)
+    left : (takenIn (receiverRun x calls .rows) i failed h .answer ≡ 0) × (frameOf r i failed h payload (receiverRun x calls .store) .store ≡ storedAt (receiverRun x calls .store) (placeIn (groupAt r) i d) payload h)
     left = kept-store r i failed h payload (y .store) d (ranOn (groupAt r) (stepAt r i) (oddIn r i h) h) unrefused-now taken

@@ -1,8 +1,9 @@
 -- The minutes' item 2: on every state, a report one of whose whole ruling packets is refused is held, and no output byte changes.
 use mathlib.Core.Path.{_≡_, refl}
-use mathlib.Core.Bool.{Bool, true, false, cond}
+use mathlib.Core.Bool.{true}
 use mathlib.Core.List.{List}
 use Prim.Native.Nat.{ℕ, _*_, _≤_}
+use Rattle.ground.specs.Truth.{cond-by}
 use native.Mathlib.Nat.{zero-mul}
 use native.Mathlib.Omega.{arith}
 use Rattle.invariant.specs.Proofs.Reports.Seen.{seen-good, seen-whole}
@@ -12,7 +13,7 @@ use Rattle.judge.specs.Theorems.Held.{refused}
 use Rattle.judge.specs.Verdict.{HELD, judgeOf}
 use Rattle.packet.specs.Kinds.{frames}
 use Rattle.phases.specs.Sizes.{portsIn}
-use Rattle.receiver.specs.Fetch.{dueIn, fetchOut, fits, outIfDue, reportIfDue}
+use Rattle.receiver.specs.Fetch.{FetchOutcome, dueIn, fetchOf, fits, outIfDue, reportIfDue}
 use Rattle.receiver.specs.Laws.Seen.{seen-at}
 use Rattle.receiver.specs.Laws.Sizes.{size-is, sizes-of, some-sized}
 use Rattle.receiver.specs.Report.{outputBy, outputOf, reportBy, reportOf, seenAll}
@@ -39,14 +40,11 @@ module _ (s : List (List ℕ)) (i : ℕ) (o : Refused s i) where
   judged : judgeOf (g .kind) seen (sizeOf n) ≡ HELD
   judged = rw (size-is n few) (refused (g .kind) seen n i (o .port) (rw (seen-at g s n i few (o .port), seen-whole g s i, seen-good g s i, o .whole, o .refused) refl))
 
-  pub held-out : (store out report : List ℕ) → fetchOut s store out report ≡ out
-  unfolding fetchOut outIfDue outputOf outputBy
-  held-out store out report = rw judged (both (fits s store out report) (dueIn g n s))
-    where
-      both : (a b : Bool) → cond a (cond b out out) out ≡ out
-      both true true = refl
-      both true false = refl
-      both false b = refl
+  pub held-out : (store out report : List ℕ) → fetchOf s store out report .out ≡ out
+  unfolding fetchOf outIfDue outputOf outputBy
+  held-out store out report =
+      cond-by (λ (o : FetchOutcome). o .out ≡ out) (fits s store out report) _ _
+      (λ e. rw judged (cond-by (λ (l : List ℕ). l ≡ out) (dueIn g n s) out out (λ d. refl) (λ d. refl))) (λ e. refl)
 
   pub held-report : dueIn g n s ≡ true → HeldReport (reportIfDue g n s) (g .oldest)
   unfolding reportIfDue reportOf reportBy

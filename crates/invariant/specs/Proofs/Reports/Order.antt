@@ -16,8 +16,8 @@ use Rattle.phases.specs.Beginning.{foremost}
 use Rattle.phases.specs.Laws.Cleared.{begun-group}
 use Rattle.phases.specs.Sizes.{portsIn}
 use Rattle.phases.specs.Theorems.Settled.{passed-begun}
-use Rattle.receiver.specs.Fetch.{dueIn, fetchRows, fits, reportIfDue}
-use Rattle.receiver.specs.Frame.{frameRows}
+use Rattle.receiver.specs.Fetch.{dueIn, fetchOf, fits, reportIfDue}
+use Rattle.receiver.specs.Frame.{frameOf}
 use Rattle.receiver.specs.Laws.Passed.{passed-gathered, passed-kind, passed-oldest}
 use Rattle.receiver.specs.Report.{reportBy, reportOf}
 use Rattle.rows.specs.declared.group.Group.{Group}
@@ -38,10 +38,10 @@ pub record Goes (g h : Group) (next : ℕ) : Type 0 where
   pub report : nextReport h ≡ next
 
 frame-goes : (x : Receiver) (i : ℕ) (failed : Bool) (h : ℕ) (payload : List ℕ) → flagOf (groupAt (x .rows) .begun) ≡ true → stopsWith (x .rows) i failed h payload (x .store) ≡ false
-    → Goes (groupAt (x .rows)) (groupAt (frameRows (x .rows) i failed h payload (x .store))) (nextReport (groupAt (x .rows)))
+    → Goes (groupAt (x .rows)) (groupAt (frameOf (x .rows) i failed h payload (x .store) .rows)) (nextReport (groupAt (x .rows)))
 frame-goes x i failed h payload b u =
-    ⊎-elim (λ (e : groupAt (frameRows (x .rows) i failed h payload (x .store)) ≡ groupAt (x .rows)). rw e (record { kind = refl; begun = b; report = refl }))
-    (λ (o : Gathers (groupAt (x .rows)) (groupAt (frameRows (x .rows) i failed h payload (x .store)))).
+    ⊎-elim (λ (e : groupAt (frameOf (x .rows) i failed h payload (x .store) .rows) ≡ groupAt (x .rows)). rw e (record { kind = refl; begun = b; report = refl }))
+    (λ (o : Gathers (groupAt (x .rows)) (groupAt (frameOf (x .rows) i failed h payload (x .store) .rows))).
     let g : Group = groupAt (x .rows) in
     rw (o .passed) (record { kind = passed-kind g; begun = rw (passed-begun g) b; report = rw (passed-gathered g, passed-oldest g, o .first) refl }))
     (frame-holds (x .rows) i failed h payload (x .store) b u)
@@ -49,7 +49,7 @@ frame-goes x i failed h payload b u =
 -- a fetch that gives a report says the oldest epoch, and moves on by one
 pub given-goes : (x : Receiver) (out report : List ℕ) → gives x out report ≡ true
     → (epochGiven x ≡ nextReport (groupAt (x .rows)))
-    × Goes (groupAt (x .rows)) (groupAt (fetchRows (x .rows) (x .store) out report)) (epochAfter (groupAt (x .rows) .kind) (nextReport (groupAt (x .rows))))
+    × Goes (groupAt (x .rows)) (groupAt (fetchOf (x .rows) (x .store) out report .rows)) (epochAfter (groupAt (x .rows) .kind) (nextReport (groupAt (x .rows))))
 given-goes x out report e =
     let s : List (List ℕ) = x .rows in
     let g : Group = groupAt (x .rows) in
@@ -105,15 +105,15 @@ in-order x (Fetch out report ∷ calls) b u = go (gives x out report) refl (λ c
         let more = r (o .1 .begun) ∙ successive-same (groupAt (y .rows) .kind) kind next next m (o .1 .kind) refl in
         ap (λ (a : ℕ). a ∷ rest) (o .0) ∙ one-more kind (nextReport (groupAt (x .rows))) next m rest more (o .1 .report)
     go false e r =
-        let same : fetchRows (x .rows) (x .store) out report ≡ x .rows = fetch-none (x .rows) (x .store) out report e in
-        let group : groupAt (fetchRows (x .rows) (x .store) out report) ≡ groupAt (x .rows) = ap groupAt same in
+        let same : fetchOf (x .rows) (x .store) out report .rows ≡ x .rows = fetch-none (x .rows) (x .store) out report e in
+        let group : groupAt (fetchOf (x .rows) (x .store) out report .rows) ≡ groupAt (x .rows) = ap groupAt same in
         r (rw group b)
         ∙ successive-same (groupAt (y .rows) .kind) kind next (nextReport (groupAt (x .rows))) m (ap (λ (g : Group). g .kind) group) (ap nextReport group)
 
 -- 'The next epoch to start after the foremost tag is gathered' and 'the one after it is the first reported'.
 pub first-reported : (s : List (List ℕ)) (i : ℕ) (failed : Bool) (h : ℕ) (payload store : List ℕ) → flagOf (groupAt s .begun) ≡ false
-    → flagOf (groupAt (frameRows s i failed h payload store) .begun) ≡ true
-    → nextReport (groupAt (frameRows s i failed h payload store))
+    → flagOf (groupAt (frameOf s i failed h payload store .rows) .begun) ≡ true
+    → nextReport (groupAt (frameOf s i failed h payload store .rows))
     ≡ epochAfter (groupAt s .kind) (epochAfter (groupAt s .kind) (epochOf (groupAt s .kind) (foremost (groupAt s) (portAfter s i failed h) (portsIn (groupAt s)))))
 first-reported s i failed h payload store off =
     frame-any First s i failed h payload store

@@ -6,7 +6,6 @@ use mathlib.Core.Bool.{Bool, true, false, cond, not, _&&_}
 use mathlib.Core.List.{List, [], _∷_}
 use Prim.Native.Nat.{ℕ, zero, suc, _+_, _*_, _≤_, _<_}
 use native.Mathlib.Omega.{arith}
-use lib.Dec.{eqb}
 use lib.ListN.{getD, length}
 use Rattle.ground.specs.Truth.{eq-or-ne, le-or-lt}
 use Rattle.invariant.specs.Proofs.Kept.Calls.{Due, due-says}
@@ -19,9 +18,10 @@ use Rattle.phases.specs.Laws.Lengths.{length-passed}
 use Rattle.phases.specs.Passing.{notedBy, passedGroup, passedOf, passedPort, passedPorts}
 use Rattle.phases.specs.Settling.{beginBy, begunOf, clearedPort, clearedPorts, gatherBy, settledOf, stopBy, stoppedOf}
 use Rattle.phases.specs.Sizes.{portsIn}
-use Rattle.receiver.specs.Fetch.{dueIn, fetchRows, fits, rowsIfDue}
-use Rattle.receiver.specs.Frame.{frameRefusal, frameRows, portRows, settledBy, storeBy, takenIn, takenRows}
+use Rattle.receiver.specs.Fetch.{dueIn, fetchOf, fits, rowsIfDue}
+use Rattle.receiver.specs.Frame.{FrameOutcome, frameOf, portRows, settledBy, storeBy, takenIn}
 use Rattle.receiver.specs.Laws.Answers.{lent}
+use Rattle.receiver.specs.Laws.Outcomes.{frame-cases}
 use Rattle.receiver.specs.Laws.Told.{told-of-port}
 use Rattle.receiver.specs.Report.{reportedOf, withState}
 use Rattle.reply.specs.Waiting.{noStanding}
@@ -133,29 +133,25 @@ module _ (j : ℕ) where
   unfolding portRows
   port-keeps kind s i t h = put-marks _ i _ ∙ put-packets _ i _ ∙ put-step s i (t .step)
 
-  pub frame-standing : (s : List (List ℕ)) (i : ℕ) (failed : Bool) (h : ℕ) (payload store : List ℕ) → Keeps s (frameRows s i failed h payload store)
-  unfolding frameRows takenRows settledBy
+  pub frame-standing : (s : List (List ℕ)) (i : ℕ) (failed : Bool) (h : ℕ) (payload store : List ℕ) → Keeps s (frameOf s i failed h payload store .rows)
+  unfolding settledBy
   frame-standing s i failed h payload store =
       let t : Taken = takenIn s i failed h in
       let n : ℕ = portsIn (groupAt s) in
       let after : List (List ℕ) = portRows (groupAt s .kind) s i t h in
       let kept : Keeps s after = port-keeps (groupAt s .kind) s i t h in
-      let settled : List (List ℕ) = settledOf n (storeBy (groupAt s) i t h payload store) after in
-      cond-keeps s (eqb (frameRefusal s i (length payload) (length store)) 0) (cond (eqb (t .answer) 11) s (cond (t .settles) settled after)) s
-      (cond-keeps s (eqb (t .answer) 11) s (cond (t .settles) settled after)
-      refl
-      (cond-keeps s (t .settles) settled after (settled-keeps n (storeBy (groupAt s) i t h payload store) after ∙ kept) kept))
-      refl
+      frame-cases s i failed h payload store (λ (o : FrameOutcome). Keeps s (o .rows)) (λ e. refl) (λ e f. refl)
+      (λ e f. cond-keeps s (t .settles) _ after (settled-keeps n (storeBy (groupAt s) i t h payload store) after ∙ kept) kept)
 
   pub none-standing : (s : List (List ℕ)) (store out report : List ℕ) → (fits s store out report && dueIn (groupAt s) (portsIn (groupAt s)) s) ≡ false
-      → Keeps s (fetchRows s store out report)
+      → Keeps s (fetchOf s store out report .rows)
   none-standing s store out report e = ap (λ (r : List (List ℕ)). standingIn r j) (fetch-none s store out report e)
 
   -- a report: state, number and counter are those that it works out, and the times stay
   pub report-standing : (s : List (List ℕ)) (store out report : List ℕ) → Given s store out report → j < portsIn (groupAt s)
-      → standingIn (fetchRows s store out report) j
+      → standingIn (fetchOf s store out report .rows) j
       ≡ (let left = getD (standingsAfter s store) j noStanding in left .state ∷ left .number ∷ (memberAt s j .«hold_off») ∷ (memberAt s j .restore) ∷ left .elapsed ∷ [])
-  unfolding fetchRows rowsIfDue reportedOf fits withState
+  unfolding fetchOf rowsIfDue reportedOf fits withState
   report-standing s store out report o b =
       let n : ℕ = portsIn (groupAt s) in
       let p : List (List ℕ) = passedRows s store in

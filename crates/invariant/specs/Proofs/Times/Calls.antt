@@ -5,8 +5,8 @@ use mathlib.Core.List.{List, [], _∷_}
 use Prim.Native.Nat.{ℕ}
 use lib.ListN.{length}
 use Rattle.invariant.specs.Calls.{Fetch, Frame, Receiver, ReceiverCall, receiverAfter, receiverRun, startedWith}
-use Rattle.invariant.specs.Proofs.Times.Frames.{frame-answer, frame-rows, frame-store}
-use Rattle.invariant.specs.Proofs.Times.Reports.{fetch-answer, fetch-out, fetch-record, fetch-rows}
+use Rattle.invariant.specs.Proofs.Times.Frames.{frame-same}
+use Rattle.invariant.specs.Proofs.Times.Reports.{fetch-same}
 use Rattle.invariant.specs.Proofs.Times.Rows.{SameButTimes}
 use Rattle.invariant.specs.Proofs.Times.Shown.{shown-same}
 use Rattle.invariant.specs.Proofs.Times.Start as Start
@@ -19,20 +19,17 @@ record Same (x y : Receiver) : Type 0 where
 
 outcome-same : (x y : Receiver) → Same x y → (c : ReceiverCall) → outcomeOf x c ≡ outcomeOf y c
 outcome-same x y o (Frame port failed h payload) =
-    rw (o .store, frame-answer (o .rows) port failed h (length payload) (length (y .store)), frame-store (o .rows) port failed h payload (y .store)) refl
+    let f = frame-same (o .rows) port failed h payload (y .store) in
+    rw (o .store, f .answer, f .store) refl
 outcome-same x y o (Fetch out report) =
-    rw (
-      o .store,
-      fetch-answer (o .rows) (y .store) out report,
-      fetch-out (o .rows) (y .store) out report,
-      fetch-record (o .rows) (y .store) out report,
-    )
-    refl
+    let f = fetch-same (o .rows) (y .store) out report in
+    rw (o .store, f .answer, f .out, f .report) refl
 
 call-same : (x y : Receiver) → Same x y → (c : ReceiverCall) → Same (receiverAfter x c) (receiverAfter y c)
 call-same x y o (Frame port failed h payload) =
-    record { rows = rw (o .store) (frame-rows (o .rows) port failed h payload (y .store)); store = rw (o .store, frame-store (o .rows) port failed h payload (y .store)) refl }
-call-same x y o (Fetch out report) = record { rows = rw (o .store) (fetch-rows (o .rows) (y .store) out report); store = o .store }
+    let f = frame-same (o .rows) port failed h payload (y .store) in
+    record { rows = rw (o .store) (f .rows); store = rw (o .store) (f .store) }
+call-same x y o (Fetch out report) = record { rows = rw (o .store) (fetch-same (o .rows) (y .store) out report .rows); store = o .store }
 
 run-same : (x y : Receiver) → Same x y → (calls : List ReceiverCall) → Same (receiverRun x calls) (receiverRun y calls)
 run-same x y o [] = o

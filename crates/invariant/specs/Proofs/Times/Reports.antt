@@ -1,6 +1,6 @@
 -- A report goes by steps, packets and marks; RS-Ack by words and numbers. Times change member states alone.
 use mathlib.Core.Path.{_≡_, refl, sym, ap, _∙_}
-use mathlib.Core.Bool.{Bool, _||_}
+use mathlib.Core.Bool.{Bool, _||_, cond, false, true}
 use mathlib.Core.List.{List}
 use Prim.Native.Nat.{ℕ, zero, suc, _<_}
 use native.Mathlib.Omega.{arith}
@@ -14,7 +14,7 @@ use Rattle.judge.specs.declared.seen.Seen.{Seen}
 use Rattle.judge.specs.Seen.{sizeOf}
 use Rattle.phases.specs.Passing.{groupTo, passedOf}
 use Rattle.phases.specs.Sizes.{portsIn}
-use Rattle.receiver.specs.Fetch.{dueIn, fetchAnswer, fetchOut, fetchRecord, fetchRows, fits, outIfDue, reportIfDue, rowsIfDue}
+use Rattle.receiver.specs.Fetch.{FetchOutcome, dueIn, fetchOf, fits, outIfDue, recordOf, reportIfDue, rowsIfDue}
 use Rattle.receiver.specs.Report.{noPort, noSeen, replyPort, replyPorts, reportedOf, seenAll, seenOf, statePut, statesPut, statesWorkedOut, withState}
 use Rattle.reply.specs.declared.members.Port.{Port}
 use Rattle.reply.specs.declared.waiting.Standing.{Standing}
@@ -110,23 +110,28 @@ module _ (g : Group) (n : ℕ) {s t : List (List ℕ)} (h : SameButTimes s t) wh
   unfolding outIfDue
   out-same store out = rw (due-same, all-seen) refl
 
+-- the same answer, output and record
+pub record SameFetch (o p : FetchOutcome) : Type 0 where
+  pub answer : o .answer ≡ p .answer
+  pub rows : SameButTimes (o .rows) (p .rows)
+  pub out : o .out ≡ p .out
+  pub report : o .report ≡ p .report
+
+both : (b : Bool) {o p q r : FetchOutcome} → SameFetch o p → SameFetch q r → SameFetch (cond b o q) (cond b p r)
+both true h k = h
+both false h k = k
+
 module _ {s t : List (List ℕ)} (h : SameButTimes s t) (store out report : List ℕ) where
   fits-same : fits s store out report ≡ fits t store out report
   unfolding fits
   fits-same = rw (group-same h, h .long) refl
 
-  pub fetch-answer : fetchAnswer s store out report ≡ fetchAnswer t store out report
-  unfolding fetchAnswer
-  fetch-answer = rw fits-same refl
-
-  pub fetch-out : fetchOut s store out report ≡ fetchOut t store out report
-  unfolding fetchOut
-  fetch-out = rw (fits-same, group-same h, out-same (groupAt t) (portsIn (groupAt t)) h store out) refl
-
-  pub fetch-record : fetchRecord s store out report ≡ fetchRecord t store out report
-  unfolding fetchRecord
-  fetch-record = rw (fits-same, group-same h, report-same (groupAt t) (portsIn (groupAt t)) h) refl
-
-  pub fetch-rows : SameButTimes (fetchRows s store out report) (fetchRows t store out report)
-  unfolding fetchRows
-  fetch-rows = rw (fits-same, group-same h) (cond-same (fits t store out report) (rows-same (groupAt t) (portsIn (groupAt t)) h store) h)
+  pub fetch-same : SameFetch (fetchOf s store out report) (fetchOf t store out report)
+  unfolding fetchOf
+  fetch-same =
+      let g = groupAt t in
+      let n = portsIn (groupAt t) in
+      rw (fits-same, group-same h)
+      (both (fits t store out report)
+      (record { answer = refl; rows = rows-same g n h store; out = out-same g n h store out; report = ap recordOf (report-same g n h) })
+      (record { answer = refl; rows = h; out = refl; report = refl }))

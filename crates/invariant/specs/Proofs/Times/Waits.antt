@@ -24,7 +24,7 @@ use Rattle.invariant.specs.Reports.{Given, gives, reportPorts}
 use Rattle.invariant.specs.Times.{standingIn, waitingIn}
 use Rattle.invariant.specs.Waits.{Claimant, InARow, Unclaimed, Zeros, sawOf, sawWith}
 use Rattle.phases.specs.Sizes.{portsIn, startSized}
-use Rattle.receiver.specs.Fetch.{dueIn, fetchRows, fits}
+use Rattle.receiver.specs.Fetch.{dueIn, fetchOf, fits}
 use Rattle.receiver.specs.Laws.Fresh.{started-port}
 use Rattle.receiver.specs.Laws.Sizes.{ports-are, size-is, sizes-of}
 use Rattle.receiver.specs.Starting.{freshMember, groupWith, sizedAnswer, startAsAnswer, startAsRows, startRight, timeOf, timerMost, timesWithin}
@@ -200,7 +200,7 @@ module _ (s : List (List ℕ)) (k : Kept s) (store : List ℕ) where
       own (sym (port-state i bi) ∙ oi) (sym (port-state j bj) ∙ oj) (sym (port-number i bi) ∙ e ∙ port-number j bj)
 
   left-is : (out report : List ℕ) → Given s store out report → (i : ℕ) → i < n
-      → standingIn (fetchRows s store out report) i ≡ leftWith (standingAt seen n i) (memberAt s i .«hold_off») (memberAt s i .restore)
+      → standingIn (fetchOf s store out report .rows) i ≡ leftWith (standingAt seen n i) (memberAt s i .«hold_off») (memberAt s i .restore)
   left-is out report o i c =
       report-standing i s store out report o (rw ports c)
       ∙ ap (λ (m : ℕ). leftWith (getD (standingsOf seen m) i noStanding) (memberAt s i .«hold_off») (memberAt s i .restore))
@@ -227,7 +227,7 @@ module _ (s : List (List ℕ)) (k : Kept s) (store : List ℕ) (i hold restore :
       subst (λ (l : List ℕ). Says (groupAt s .count) i hold restore (getD l 0 0) (getD l 4 0) saw) (sym (port-waits s k store i c)) (o .says)
 
   fetch-counted : (out report : List ℕ) → Given s store out report
-      → Counted (groupAt s .count) i hold restore (standingIn (fetchRows s store out report) i) (reportPorts s store ∷ saw)
+      → Counted (groupAt s .count) i hold restore (standingIn (fetchOf s store out report .rows) i) (reportPorts s store ∷ saw)
   fetch-counted out report g =
       rw (left-is s k store out report g i c)
       (record {
@@ -252,7 +252,7 @@ call-counted x (Frame j failed h payload) k i hold restore b saw o =
 call-counted x (Fetch out report) k i hold restore b saw o = rw (call-sizes x (Fetch out report) k .count) (go (gives x out report) refl)
   where
     go : (g : Bool) → gives x out report ≡ g
-        → Counted (groupAt (x .rows) .count) i hold restore (standingIn (fetchRows (x .rows) (x .store) out report) i) (cond g (reportPorts (x .rows) (x .store) ∷ saw) saw)
+        → Counted (groupAt (x .rows) .count) i hold restore (standingIn (fetchOf (x .rows) (x .store) out report .rows) i) (cond g (reportPorts (x .rows) (x .store) ∷ saw) saw)
     go true e = fetch-counted (x .rows) k (x .store) i hold restore b saw o out report (given x out report e)
     go false e = rw (none-standing i (x .rows) (x .store) out report e) o
 
@@ -339,16 +339,16 @@ module _ (kind count P W : ℕ) (hold restore : List ℕ) (rows : List (List ℕ
     saw = sawOf first calls []
 
     abbrev rowsLeft : List (List ℕ)
-    rowsLeft = fetchRows (x .rows) (x .store) out report
+    rowsLeft = fetchOf (x .rows) (x .store) out report .rows
 
-    is-left : standingIn (fetchRows (x .rows) (x .store) out report) i
+    is-left : standingIn (fetchOf (x .rows) (x .store) out report .rows) i
         ≡ leftWith (standingAt seenNow (groupAt (x .rows) .count) i) (memberAt (x .rows) i .«hold_off») (memberAt (x .rows) i .restore)
     is-left = left-is (x .rows) kept (x .store) out report g i here
 
-    state-is : memberAt (fetchRows (x .rows) (x .store) out report) i .state ≡ standingAt seenNow (groupAt (x .rows) .count) i .state
+    state-is : memberAt (fetchOf (x .rows) (x .store) out report .rows) i .state ≡ standingAt seenNow (groupAt (x .rows) .count) i .state
     state-is = ap (λ (l : List ℕ). getD l 0 0) is-left
 
-    number-is : memberAt (fetchRows (x .rows) (x .store) out report) i .«state_number» ≡ standingAt seenNow (groupAt (x .rows) .count) i .number
+    number-is : memberAt (fetchOf (x .rows) (x .store) out report .rows) i .«state_number» ≡ standingAt seenNow (groupAt (x .rows) .count) i .number
     number-is = ap (λ (l : List ℕ). getD l 1 0) is-left
 
     off-is : portAt seenNow i .«hold_off» ≡ getD hold i 0
@@ -395,8 +395,8 @@ module _ (kind count P W : ℕ) (hold restore : List ℕ) (rows : List (List ℕ
 
   -- 'Zero and zero is today's behaviour'
   pub today : Zeros hold → Zeros restore → (out report : List ℕ) → Given (x .rows) (x .store) out report → (i : ℕ) → i < count
-      → (memberAt (fetchRows (x .rows) (x .store) out report) i .state ≡ getD (statesOf seenNow count) i idleState)
-      × (memberAt (fetchRows (x .rows) (x .store) out report) i .«state_number» ≡ portAt seenNow i .number)
+      → (memberAt (fetchOf (x .rows) (x .store) out report .rows) i .state ≡ getD (statesOf seenNow count) i idleState)
+      × (memberAt (fetchOf (x .rows) (x .store) out report .rows) i .«state_number» ≡ portAt seenNow i .number)
   today none-off none-wait out report g i b =
       let none : NoTimes seenNow (groupAt (x .rows) .count) =
       (λ j c. let d : j < count = rw counts at c in (off-is out report g j d ∙ none-off j, wait-is out report g j d ∙ none-wait j)) in

@@ -8,7 +8,7 @@ use lib.ListN.{length}
 use borrow.Author.Tests.{ne-eqb}
 use Rattle.receiver.specs.Laws.Sizes.{start-sized}
 use Rattle.phases.specs.Sizes.{portsIn, storeFor}
-use Rattle.receiver.specs.Frame.{frameAnswer, frameRefusal, frameRows, frameStore, portRows, settledBy, storeBy, takenIn, takenRows, takenStore}
+use Rattle.receiver.specs.Frame.{frameOf, frameRefusal, portRows, settledBy, storeBy, takenFrame, takenIn}
 use Rattle.receiver.specs.Laws.Answers.{fitting-none}
 use Rattle.rows.specs.Group.{groupAt}
 use Rattle.step.specs.declared.arrival.Taken.{Taken}
@@ -48,6 +48,6 @@ module _ (r : Road) (f : Fair r) where
           answers = m .answers ++ (takenAt p x .answer ∷ []);
           told = m .told;
         }
-    unfolding framed frameRows frameStore frameAnswer takenRows takenStore
+    unfolding framed frameOf takenFrame
     framed-is p x b d =
         rw (unrefused p x b, ports-are, ne-eqb (takenAt p x .answer) 11 d, ← o .kind-is) refl

@@ -24,7 +24,7 @@ use Rattle.phases.specs.Due.{brought}
 use Rattle.phases.specs.Laws.Lengths.{length-passed}
 use Rattle.phases.specs.Passing.{passedOf}
 use Rattle.phases.specs.Sizes.{storeFor}
-use Rattle.receiver.specs.Fetch.{dueIn, fetchAnswer, fetchOut, fetchRecord, fetchRows, fits, outIfDue, reportIfDue, rowsIfDue, recordOf}
+use Rattle.receiver.specs.Fetch.{dueIn, fetchOf, fits, outIfDue, reportIfDue, rowsIfDue, recordOf}
 use Rattle.receiver.specs.Laws.Sizes.{size-is}
 use Rattle.receiver.specs.Lengths.{fetchFits, outputFor, rowsFit}
 use Rattle.receiver.specs.Report.{framesInto, noSeen, outputBy, outputOf, reportBy, reportOf, reportedOf, rulingEpoch, seenAll, seenOf, statesWorkedOut}
@@ -84,7 +84,7 @@ fetched-answers r m = refl
 module _ (r : Road) (fair : Fair r) where
   -- A fetch is not refused.
   module _ (m : Moment) (l : Lined r m) where
-    fits-now : fits (m .rows) (m .store) (outputAt r m) (lentAt r m) ≡ true
+    pub fits-now : fits (m .rows) (m .store) (outputAt r m) (lentAt r m) ≡ true
     unfolding fits fetchFits rowsFit storeFor outputFor
     fits-now =
         rw (
@@ -100,14 +100,16 @@ module _ (r : Road) (fair : Fair r) where
         )
         refl
 
-    pub fetch-answered : fetchAnswer (m .rows) (m .store) (outputAt r m) (lentAt r m) ≡ 0
-    unfolding fetchAnswer
+    pub fetch-answered : fetchOf (m .rows) (m .store) (outputAt r m) (lentAt r m) .answer ≡ 0
+    unfolding fetchOf
     fetch-answered = rw fits-now refl
 
     -- none due
     pub mark-none : dueIn (groupAt (m .rows)) (r .ports) (m .rows) ≡ false → getD (recordAt r m) 0 0 ≡ 0
-    unfolding fetchRecord reportIfDue recordOf
-    mark-none e = rw (fits-now, ports-are r fair m l, e) refl
+    unfolding fetchOf reportIfDue recordOf
+    mark-none e =
+        let none : getD (fetchOf (m .rows) (m .store) (outputAt r m) (lentAt r m) .report) 0 0 ≡ 0 = rw (fits-now, ports-are r fair m l, e) refl in
+        none
 
   some-due : ltb 0 (r .ports) ≡ true
   some-due =
@@ -165,15 +167,18 @@ module _ (r : Road) (fair : Fair r) where
       order = orderOf seen (r .ports)
 
       record-is : recordAt r m ≡ recordOf (reportBy g mark cause order)
-      unfolding fetchRecord reportIfDue reportOf
-      record-is = rw (fits-now m lined, ports-are r fair m lined, due-now, seen-is, size-is (r .ports) few, lined .kind-is) refl
+      unfolding fetchOf reportIfDue reportOf
+      record-is =
+          let is : fetchOf (m .rows) (m .store) (outputAt r m) (lentAt r m) .report ≡ recordOf (reportBy g mark cause order) =
+          rw (fits-now m lined, ports-are r fair m lined, due-now, seen-is, size-is (r .ports) few, lined .kind-is) refl in
+          is
 
-      out-is : fetchOut (m .rows) (m .store) (outputAt r m) (lentAt r m) ≡ outputBy g mark order (m .store) (outputAt r m)
-      unfolding fetchOut outIfDue outputOf
+      out-is : fetchOf (m .rows) (m .store) (outputAt r m) (lentAt r m) .out ≡ outputBy g mark order (m .store) (outputAt r m)
+      unfolding fetchOf outIfDue outputOf
       out-is = rw (fits-now m lined, ports-are r fair m lined, due-now, seen-is, size-is (r .ports) few, lined .kind-is) refl
 
-      rows-are : fetchRows (m .rows) (m .store) (outputAt r m) (lentAt r m) ≡ reportedOf g (m .store) (r .ports) (m .rows)
-      unfolding fetchRows rowsIfDue
+      rows-are : fetchOf (m .rows) (m .store) (outputAt r m) (lentAt r m) .rows ≡ reportedOf g (m .store) (r .ports) (m .rows)
+      unfolding fetchOf rowsIfDue
       rows-are = rw (fits-now m lined, ports-are r fair m lined, due-now) refl
 
       mark-told : getD (recordAt r m) 0 0 ≡ mark
@@ -241,7 +246,7 @@ module _ (r : Road) (fair : Fair r) where
               (fair .room (length (m .told))))
 
       -- exactly the report that the contents give
-      told-is : toldBy r (recordAt r m) (fetchOut (m .rows) (m .store) (outputAt r m) (lentAt r m)) ≡ reportAfter r i (outputAt r m)
+      told-is : toldBy r (recordAt r m) (fetchOf (m .rows) (m .store) (outputAt r m) (lentAt r m) .out) ≡ reportAfter r i (outputAt r m)
       unfolding reportAfter
       told-is = told-same _ (reportAfter r i (outputAt r m)) epoch-told mark-told (rw (count-told, out-is) bytes-told) (rw (count-told, out-is) rest-told)
 

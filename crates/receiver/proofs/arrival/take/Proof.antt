@@ -1,7 +1,7 @@
 use mathlib.Core.Path.{refl}
 use borrow.Author.Tests.{eq-eqb}
-use Rattle.receiver.specs.Frame.{takenRows, takenStore}
-use Rattle.receiver.proofs.Arriving.{taken-rows, taken-store}
+use Rattle.receiver.specs.Frame.{takenFrame}
+use Rattle.receiver.proofs.Arriving.{taken-frame}
 use borrow.Author.Needs.{needs}
 use Rattle.receiver.proofs.arrival.take.Statement.{statement}
 use Rattle.receiver.proofs.arrival.take.Tie as tie
@@ -26,10 +26,10 @@ returns c =
     let test1 = c .before .before .before .before .before .before .before .before .before .before .before .if1 in
     let put-port = c .before .before .before .before .before .before .before .before .before .put-port in
     let put-frame = c .before .before .before .before .before .before .put-frame in
-    (taken-rows _ _ _ _ _ _ _ _ _ _ _ (test1 .taken) (put-port .ensures) (put-frame .ensures) (c .before .settle-by .ensures), taken-store _ _ _ _ _ _ _ (test1 .taken) (put-frame .ensures))
+    taken-frame _ _ _ _ _ _ _ _ _ _ _ (test1 .taken) (put-port .ensures) (put-frame .ensures) (c .before .settle-by .ensures)
 
 returns-2 : tie.Need-returns-2
-unfolding takenRows takenStore
+unfolding takenFrame
 returns-2 c = rw (eq-eqb _ 11 (c .if1 .left)) (refl, refl)
 
 pub take-spec : {M : Type 1} → statement M
