@@ -79,7 +79,7 @@ standing lines = 1 ∷ 0 ∷ 0 ∷ 0 ∷ 0 ∷ 0 ∷ 0 ∷ 0 ∷ lines ∷ 0 ∷
 turns : Pinned
 unfolding allOpen
 turns =
-    pins "the first line from place 0 on, the second one from place 7 on; the numbers 5 and 6 are the caller's (request 2026-05)"
+    pins "A turn goes on from its place in the text: the first line from place 0 on, the second one from place 7 on; the numbers 5 and 6 are the caller's (request 2026-05)"
     (row "the first line is answered 0" (turnAnswerC (replicate 17 0) text 0 0 rows (nines 32) (nines 16) 1160) 0 same
     ∷ row "the state behind it" (turnStateC (replicate 17 0) text 0 0 rows (nines 32) (nines 16) 1160) (standing 1) same
     ∷ row "the place behind it" (turnAtC (replicate 17 0) text 0 0 rows (nines 32) (nines 16) 1160) 7 same
@@ -97,7 +97,7 @@ turns =
 lasts : Pinned
 unfolding allOpen
 lasts =
-    pins "a last line that lacks its end is one where `last` is any number but 0 (request 2026-05)"
+    pins "A last line that lacks its end is one where the number for it is any but 0 (request 2026-05)"
     (row "with 0 more is wanted" (turnWantsC (standing 1) (ascii "x") 0 0 rows (nines 32) (nines 16) 1160 6) 1 same
     ∷ row "with 0 more is wanted, and the place stays" (turnAtC (standing 1) (ascii "x") 0 0 rows (nines 32) (nines 16) 1160) 0 same
     ∷ row "with 2 the line is taken" (turnAtC (standing 1) (ascii "x") 0 2 rows (nines 32) (nines 16) 1160) 1 same
@@ -107,7 +107,7 @@ lasts =
 nines-said : Pinned
 unfolding allOpen
 nines-said =
-    pins "9: a state of another length, a place behind the text's end, a store that is too short; nothing is changed (request 2026-05)"
+    pins "9 for a state of another length, a place behind the text's end, a store that is too short; nothing is changed (request 2026-05)"
     (row "a state of 16 bytes" (turnAnswerC (replicate 16 0) text 0 0 rows (nines 32) (nines 16) 1160) 9 same
     ∷ row "a place behind the end" (turnAnswerC (replicate 17 0) text 10 0 rows (nines 32) (nines 16) 1160) 9 same
     ∷ row "a place behind the end, and it stays" (turnAtC (replicate 17 0) text 10 0 rows (nines 32) (nines 16) 1160) 10 same

@@ -38,14 +38,14 @@ readOut s =
 a-sender : Pinned
 unfolding allOpen
 a-sender =
-    pins "the board now: ADD 0, ADD 1, IDLE; the one going out: ADD 0, IDLE, IDLE; X is 0; the packets' CRCs are B9 and 33 (include/levelspruce.h)"
+    pins "A sender is run by its C calls alone, each on the bytes that the call before it left. The board now: ADD 0, ADD 1, IDLE; the one going out: ADD 0, IDLE, IDLE; X is 0; the packets' CRCs are B9 and 33 (include/levelspruce.h)."
     (row "board, board going out, ranks, packets and payload" (readOut sender) (3 ∷ 0 ∷ 1 ∷ 0 ∷ 1 ∷ 1 ∷ 5 ∷ 255 ∷ 3 ∷ 0 ∷ 1 ∷ 0 ∷ 5 ∷ 255 ∷ 5 ∷ 255 ∷ 3 ∷ 1 ∷ 7 ∷ 0 ∷ 255 ∷ 255 ∷ 255 ∷ 255 ∷ 0x38 ∷ 0xC9 ∷ 0x0A ∷ 0x0B ∷ 0x0C ∷ 0x0D ∷ 0x0E ∷ 0x0F ∷ 0x00 ∷ 0x71 ∷ 0x12 ∷ 0x13 ∷ 0x04 ∷ 0x05 ∷ 0xB6 ∷ 0x97 ∷ 0x38 ∷ 0xC9 ∷ 0x0A ∷ 0x0B ∷ 0x0C ∷ 0x0D ∷ 0xFE ∷ 0xFF ∷ 0x00 ∷ 0x71 ∷ 0x52 ∷ 0x13 ∷ 0x04 ∷ 0x05 ∷ 0x36 ∷ 0x37 ∷ 0 ∷ 0 ∷ 0 ∷ 0 ∷ []) same
     ∷ [])
 
 sender-answers : Pinned
 unfolding allOpen
 sender-answers =
-    pins "any 397 bytes: nines are nine slots and an open wait, with no member, and a GID that is none (include/levelspruce.h)"
+    pins "Any 397 bytes are a sender: nines are nine slots and an open wait, with no member, and a GID that is none (include/levelspruce.h)"
     (row "an add while the wait is open" (callAnswerC true (OnTable (AddSlot 0)) (nines 397)) 3 same
     ∷ row "an add of slot 9 of nine" (callAnswerC true (OnTable (AddSlot 9)) (nines 397)) 1 same
     ∷ row "with a number that is no byte it is 8" (callAnswerC false (OnTable (AddSlot 9)) (nines 397)) 8 same
@@ -92,7 +92,7 @@ card =
 a-card : Pinned
 unfolding allOpen
 a-card =
-    pins "each group's board, the one going out, its ranks and what it owns (include/levelspruce.h)"
+    pins "A card's bytes tell each group's board, the one going out, its ranks and what it owns (include/levelspruce.h; request 2026-06)"
     (row "group 0's board" (take 8 (boardBytesOn card 0 (nines 130))) (3 ∷ 0 ∷ 1 ∷ 0 ∷ 1 ∷ 1 ∷ 5 ∷ 255 ∷ []) same
     ∷ row "group 0's board going out" (take 8 (outgoingBytesOn card 0 (nines 130))) (3 ∷ 0 ∷ 1 ∷ 0 ∷ 5 ∷ 255 ∷ 5 ∷ 255 ∷ []) same
     ∷ row "group 0's ranks" (take 8 (ranksBytesOn card 0 (nines 68))) (3 ∷ 1 ∷ 7 ∷ 0 ∷ 255 ∷ 255 ∷ 255 ∷ 255 ∷ []) same
@@ -107,7 +107,7 @@ a-card =
 card-answers : Pinned
 unfolding allOpen
 card-answers =
-    pins "any 858 bytes: nines are nine slots for each group, owned by nobody (include/levelspruce.h)"
+    pins "Any 858 bytes are a card: nines are nine slots for each group, owned by nobody (include/levelspruce.h; request 2026-06)"
     (row "a packet of nobody's slot" (packetAnswerOn (nines 858) 0 0 (nines 16)) 14 same
     ∷ row "a packet of slot 9" (packetAnswerOn (nines 858) 0 9 (nines 16)) 1 same
     ∷ row "a packet to group 2" (packetAnswerOn (nines 858) 2 0 (nines 16)) 1 same

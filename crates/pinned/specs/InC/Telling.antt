@@ -36,7 +36,7 @@ started = 3 ∷ 0 ∷ 5 ∷ 255 ∷ 5 ∷ 255 ∷ 5 ∷ 255 ∷ nines 122
 tellings : Pinned
 unfolding allOpen
 tellings =
-    pins "slot 0 was IDLE 255 and is ADD 0; slot 1 is not told before the next start (request 2026-10)"
+    pins "What is told is the board going out: slot 0 was IDLE 255 and is ADD 0; slot 1 is not told before the next start (request 2026-10)"
     (row "a sender's changes are answered 0" (changesAnswerC sender started (nines 322)) 0 same
     ∷ row "the changes" (take 12 (changesBytesC sender started (nines 322))) (1 ∷ 0 ∷ 0 ∷ 5 ∷ 255 ∷ 1 ∷ 0 ∷ replicate 5 0) same
     ∷ row "the board told" (take 10 (changesToldC sender started (nines 322))) (3 ∷ 0 ∷ 1 ∷ 0 ∷ 5 ∷ 255 ∷ 5 ∷ 255 ∷ 5 ∷ 255 ∷ []) same
@@ -69,7 +69,7 @@ begun = record { state = bytesOf (beginOf 0 3 7 .sender); told = boardBytesOf (b
 heard : Pinned
 unfolding allOpen
 heard =
-    pins "a start that is refused fixes no board (request 2026-10)"
+    pins "A start that is refused fixes no board (request 2026-10)"
     (row "the board told" (take 8 (heardAfter senderHost begun said .told)) (3 ∷ 0 ∷ 1 ∷ 0 ∷ 5 ∷ 255 ∷ 5 ∷ 255 ∷ []) same
     ∷ row "the board held" (take 8 (heardAfter senderHost begun said .held)) (3 ∷ 0 ∷ 1 ∷ 0 ∷ 5 ∷ 255 ∷ 5 ∷ 255 ∷ []) same
     ∷ row "the answers" (answersTo senderHost begun said) (replicate 4 0) same

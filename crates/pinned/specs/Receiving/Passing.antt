@@ -31,7 +31,7 @@ ruling good = record { good = good; word = 3; number = 7; gid = 1 }
 noted : Pinned
 unfolding allOpen
 noted =
-    pins "a whole good packet's word and number are noted; of one that was refused, or that is not whole, nothing is (01, 'Report of an epoch', 'Member states and reply')"
+    pins "A whole good packet's word and number are noted; of one that was refused, or that is not whole, nothing is (01, 'Report of an epoch', 'Member states and reply')"
     (row "a whole good packet" (notedBy (member 2 11) true (ruling true)) (member 3 7) same
     ∷ row "a refused one" (notedBy (member 2 11) true (ruling false)) (member 2 11) same
     ∷ row "one that is not whole" (notedBy (member 2 11) false (ruling true)) (member 2 11) same
@@ -57,7 +57,7 @@ step later whole =
 passed : Pinned
 unfolding allOpen
 passed =
-    pins "an epoch that was joined at comes nearer by one, and not below none (01, 'Report of an epoch', 'Member states and reply')"
+    pins "With an epoch passed, one that was joined at comes nearer by one, and not below none (01, 'Window', 'Report of an epoch')"
     (row "an epoch joined at, five later" (passedStep (step 5 37) true) (step 4 1) same
     ∷ row "an epoch joined at, five later, and none later" (passedStep (step 0 37) false) (step 0 0) same
     ∷ [])
@@ -80,7 +80,7 @@ group gathered oldest origin =
 goes-on : Pinned
 unfolding allOpen
 goes-on =
-    pins "an epoch has been gathered, epoch 255 is followed by epoch 0, and the place of the window's first frame goes on by sixteen, round W of 40 (01, 'Report of an epoch', 'Member states and reply')"
+    pins "With an epoch passed, one has been gathered, epoch 255 is followed by epoch 0, and the place of the window's first frame goes on by sixteen, round W of 40 (01, 'Window', 'Report of an epoch')"
     (row "epoch 255, place 30" (passedGroup (group 0 255 30)) (group 1 0 6) same
     ∷ row "epoch 7, place 0" (passedGroup (group 1 7 0)) (group 1 8 16) same
     ∷ [])

@@ -154,7 +154,7 @@ late = withPort 2 (step 935) (zeros 16) (zeros 16) 0 (withPort 1 (step 935) (pac
 own-odd : Pinned
 unfolding allOpen
 own-odd =
-    pins "whether a port ends an odd packet is asked of what it has gathered itself (01, 'Window', 'Report of an epoch')"
+    pins "Whether a port ends an odd packet is asked of what it has gathered itself (request 2026-04)"
     (row "port 1 has ended an odd packet" (stepAt (frameRows late 1 false 0x27 (8 ∷ []) (nines 96)) 1 .odd) 1 same
     ∷ row "port 2 has not" (stepAt (frameRows late 2 false 0x27 (8 ∷ []) (nines 96)) 2 .odd) 0 same
     ∷ row "the packet of epoch 57 is odd with tag 935" (endsOdd 0 (packet 2 1 3 9) 935 0x27) true same

@@ -31,7 +31,7 @@ three = startRows 0 3 3 20 240 (rows 16)
 starts : Pinned
 unfolding allOpen
 starts =
-    pins "each port's own times; no good packet, IDLE under 255, nothing told, no timer; no frame, no step; the group's settings, nothing begun, RS-Ack 0 (01, 'The receiver', 'Member states and reply'; request 2026-03)"
+    pins "After a start each port has its own times; no good packet, IDLE under 255, nothing told, no timer; no frame, no step; the group its settings, nothing begun, RS-Ack 0 (01, 'The receiver'; requests 2026-03 and 2026-12)"
     (row "port 0's hold-off" (memberAt opened 0 .«hold_off») 3 same
     ∷ row "port 1's hold-off" (memberAt opened 1 .«hold_off») 5000 same
     ∷ row "port 0's wait-to-restore" (memberAt opened 0 .restore) 4 same
@@ -89,7 +89,7 @@ refused-starts =
 lengths : Pinned
 unfolding allOpen
 lengths =
-    pins "lengths that are taken: an empty group has any number of rows; an output may be longer than asked, a payload, a store and a record of a report may not (01, 'The receiver', 'Member states and reply'; request 2026-03)"
+    pins "Lengths that are taken: an empty group has any number of rows; an output may be longer than asked, a payload, a store and a record of a report may not (01, 'The receiver', 'Answer numbers')"
     (row "an empty group has any number of rows" (rowsFit 0 7) true same
     ∷ row "two ports have eleven" (rowsFit 2 11) true same
     ∷ row "twelve are too many" (rowsFit 2 12) false same
@@ -200,7 +200,7 @@ seventh = putMember (startRows 0 2 3 20 160 (rows 11)) 1 (member 2 0)
 replies : Pinned
 unfolding allOpen
 replies =
-    pins "with no port OK, MST is FF and RS-Ack 0; of a fixed group both are 0; number 7 is the last bit of MST in epochs 0, 32, 64 and so on (01, 'The receiver', 'Member states and reply'; request 2026-03)"
+    pins "With no port OK, MST is FF and RS-Ack 0; of a fixed group both are 0; number 7 is the last bit of MST in epochs 0, 32, 64 and so on (01, 'The receiver', 'Member states and reply'; request 2026-03)"
     (row "no port OK" (replyOf (startRows 0 2 3 20 160 (rows 11)) 0) (255 ∷ 0 ∷ []) same
     ∷ row "of a fixed group" (replyOf opened 0) (0 ∷ 0 ∷ []) same
     ∷ row "three bytes lent stay" (replyOut opened 0 (9 ∷ 9 ∷ 9 ∷ [])) (9 ∷ 9 ∷ 9 ∷ []) same

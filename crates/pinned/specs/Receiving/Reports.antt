@@ -73,7 +73,7 @@ store = tabulate 96 (λ i. i)
 payload : Pinned
 unfolding allOpen
 payload =
-    pins "a held report has no bytes and X 0; a doubtful and a sure one X x 16 x P the first group frame: port 1's first byte, port 0's, port 1's second byte, port 0's. With the window's first frame at place 15 of the ring the next stands at place 0 (01, 'Report of an epoch')."
+    pins "A held report has no bytes and X 0; a doubtful and a sure one have X x 16 x P. The first group frame has port 1's first byte, port 0's, port 1's second byte, port 0's. With the window's first frame at place 15 of the ring the next stands at place 0 (01, 'Report of an epoch', 'Payload order')."
     (row "a sure report" (reportBy (group 0) 3 0 order) (record { mark = 3; epoch = 58; x = 2; cause = 0; bytes = 64 }) same
     ∷ row "a doubtful one" (reportBy (group 0) 2 7 order) (record { mark = 2; epoch = 58; x = 2; cause = 7; bytes = 64 }) same
     ∷ row "a held one has no bytes" (reportBy (group 0) 1 4 order) (record { mark = 1; epoch = 58; x = 0; cause = 4; bytes = 0 }) same
@@ -204,7 +204,7 @@ unruled =
 candidates : Pinned
 unfolding allOpen
 candidates =
-    pins "whether a port can be a candidate: readable as it is now, whatever its packet and its frames were (01, 'Report of an epoch')"
+    pins "Whether a port can be a candidate: readable as it is now, whatever its packet and its frames were (01, 'Report of an epoch')"
     (row "not in step any more" (replyPort (phase 1 1) ruling 1 .readable) false same
     ∷ row "in step" (replyPort (phase 1 1) (putStep ruling 1 (step 32)) 1 .readable) true same
     ∷ row "in step with no whole packet" (replyPort (phase 1 1) (putStep ruling 1 unruled) 1 .readable) true same
@@ -266,7 +266,7 @@ many =
 records : Pinned
 unfolding allOpen
 records =
-    pins "the byte count of a record, highest byte first, up to 32 bits (01, 'Report of an epoch')"
+    pins "The byte count of a record, highest byte first, up to 32 bits (01, 'Report of an epoch')"
     (row "four bytes that differ" (recordOf (record { mark = 3; epoch = 7; x = 9; cause = 0; bytes = 0xFEFFFFFF })) (3 ∷ 7 ∷ 9 ∷ 0 ∷ 0xFE ∷ 0xFF ∷ 0xFF ∷ 0xFF ∷ []) same
     ∷ row "the highest alone" (recordOf (record { mark = 3; epoch = 7; x = 9; cause = 0; bytes = 0xFF000000 })) (3 ∷ 7 ∷ 9 ∷ 0 ∷ 0xFF ∷ 0 ∷ 0 ∷ 0 ∷ []) same
     ∷ [])
@@ -274,14 +274,14 @@ records =
 causes-told : Pinned
 unfolding allOpen
 causes-told =
-    pins "the record of a report of two ports with each cause of H4: sure with none, held with no bytes by 1 to 5, doubtful with all of them by 6 and 7 (01, 'Report of an epoch')"
+    pins "The record of a report of two ports with each cause of H4: sure with none, held with no bytes by 1 to 5, doubtful with all of them by 6 and 7 (01, 'Report of an epoch')"
     (row "causes 0 to 7" (tabulate 8 (λ c. recordOf (reportBy (group 0) (markOf 0 c) c order))) ((3 ∷ 58 ∷ 2 ∷ 0 ∷ 0 ∷ 0 ∷ 0 ∷ 64 ∷ []) ∷ (1 ∷ 58 ∷ 0 ∷ 1 ∷ 0 ∷ 0 ∷ 0 ∷ 0 ∷ []) ∷ (1 ∷ 58 ∷ 0 ∷ 2 ∷ 0 ∷ 0 ∷ 0 ∷ 0 ∷ []) ∷ (1 ∷ 58 ∷ 0 ∷ 3 ∷ 0 ∷ 0 ∷ 0 ∷ 0 ∷ []) ∷ (1 ∷ 58 ∷ 0 ∷ 4 ∷ 0 ∷ 0 ∷ 0 ∷ 0 ∷ []) ∷ (1 ∷ 58 ∷ 0 ∷ 5 ∷ 0 ∷ 0 ∷ 0 ∷ 0 ∷ []) ∷ (2 ∷ 58 ∷ 2 ∷ 6 ∷ 0 ∷ 0 ∷ 0 ∷ 64 ∷ []) ∷ (2 ∷ 58 ∷ 2 ∷ 7 ∷ 0 ∷ 0 ∷ 0 ∷ 64 ∷ []) ∷ []) same
     ∷ [])
 
 read-before : Pinned
 unfolding allOpen
 read-before =
-    pins "And read before the fetch: in epoch 58 port 0 has no whole packet; in epoch 0 that of port 1 is refused, since it is another epoch's. Two bytes are asked for, and the rows of two ports; an empty group has no cause (01, 'Report of an epoch')."
+    pins "Why the next report is as it is can be read before the fetch: in epoch 58 port 0 has no whole packet; in epoch 0 that of port 1 is refused, since it is another epoch's. Two bytes are asked for, and the rows of two ports; an empty group has no cause (include/levelspruce.h)."
     (row "port 0 has no whole packet" (causeOut (putGroup ruling (phase 1 1)) (nines 2)) (6 ∷ 0 ∷ []) same
     ∷ row "port 1's is refused" (causeOut ruling (nines 2)) (1 ∷ 1 ∷ []) same
     ∷ row "two bytes are answered 0" (causeAnswer ruling 2) 0 same

@@ -65,7 +65,7 @@ member hold restore elapsed =
 back : Pinned
 unfolding entryIn groupOf groupRow memberOf memberRow stepOf stepRow withNext withEntry
 back =
-    pins "records as rows of sixteen bytes, and back (the receiver's rows, in which a field's place is free)"
+    pins "Records as rows of sixteen bytes, and back; where a field stands is free."
     (row "a group's, below and at a multiple of 256" (groupOf (groupRow (group 2303 2048 511))) (group 2303 2048 511) same
     ∷ row "a group's, the other way round" (groupOf (groupRow (group 2304 1791 1024))) (group 2304 1791 1024) same
     ∷ row "a group has sixteen bytes" (length (groupRow (group 2303 2048 511))) 16 same
@@ -107,7 +107,7 @@ port = record { step = step 4095; member = member 1 2 3; gathering = twos; rulin
 parts : Pinned
 unfolding groupAt groupOf groupRow marksAt memberAt memberOf memberRow packetsAt portAt putGroup putMarks putMember putPackets putRow putStep rowIn stepAt stepOf stepRow
 parts =
-    pins "each part at its own place: port 1 has what was put, port 0 what it had; a row that is not there reads as zeros, and what is put there is dropped (the receiver's rows, in which a field's place is free)"
+    pins "Each part of a port at its own place, which is free: port 1 has what was put, port 0 what it had; a row that is not there reads as zeros, and what is put there is dropped."
     (row "two ports have eleven rows" (rowsFor 2) 11 same
     ∷ row "what was put of port 1" (portAt full 1) port same
     ∷ row "port 0 has what it had" (portAt full 0) (portAt rows 0) same

@@ -101,7 +101,7 @@ blank = replicate 7 (replicate 10 165)
 seen : Pinned
 unfolding allOpen
 seen =
-    pins "Whole, answer, another number, epoch, word, number, GID, MST, RS-Ack, here. A refused packet and one that is not whole say nothing more (include/levelspruce.h)."
+    pins "What the host reads of each port's ruling packet: whole, answer, another number, epoch, word, number, GID, MST, RS-Ack, here. A refused packet and one that is not whole say nothing more (include/levelspruce.h)."
     (row "seven ports" (seenOut (seven 0) blank) ((1 ∷ 5 ∷ 0 ∷ 0 ∷ 0 ∷ 0 ∷ 0 ∷ 0 ∷ 0 ∷ 1 ∷ []) ∷ (1 ∷ 6 ∷ 0 ∷ 0 ∷ 0 ∷ 0 ∷ 0 ∷ 0 ∷ 0 ∷ 0 ∷ []) ∷ (1 ∷ 7 ∷ 0 ∷ 0 ∷ 0 ∷ 0 ∷ 0 ∷ 0 ∷ 0 ∷ 0 ∷ []) ∷ (1 ∷ 0 ∷ 0 ∷ 5 ∷ 2 ∷ 3 ∷ 1 ∷ 0xA7 ∷ 1 ∷ 0 ∷ []) ∷ (1 ∷ 0 ∷ 0 ∷ 5 ∷ 3 ∷ 9 ∷ 0 ∷ 0x1C ∷ 0 ∷ 1 ∷ []) ∷ (1 ∷ 0 ∷ 1 ∷ 4 ∷ 15 ∷ 77 ∷ 1 ∷ 0x66 ∷ 0 ∷ 0 ∷ []) ∷ (0 ∷ 0 ∷ 0 ∷ 0 ∷ 0 ∷ 0 ∷ 0 ∷ 0 ∷ 0 ∷ 1 ∷ []) ∷ []) same
     ∷ row "into seven places" (seenAnswer (seven 0) 7) 0 same
     ∷ row "into six" (seenAnswer (seven 0) 6) 9 same
@@ -119,7 +119,7 @@ fixed-seen =
 cause : Pinned
 unfolding allOpen
 cause =
-    pins "Why, and the lowest port to which it applies. Of the seven the first was refused; of a fixed group the last has no whole packet, which comes first there (include/levelspruce.h)."
+    pins "Why the next report is held or doubtful, and the lowest port to which it applies. Of the seven the first was refused; of a fixed group the last has no whole packet, which comes first there (include/levelspruce.h)."
     (row "with LCAS" (causeOut (seven 0) (9 ∷ 9 ∷ [])) (1 ∷ 0 ∷ []) same
     ∷ row "of a fixed group" (causeOut (seven 2) (9 ∷ 9 ∷ [])) (6 ∷ 6 ∷ []) same
     ∷ row "two bytes are answered 0" (causeAnswer (seven 0) 2) 0 same
@@ -151,7 +151,7 @@ each-cause =
 heard : Pinned
 unfolding allOpen
 heard =
-    pins "The fourth port is the lowest whose packet is good (include/levelspruce.h)."
+    pins "What the far end says is read from the lowest port whose packet is good, here the fourth (include/levelspruce.h)."
     (row "epoch, MST and RS-Ack" (heardOut (seven 0) (9 ∷ 9 ∷ 9 ∷ 9 ∷ [])) (1 ∷ 5 ∷ 0xA7 ∷ 1 ∷ []) same
     ∷ row "four bytes are answered 0" (heardAnswer (seven 0) 4) 0 same
     ∷ row "five are 9" (heardAnswer (seven 0) 5) 9 same
@@ -167,7 +167,7 @@ ofVc12 oldest = port 0 (step 64 0 1) vc12 1 (putGroup (replicate 6 (replicate 16
 vc12-seen : Pinned
 unfolding allOpen
 vc12-seen =
-    pins "Its count is the step rule's to judge: in rows that no call returned, with another oldest epoch, it is no other number (include/levelspruce.h)."
+    pins "VC-12's count is the step rule's to judge: in rows that no call returned, with another oldest epoch, it is no other number (include/levelspruce.h; request 2026-01)."
     (row "in its own epoch" (seenOut (ofVc12 30) (replicate 1 (replicate 10 165))) ((1 ∷ 0 ∷ 0 ∷ 29 ∷ 2 ∷ 37 ∷ 1 ∷ 0xB4 ∷ 1 ∷ 1 ∷ []) ∷ []) same
     ∷ row "with another oldest epoch" (seenOut (ofVc12 7) (replicate 1 (replicate 10 165))) ((1 ∷ 0 ∷ 0 ∷ 29 ∷ 2 ∷ 37 ∷ 1 ∷ 0xB4 ∷ 1 ∷ 1 ∷ []) ∷ []) same
     ∷ row "what the far end says" (heardOut (ofVc12 30) (9 ∷ 9 ∷ 9 ∷ 9 ∷ [])) (1 ∷ 29 ∷ 0xB4 ∷ 1 ∷ []) same

@@ -35,7 +35,7 @@ step had failed count next joined since later whole =
 cleared : Pinned
 unfolding allOpen
 cleared =
-    pins "nobody has joined, nothing rules; the step record stays. At a beginning those in step are in step ever since it (01, 'Beginning', 'Report of an epoch')."
+    pins "At a stop and at a beginning nobody has joined and nothing rules; the step record stays. At a beginning those in step are in step ever since it (01, 'Beginning')."
     (row "one in step" (clearedStep (step 6 7 33 853 8 9 10 11) true) (step 6 7 33 853 0 1 0 0) same
     ∷ row "one that is not" (clearedStep (step 6 7 33 853 8 9 10 11) false) (step 6 7 33 853 0 0 0 0) same
     ∷ [])
@@ -84,7 +84,7 @@ g = group 1 0 57 30
 due : Pinned
 unfolding allOpen
 due =
-    pins "a port that is not readable owes nothing, nor does one that has brought the epoch, nor one that joined later; one that has not joined owes (01, 'Beginning', 'Report of an epoch')"
+    pins "A port that is not readable owes nothing, nor does one that has brought the epoch, nor one that joined later; one that has not joined owes (01, 'Beginning', 'Report of an epoch')"
     (row "31 frames in a row owe nothing" (owesNothing g (step 1 0 31 853 1 1 0 1) eights) true same
     ∷ row "neither joined nor in step since owes nothing" (owesNothing g apart eights) true same
     ∷ row "one that is readable owes" (owesNothing g owing eights) false same

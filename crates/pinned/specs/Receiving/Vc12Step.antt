@@ -31,21 +31,21 @@ packet count = tabulate 32 (λ k. (if k == 0 then 2 else 0) + (if k <? 5 then to
 late-start : Pinned
 unfolding allOpen
 late-start =
-    pins "nine frames with no start, then packets 5, 6 and 7 (request 2026-01)"
+    pins "'A port is in step after two whole packets in a row whose counts differ by one': nine frames with no start, then packets 5, 6 and 7 (request 2026-01)"
     (row "in step with the 64th frame behind the start" (answered fresh (replicate 9 0 ++ packet 5 ++ packet 6 ++ packet 7)) (replicate 72 12 ++ replicate 33 0) same
     ∷ [])
 
 other-count : Pinned
 unfolding allOpen
 other-count =
-    pins "a wrong count is in step up to its fifth bit, and its packet is the first of a new two (request 2026-01)"
+    pins "'a packet that breaks this loses step at the fifth bit of its count': a wrong count is in step up to it, and its packet is the first of a new two (request 2026-01)"
     (row "packet 9 in place of 7" (answered fresh (packet 5 ++ packet 6 ++ packet 9 ++ packet 10)) (replicate 63 12 ++ replicate 5 0 ++ replicate 28 12 ++ replicate 31 12 ++ (0 ∷ [])) same
     ∷ [])
 
 differ : Pinned
 unfolding allOpen
 differ =
-    pins "one more, and not one less (request 2026-01)"
+    pins "'whose counts differ by one': one more, and not one less (request 2026-01)"
     (row "7 behind 5" (answered fresh (packet 5 ++ packet 7 ++ packet 8)) (replicate 95 12 ++ (0 ∷ [])) same
     ∷ row "4 behind 5" (answered fresh (packet 5 ++ packet 4 ++ packet 6)) (replicate 96 12) same
     ∷ [])
@@ -53,21 +53,21 @@ differ =
 around : Pinned
 unfolding allOpen
 around =
-    pins "31 is followed by 0 (request 2026-01)"
+    pins "'whose counts differ by one': 31 is followed by 0 (request 2026-01)"
     (row "packets 30, 31 and 0" (answered fresh (packet 30 ++ packet 31 ++ packet 0)) (replicate 63 12 ++ replicate 33 0) same
     ∷ [])
 
 early : Pinned
 unfolding allOpen
 early =
-    pins "a start at place 9 of the third packet (request 2026-01)"
+    pins "'A start said early or left out loses step at that frame, and a frame said to be a start is always taken as a first bit': here one at place 9 of the third packet (request 2026-01)"
     (row "packet 20 within packet 7" (answered fresh (packet 5 ++ packet 6 ++ take 9 (packet 7) ++ packet 20 ++ packet 21)) (replicate 63 12 ++ replicate 10 0 ++ replicate 63 12 ++ (0 ∷ [])) same
     ∷ [])
 
 left-out : Pinned
 unfolding allOpen
 left-out =
-    pins "and one left out (request 2026-01)"
+    pins "'A start said early or left out loses step at that frame': here one left out (request 2026-01)"
     (row "packet 7 with no start" (answered fresh (packet 5 ++ packet 6 ++ (0 ∷ drop 1 (packet 7)) ++ packet 8 ++ packet 9)) (replicate 63 12 ++ (0 ∷ []) ++ replicate 32 12 ++ replicate 63 12 ++ (0 ∷ [])) same
     ∷ [])
 
@@ -86,6 +86,6 @@ flagged-start =
 other-bits : Pinned
 unfolding allOpen
 other-bits =
-    pins "bits of a byte other than the two lowest are not looked at (request 2026-01)"
+    pins "Bits of a byte other than the two lowest are not looked at (request 2026-01)"
     (row "packets 5, 6 and 9" (answered fresh (tabulate 96 (λ k. 252 + getD (packet 5 ++ packet 6 ++ packet 9) k 0))) (replicate 63 12 ++ replicate 5 0 ++ replicate 28 12) same
     ∷ [])

@@ -51,7 +51,7 @@ torn-packets =
 others : Pinned
 unfolding allOpen
 others =
-    pins "an IDLE port's GID counts for nothing, whichever it is, a DNU port's and an active one's hold the epoch where they differ; an ADD port's number does not fill a gap; EOS below the highest active number holds it, whether or not EOS stands on the highest too, and so do no EOS with a gap in the numbers, and two beside a packet that did not come; ADD's GID counts as an active port's; where none is active there need be no EOS; DNU's number counts among 0 to n-1 and not for EOS; a kind that is not known is judged as H4 (01, 'Report of an epoch'; request 2026-12)"
+    pins "An IDLE port's GID counts for nothing, whichever it is, a DNU port's and an active one's hold the epoch where they differ; an ADD port's number does not fill a gap; EOS below the highest active number holds it, whether or not EOS stands on the highest too, and so do no EOS with a gap in the numbers, and two beside a packet that did not come; ADD's GID counts as an active port's; where none is active there need be no EOS; DNU's number counts among 0 to n-1 and not for EOS; a kind that is not known is judged as H4 (01, 'Report of an epoch'; request 2026-12)"
     (row "an IDLE port's GID 0" (verdict (saw 3 0 1 ∷ saw 5 255 0 ∷ [])) 3 same
     ∷ row "an IDLE port's GID 1" (verdict (saw 3 0 0 ∷ saw 5 255 1 ∷ [])) 3 same
     ∷ row "DNU with the same GID" (verdict (saw 3 0 2 ∷ saw 15 1 2 ∷ [])) 3 same
@@ -109,7 +109,7 @@ fixed-place x = tabulate 4 (λ i. judgeOf 2 (set (tabulate 4 (λ j. saw 0 j 0)) 
 any-fixed : Pinned
 unfolding allOpen
 any-fixed =
-    pins "and of a fixed group: with another GID, which counts for nothing, refused, lacking a frame, with the next port's number, with a number above 3, and with no whole packet; and with one port (01, 'Report of an epoch'; request 2026-12)"
+    pins "Of a fixed group, whichever port it is: with another GID, which counts for nothing, refused, lacking a frame, with the next port's number, with a number above 3, and with no whole packet; and with one port (request 2026-12)"
     (row "with another GID" (fixed-place (λ i. saw 0 i 1)) (3 ∷ 3 ∷ 3 ∷ 3 ∷ []) same
     ∷ row "refused" (fixed-place (λ i. bad 0 i)) (1 ∷ 1 ∷ 1 ∷ 1 ∷ []) same
     ∷ row "lacking a frame" (fixed-place (λ i. lacks 0 i)) (1 ∷ 1 ∷ 1 ∷ 1 ∷ []) same
@@ -141,7 +141,7 @@ causes =
 first-cause : Pinned
 unfolding allOpen
 first-cause =
-    pins "of two clauses that hold the one before decides; and the marks by cause, of H4, VC-12 and a fixed group (01, 'Report of an epoch'; request 2026-12)"
+    pins "Of two clauses that hold the one before decides; and the marks by cause, of H4, VC-12 and a fixed group (01, 'Report of an epoch'; request 2026-12)"
     (row "refused before a lacking frame" (why 0 (bad 2 0 ∷ lacks 3 1 ∷ [])) (1 ∷ 0 ∷ []) same
     ∷ row "a lacking frame before a number twice" (why 0 (lacks 2 0 ∷ saw 3 0 0 ∷ [])) (2 ∷ 0 ∷ []) same
     ∷ row "a number twice before GID" (why 0 (saw 2 0 0 ∷ saw 3 0 1 ∷ [])) (3 ∷ 1 ∷ []) same
@@ -156,7 +156,7 @@ first-cause =
 fixed-causes : Pinned
 unfolding allOpen
 fixed-causes =
-    pins "a fixed group's, in its own order: no whole packet before a refused one, then frames, numbers twice and a gap; GID and EOS are not asked for (01, 'Report of an epoch'; request 2026-12)"
+    pins "A fixed group's causes, in its own order: no whole packet before a refused one, then frames, numbers twice and a gap; GID and EOS are not asked for (request 2026-12)"
     (row "none, whatever GID and EOS" (why 2 (saw 0 0 0 ∷ saw 0 1 1 ∷ [])) (0 ∷ 255 ∷ []) same
     ∷ row "no whole packet before a refused one" (why 2 (bad 0 0 ∷ joining ∷ [])) (6 ∷ 1 ∷ []) same
     ∷ row "refused before a lacking frame" (why 2 (saw 0 0 0 ∷ bad 0 1 ∷ lacks 0 2 ∷ [])) (1 ∷ 1 ∷ []) same
@@ -168,7 +168,7 @@ fixed-causes =
 orders : Pinned
 unfolding allOpen
 orders =
-    pins "payload goes by the numbers of active ports, however high, and not by what a refused or a torn packet reads as (01, 'Report of an epoch'; request 2026-12)"
+    pins "Payload goes by the numbers of active ports, however high, and not by what a refused or a torn packet reads as (01, 'Report of an epoch'; request 2026-12)"
     (row "X of three" (orderOf (saw 2 9 0 ∷ saw 2 5 0 ∷ saw 3 63 0 ∷ []) 3 .x) 3 same
     ∷ row "X of three, their order" (take 3 (orderOf (saw 2 9 0 ∷ saw 2 5 0 ∷ saw 3 63 0 ∷ []) 3 .ports)) (1 ∷ 0 ∷ 2 ∷ []) same
     ∷ row "X of one among five" (orderOf (bad 2 0 ∷ torn 2 1 0 true ∷ saw 3 2 0 ∷ saw 15 3 0 ∷ saw 1 4 0 ∷ []) 5 .x) 1 same
@@ -185,7 +185,7 @@ read s = readingNumber (readFixedAnswer s)
 fixed-packets : Pinned
 unfolding allOpen
 fixed-packets =
-    pins "epoch 147 with SQ 180: B4 at MFI1 14 and 15, 93 at MFI1 0 and 1; and epoch 255 with SQ 255 (01, 'Report of an epoch'; request 2026-12)"
+    pins "A fixed group's packet has its number and its epoch alone, and no CRC: epoch 147 with SQ 180 has B4 at MFI1 14 and 15, 93 at MFI1 0 and 1; and epoch 255 with SQ 255 (request 2026-12)"
     (row "epoch 147 with SQ 180" (writeFixedBytes 147 180 (nines 16)) (0x08 ∷ 0x09 ∷ 0x0A ∷ 0x0B ∷ 0x0C ∷ 0x0D ∷ 0xBE ∷ 0x4F ∷ 0x90 ∷ 0x31 ∷ 0x02 ∷ 0x03 ∷ 0x04 ∷ 0x05 ∷ 0x06 ∷ 0x07 ∷ []) same
     ∷ row "epoch 255 with SQ 255" (writeFixedBytes 255 255 (nines 16)) (0x08 ∷ 0x09 ∷ 0x0A ∷ 0x0B ∷ 0x0C ∷ 0x0D ∷ 0xFE ∷ 0xFF ∷ 0xF0 ∷ 0xF1 ∷ 0x02 ∷ 0x03 ∷ 0x04 ∷ 0x05 ∷ 0x06 ∷ 0x07 ∷ []) same
     ∷ row "epoch 256 leaves the bytes" (writeFixedBytes 256 180 (nines 16)) (nines 16) same

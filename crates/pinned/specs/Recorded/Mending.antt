@@ -43,7 +43,7 @@ lengths =
 
 largest : Pinned
 largest =
-    pins "of more than a size_t holds, the largest number (request 2026-11)"
+    pins "A length of more than a size_t holds is told as the largest number (request 2026-11)"
     (row "one less" (told 18446744073709551614) 18446744073709551614 same
     ∷ row "the largest" (told 18446744073709551615) 18446744073709551615 same
     ∷ row "one more" (told 18446744073709551616) 18446744073709551615 same
@@ -67,7 +67,7 @@ left =
 in-c : Pinned
 unfolding allOpen
 in-c =
-    pins "the C calls: lengths of the caller's stay under a refusal (request 2026-11)"
+    pins "In C the caller's lengths and buffers stay under a refusal (request 2026-11)"
     (row "lengths are answered 0" (lengthsAnswerC recording) 0 same
     ∷ row "the recording's" (mendedLengthC recording 5) 37 same
     ∷ row "the notes'" (notesLengthC recording 6) 21 same
@@ -85,7 +85,7 @@ in-c =
 two-ports : Pinned
 unfolding allOpen
 two-ports =
-    pins "a fixed group is followed as H4 is, each port by its own lines, flagged ones too, and behind F comes 0 (request 2026-11)"
+    pins "A fixed group is followed as H4 is, each port by its own lines, flagged ones too, and behind F comes 0 (request 2026-11)"
     (row "its lengths are answered 0" (lengthsAnswerC fixed) 0 same
     ∷ row "the recording's" (mendedLengthC fixed 5) 102 same
     ∷ row "the notes'" (notesLengthC fixed 6) 22 same
@@ -113,7 +113,7 @@ of-vc12 =
 empty-lines : Pinned
 unfolding allOpen
 empty-lines =
-    pins "an empty line of one byte has a note of nine (request 2026-11)"
+    pins "An empty line of one byte has a note of nine (request 2026-11)"
     (row "two of them are dropped" (mendedLengthC (ascii "1\t1\t16\n\n\n") 5) 7 same
     ∷ row "two of them are dropped, their notes" (notesLengthC (ascii "1\t1\t16\n\n\n") 6) 18 same
     ∷ [])

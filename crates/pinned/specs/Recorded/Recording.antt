@@ -23,7 +23,7 @@ use Rattle.tables.specs.Rows.{Pinned, pins, row, same}
 a-frame : Pinned
 unfolding allOpen
 a-frame =
-    pins "a frame's line of eleven bytes, its payload of four digits at 107, with its end and without (request 2026-05)"
+    pins "A frame's line, here of eleven bytes with its payload of four digits at 107, with its end and without (request 2026-05)"
     (row "with its end" (recordIn 3 2 100 (ascii "2\tf0\t1\tAb0C\nx")) (Frame 2 240 1 107 112) same
     ∷ row "without it the line is not finished" (recordIn 3 2 100 (ascii "2\tf0\t1\tAb0C")) Unfinished same
     ∷ row "as the last line it is one" (lastRecord 3 2 100 (ascii "2\tf0\t1\tAb0C")) (Frame 2 240 1 107 111) same
@@ -35,7 +35,7 @@ a-frame =
 no-frames : Pinned
 unfolding allOpen
 no-frames =
-    pins "lines that are none, each passed over to its end: no field, one, two, three and five fields, a port above, no port, three digits of H4, no H4, a flag of 2, a payload of three digits, a port of ten digits (request 2026-05)"
+    pins "Lines that are none, each passed over to its end: no field, one, two, three and five fields, a port above, no port, three digits of H4, no H4, a flag of 2, a payload of three digits, a port of ten digits (request 2026-05)"
     (row "no field" (recordIn 3 2 100 (ascii "\n")) (Malformed 101) same
     ∷ row "one field" (recordIn 3 2 100 (ascii "2\n")) (Malformed 102) same
     ∷ row "two fields" (recordIn 3 2 100 (ascii "2\tf0\n")) (Malformed 105) same
@@ -53,7 +53,7 @@ no-frames =
 in-a-row : Pinned
 unfolding allOpen
 in-a-row =
-    pins "one with more than a line behind it, from the next place on (request 2026-05)"
+    pins "A line is read with more than a line behind it, and the next from the next place on (request 2026-05)"
     (row "the first" (recordIn 3 2 5 (ascii "0\t1a\t0\t0000\n1\t2b\t1\tffff\n")) (Frame 0 26 0 12 17) same
     ∷ row "the second" (recordIn 3 2 17 (ascii "1\t2b\t1\tffff\n")) (Frame 1 43 1 24 29) same
     ∷ [])
@@ -80,7 +80,7 @@ first-lines =
 no-first-lines : Pinned
 unfolding allOpen
 no-first-lines =
-    pins "no field, one and two; each number none; a pair left half, and kinds that are none (request 2026-05)"
+    pins "First lines that are none: no field, one and two; each number none; a pair left half, and kinds that are none (request 2026-05)"
     (row "no field" (openingIn 0 false (ascii "\n")) O.Malformed same
     ∷ row "one" (openingIn 0 false (ascii "3\n")) O.Malformed same
     ∷ row "two" (openingIn 0 false (ascii "3\t2\n")) O.Malformed same
@@ -163,14 +163,14 @@ for-each-port =
 last-port : Pinned
 unfolding allOpen
 last-port =
-    pins "the number of the last of 64 ports is kept (request 2026-05)"
+    pins "The number of the last of 64 ports is kept (request 2026-05)"
     (row "its hold-off" (pairsFrom (firstPairs 64 1 16) (ascii "hold-off" ∷ replicate 64 (ascii "7")) .settings .«hold_off») (replicate 64 7) same
     ∷ row "its wait-to-restore" (pairsFrom (firstPairs 64 1 16) (ascii "wait-to-restore" ∷ replicate 64 (ascii "7")) .settings .restore) (replicate 64 7) same
     ∷ [])
 
 handed-over : Pinned
 handed-over =
-    pins "as it is handed over, with the place of the next line (request 2026-05)"
+    pins "The first line as it is handed over, with the place of the next line (request 2026-05)"
     (row "settings" (handed (O.Settings (settings 0 [] [] 3 2 32) 7)) (record { settings = settings 0 [] [] 3 2 32; next = 7; line = F.Settings }) same
     ∷ row "a malformed line" (handed O.Malformed) (record { settings = settings 0 [] [] 0 0 0; next = 0; line = F.Malformed }) same
     ∷ row "an unfinished one" (handed O.Unfinished) (record { settings = settings 0 [] [] 0 0 0; next = 0; line = F.Unfinished }) same

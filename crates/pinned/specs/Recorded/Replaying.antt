@@ -90,7 +90,7 @@ what-is-lent =
 what-is-said : Pinned
 unfolding allOpen
 what-is-said =
-    pins "a refusal at the front of the buffer, the rest of it as it was (request 2026-05)"
+    pins "A refusal is written at the front of the buffer, and the rest of it stays as it was (request 2026-05)"
     (row "13 for the first line" (turnSaid beginning (ascii "x\n") false (rows 321) (nines 40) [] (nines 1160)) (ascii "answer\t13\tline\t1\n" ++ nines 1143) same
     ∷ row "4 for it" (turnSaid beginning (ascii "0\t1\t16\n") false (rows 321) (nines 40) [] (nines 1160)) (ascii "answer\t4\tline\t1\n" ++ nines 1144) same
     ∷ row "nothing for a start" (turnSaid beginning (ascii "1\t1\t16\n") false (rows 321) (nines 40) [] (nines 1160)) (nines 1160) same
@@ -136,7 +136,7 @@ a-line =
 beyond : Pinned
 unfolding allOpen
 beyond =
-    pins "of more rows than the group's 11 a frame and a fetch leave the last ones as they are (request 2026-05)"
+    pins "Of more rows than the group's 11 a frame and a fetch leave the last ones as they are (request 2026-05)"
     (row "after a frame" (drop 11 (framedRows (at Reading 0) 1 0xF0 0 (0xAB ∷ []) (rows 13) (nines 64))) (rows 2) same
     ∷ row "after a fetch" (drop 11 (fetchRowsBy (at Fetching 1) (rows 13) (nines 64) (nines 32))) (rows 2) same
     ∷ [])
@@ -144,7 +144,7 @@ beyond =
 fetches : Pinned
 unfolding allOpen
 fetches =
-    pins "behind its last fetch a line is read next; a report leaves one fetch less (request 2026-05)"
+    pins "Behind its last fetch a line is read next; a report leaves one fetch less (request 2026-05)"
     (row "no fetch left" (turnOf (at Fetching 0) (ascii "x") false (rows 11) (nines 64) (nines 32) 1160) (goes (at Reading 0) 0 0 false) same
     ∷ row "no fetch left and a room of 1,159" (turnOf (at Fetching 0) (ascii "x") false (rows 11) (nines 64) (nines 32) 1159) (tooLittle (at Fetching 0)) same
     ∷ row "none due: the next line is read" (readOnTurn (at Fetching 7)) (goes (at Reading 0) 0 0 false) same
@@ -154,7 +154,7 @@ fetches =
 skips : Pinned
 unfolding allOpen
 skips =
-    pins "the rest of a line that is too long, to its end, or as far as there is text; then, and where the run has ended, more is wanted (request 2026-05)"
+    pins "The rest of a line that is too long is passed over to its end, or as far as there is text; then, and where the run has ended, more is wanted (request 2026-05)"
     (row "to the line's end" (turnOf (at Skipping 0) (ascii "abc\nd") false [] [] [] 0) (goes (at Reading 0) 4 0 false) same
     ∷ row "as far as there is text" (turnOf (at Skipping 0) (ascii "abc") false [] [] [] 0) (goes (at Skipping 0) 3 0 true) same
     ∷ row "to the end of the last part" (turnOf (at Skipping 0) (ascii "abc") true [] [] [] 0) (goes (at Reading 0) 3 0 true) same
@@ -168,7 +168,7 @@ skips =
 figures : Pinned
 unfolding allOpen
 figures =
-    pins "lines are counted in 64 bits; a store of ports x W x (P + 1), an output of ports x 16 x P, of VC-12 (request 2026-01) ports x 32 x P"
+    pins "Lines are counted in 64 bits; a store of ports x W x (P + 1), an output of ports x 16 x P, of VC-12 (request 2026-01) ports x 32 x P"
     (row "line numbers go round 2^64" (nextLine 18446744073709551615) 0 same
     ∷ row "line 42 comes after 41" (nextLine 41) 42 same
     ∷ row "a store" (storeOf 3 4 20) 300 same
@@ -200,7 +200,7 @@ three = putMember (putMember (putMember (replicate 16 (replicate 16 0)) 0 (membe
 states : Pinned
 unfolding allOpen
 states =
-    pins "the state of each port with its number: port 0 is OK 5 (2 x 256 + 5), port 1 FAIL 7 (256 + 7), port 2 IDLE, which has 255, and of VC-12 63 (request 2026-05)"
+    pins "The state of each port with its number: port 0 is OK 5 (2 x 256 + 5), port 1 FAIL 7 (256 + 7), port 2 IDLE, which has 255, and of VC-12 63 (request 2026-05)"
     (row "H4" (take 3 (statesIn 0 three)) (517 ∷ 263 ∷ 255 ∷ []) same
     ∷ row "a fixed group" (take 3 (statesIn 2 three)) (517 ∷ 263 ∷ 255 ∷ []) same
     ∷ row "VC-12" (take 3 (statesIn 1 three)) (517 ∷ 263 ∷ 63 ∷ []) same

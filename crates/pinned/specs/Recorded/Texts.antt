@@ -35,7 +35,7 @@ digits =
 numbers : Pinned
 unfolding allOpen
 numbers =
-    pins "decimal numbers of one digit to so many, nine at the very most; hex ones of exactly so many, one to eight (01, 'Session'; request 2026-05)"
+    pins "Decimal numbers of one digit to so many, nine at the very most; hex ones of exactly so many, one to eight (01, 'Session'; request 2026-05)"
     (row "three digits" (numberOf 3 (ascii "255")) (Value 255) same
     ∷ row "one digit" (numberOf 3 (ascii "7")) (Value 7) same
     ∷ row "none" (numberOf 3 []) Unreadable same
@@ -56,7 +56,7 @@ numbers =
 payloads : Pinned
 unfolding allOpen
 payloads =
-    pins "two hex digits a byte, all or none (01, 'Session'; request 2026-05)"
+    pins "Two hex digits a byte, all or none (01, 'Session'; request 2026-05)"
     (row "one byte" (isHex 2 (ascii "0f")) true same
     ∷ row "g among them" (isHex 2 (ascii "0g")) false same
     ∷ row "one digit" (isHex 2 (ascii "0")) false same
@@ -85,7 +85,7 @@ word n = record { 0 = n }
 written : Pinned
 unfolding allOpen
 written =
-    pins "numbers with no zero before them, up to 64 bits; words by name; a text at its place, or left out where it does not fit (01, 'Session'; request 2026-05)"
+    pins "Numbers with no zero before them, up to 64 bits; words by name; a text at its place, or left out where it does not fit (01, 'Session'; request 2026-05)"
     (row "0" (decimalText 0) (ascii "0") same
     ∷ row "9" (decimalText 9) (ascii "9") same
     ∷ row "10" (decimalText 10) (ascii "10") same

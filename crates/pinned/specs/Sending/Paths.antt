@@ -41,7 +41,7 @@ check accepted answer = record { accepted = accepted; answer = answer }
 checks : Pinned
 unfolding allOpen
 checks =
-    pins "a set in any order; one frame too wide; one entry too many, too few; a candidate twice; one that is none; W below 16; a delay above 4,095 (request 2026-09)"
+    pins "The check 'accepts a proposal only if it names k different candidates within that spread, and accepts every such set': a set in any order; one frame too wide; one entry too many, too few; a candidate twice; one that is none; W below 16; a delay above 4,095 (request 2026-09)"
     (row "a set in any order" (checkedOf delays 2 20 (3 ∷ 2 ∷ [])) (check true Done) same
     ∷ row "one frame too wide" (checkedOf delays 2 19 (3 ∷ 2 ∷ [])) (check false Done) same
     ∷ row "one entry too many" (checkedOf delays 1 20 (3 ∷ 2 ∷ [])) (check false Done) same
@@ -71,7 +71,7 @@ limits =
 orders : Pinned
 unfolding allOpen
 orders =
-    pins "the greatest delay less the least, whichever comes first; of one delay the lower number first (request 2026-09)"
+    pins "The spread is the greatest delay less the least, whichever comes first; of one delay the lower number comes first (request 2026-09)"
     (row "of three paths" (spreadOf delays (3 ∷ 0 ∷ 2 ∷ [])) 20 same
     ∷ row "of two" (spreadOf delays (2 ∷ 3 ∷ [])) 4 same
     ∷ row "apart, the lower first" (apart 3 5) 2 same

@@ -130,7 +130,7 @@ fed =
 ended : Pinned
 unfolding allOpen
 ended =
-    pins "at the end of the input a line that lacks its end is answered; where there is none nothing is said (01, 'Session')"
+    pins "At the end of the input a line that lacks its end is answered; where there is none nothing is said (01, 'Session')"
     (row "add 2 of two" (lastText (holding (ascii "add\t2"))) (ascii "answer\t1\n") same
     ∷ row "a malformed one" (lastText (holding (65 ∷ []))) (ascii "answer\t13\n") same
     ∷ row "none" (lastText (holding [])) [] same
@@ -148,7 +148,7 @@ fourParts = ascii "si" ∷ ascii "ze\t1\nadd\t1\nbo" ∷ [] ∷ ascii "ard" ∷ 
 whole : Pinned
 unfolding allOpen
 whole =
-    pins "a host that feeds three lines in four parts, one of them empty, and the last line without its end (01, 'Session')"
+    pins "The input may come in any parts: three lines in four, one of them empty, and the last line without its end (01, 'Session')"
     (row "the lines joined" (joined fourParts) (ascii "size\t1\nadd\t1\nboard") same
     ∷ row "what is answered" (hostOutput (nines 1095) fourParts) (ascii "answer\t0\nanswer\t1\nslot\t0\tIDLE\t255\nwait\t0\n") same
     ∷ [])
@@ -188,7 +188,7 @@ second-size =
 telling : Pinned
 unfolding allOpen
 telling =
-    pins "what lines tell: sizes of 1 to 64 alone are accepted, calls are those behind the last, and a line is told when its end has come (01, 'Session')"
+    pins "What lines tell: sizes of 1 to 64 alone are accepted, calls are those behind the last, and a line is told when its end has come (01, 'Session')"
     (row "2, where 65 and 0 follow" (lastSize (Size 2 ∷ Size 65 ∷ Size 0 ∷ [])) 2 same
     ∷ row "1 behind 64" (lastSize (Size 64 ∷ Add 1 ∷ Size 1 ∷ [])) 1 same
     ∷ row "none" (lastSize (Add 1 ∷ [])) 0 same

@@ -60,7 +60,7 @@ applied b cs = answerNumber (appliedOf b cs .answer)
 fitting : Pinned
 unfolding allOpen
 fitting =
-    pins "in slot order, each slot below the count, from what the board has to something else, the wait opened where there is none and closed where there is one (request 2026-10)"
+    pins "Changes fit a board in slot order, each slot below the count, from what the board has to something else, the wait opened where there is none and closed where there is one (request 2026-10)"
     (row "two changes and a wait that opens" (appliedOf (old false) (changes (gone ∷ moved ∷ []) Opened) .board) (board (shows 2 0 ∷ shows 5 255 ∷ shows 3 1 ∷ []) 3 true) same
     ∷ row "a change and a wait that closes" (appliedOf (old true) (changes (moved ∷ []) Closed) .board) (board (shows 2 0 ∷ shows 2 1 ∷ shows 3 1 ∷ []) 3 false) same
     ∷ row "none" (appliedOf (old true) (changes [] Same) .board) (old true) same
@@ -87,7 +87,7 @@ fitting =
 comparing : Pinned
 unfolding allOpen
 comparing =
-    pins "told from one board to the next; boards of 65 slots, which no call returns, are 4 (request 2026-10)"
+    pins "Changes are told from one board to the next; boards of 65 slots, which no call returns, are 4 (request 2026-10)"
     (row "two changes and a wait that opens" (comparedOf (old false) (board (shows 2 0 ∷ shows 5 255 ∷ shows 3 1 ∷ []) 3 true) .changes) (changes (gone ∷ moved ∷ []) Opened) same
     ∷ row "a change and a wait that closes" (comparedOf (old true) (board (shows 2 0 ∷ shows 2 1 ∷ shows 3 1 ∷ []) 3 false) .changes) (changes (moved ∷ []) Closed) same
     ∷ row "equal boards" (comparedOf (old true) (old true) .changes) (changes [] Same) same
@@ -104,7 +104,7 @@ told cs = answerNumber (speakAnswer cs (replicate 2188 0))
 speaking : Pinned
 unfolding allOpen
 speaking =
-    pins "a slot above 63, slots that do not rise, nothing changed, words that no board shows: 2; a text that is too short: 9, whatever the changes (request 2026-10)"
+    pins "What no board shows is not spoken: a slot above 63, slots that do not rise, nothing changed, words that no board shows are 2; a text that is too short is 9, whatever the changes (request 2026-10)"
     (row "two changes and a wait" (told (changes (gone ∷ moved ∷ []) Opened)) 0 same
     ∷ row "not in slot order" (told (changes (moved ∷ gone ∷ []) Opened)) 2 same
     ∷ row "slot 63" (told (changes (change 63 (shows 2 1) (shows 5 255) ∷ []) Same)) 0 same
@@ -135,7 +135,7 @@ shifted = changes (change 0 (shows 2 0) (shows 5 255) ∷ (tabulate 3 (λ i. cha
 in-runs : Pinned
 unfolding allOpen
 in-runs =
-    pins "runs: over no gap, of one old and one new word, of numbers that rise by one or are alike, and as long as they can be (request 2026-10)"
+    pins "Runs go over no gap, are of one old and one new word, of numbers that rise by one or are alike, and as long as they can be (request 2026-10)"
     (row "four slots added" (runsText few) (ascii "slots\t0\tto\t3\twas\tIDLE\tnow\tADD\t0\tto\t3\n") same
     ∷ row "the first of five removed" (runsText shifted) (ascii "slot\t0\twas\tNORM\t0\tnow\tIDLE\t255\nslots\t1\tto\t3\twas\tNORM\t1\tto\t3\tnow\tNORM\t0\tto\t2\nslot\t4\twas\tEOS\t4\tnow\tEOS\t3\nwait\topen\n") same
     ∷ row "no run" (runsText (changes (gone ∷ moved ∷ []) Opened)) (spokenText (changes (gone ∷ moved ∷ []) Opened)) same
@@ -156,7 +156,7 @@ in-runs =
 wholes : Pinned
 unfolding allOpen
 wholes =
-    pins "a whole board; a word that no board shows, and a count above 64, are 2 (request 2026-10)"
+    pins "A whole board is told in runs; a word that no board shows, and a count above 64, are 2 (request 2026-10)"
     (row "three slots" (wholeText (old false)) (ascii "slots\t0\tto\t1\tNORM\t0\tto\t1\nslot\t2\tEOS\t2\nwait\t0\n") same
     ∷ row "all IDLE" (wholeText (board [] 4 false)) (ascii "slots\t0\tto\t3\tIDLE\nwait\t0\n") same
     ∷ row "one that is not" (wholeText (board (shows 3 0 ∷ []) 4 false)) (ascii "slot\t0\tEOS\t0\nslots\t1\tto\t3\tIDLE\nwait\t0\n") same
