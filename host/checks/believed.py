@@ -24,8 +24,10 @@ from checks.specs import TOKEN, File, House
 
 PAGES = ("RULES.md", "PROMISES.md")
 APART = {"Laws", "Proofs", "Theorems"}
-COMPUTED = {"Wrong", "Samples", "Examples", "Clauses", "Opened"}
+COMPUTED = {"Wrong", "Samples", "Examples", "Opened"}
 ELSE = "Every other rule and promise"
+# of RULES: what is tried, and once more the theorems that the page names above
+PINS = "What pins a definition"
 CONTRACTS = "Contracts of public functions"
 INTRO = """# What must be believed
 
@@ -45,6 +47,11 @@ crate stands the number of its lines, without comments and empty lines, then the
 
 def rooms(file):
     return set(pathlib.PurePath(file).with_suffix("").parts[2:])
+
+
+def computed(file):
+    """Whether a file has examples, of which nobody has to believe anything: a room of such, or the crate of rows that pin."""
+    return bool(rooms(file) & COMPUTED) or file.startswith("pinned/")
 
 
 def cells(text):
@@ -77,6 +84,8 @@ class Pages:
         for name in PAGES:
             path = top / "docs" / name
             for heading, text in named.blocks(path.read_text()) if path.exists() else ():
+                if heading == PINS:
+                    continue
                 roots = {d.key: d for d in self.roots(page, heading, proved_part(text))}
                 for title in titles(name, heading, text):
                     self.sections.setdefault(title, {}).update(roots)
@@ -116,7 +125,7 @@ class Pages:
     def there(self, place, name):
         """What is declared by a name in a file, or in the files of a folder."""
         files = [f for f in self.house.files if place and (f == place or f.startswith(place + "/"))]
-        return [d for f in files if not rooms(f) & COMPUTED for d in self.house.named_in[f].get(name, [])]
+        return [d for f in files if not computed(f) for d in self.house.named_in[f].get(name, [])]
 
 
 def strays(house, pages):

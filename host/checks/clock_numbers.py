@@ -6,7 +6,7 @@
   crates/*/specs and crates/*/proofs but packet's.
 - The one name of a crate's file Opened opens its definitions, and these numbers with them: it is named as they are.
 - A run computed on a sample of a kind computes with its numbers: files Wrong, Samples, Examples and Opened, and those in
-  such folders, may unfold them. So may crates/conformance, which holds the definitions to the paper's own numbers.
+  such folders, may unfold them. So may crates/conformance and crates/pinned, which hold the definitions to the paper's own numbers.
 
 - `vc12Kind` is named in packet and step, which have the cases on the kind, in the proofs of phases' `is_sized` and of receiver's `arrive` with its laws (Arriving),
   which ask for it once so that the compiler folds the rest (store's `packet_in` does so too, by packet's law `h4-row`), in recording, which reads its name, in
@@ -17,10 +17,10 @@ import re
 from checks.specs import code
 
 NUMBERS = ("frames", "epochs", "tags", "lead")
-OWN = ("packet", "conformance")
+OWN = ("packet", "conformance", "pinned")
 COMPUTED = ("Wrong", "Samples", "Examples", "Opened")
 VC12 = "vc12Kind"
-CASES = ("packet", "step", "conformance")
+CASES = ("packet", "step", "conformance", "pinned")
 
 
 def computed(path):

@@ -3,8 +3,8 @@
 - A crate's specs/Opened.antt has one name, which computed examples unfold. Its `unfolding` clause names every
   `unfoldable pub` definition of the crate's files of definitions. Where a crate has no such file, they stand in that of a
   crate above it; those in NONE, above which nothing computes, have none.
-- A file of definitions is one below specs/ that stands neither in Laws, Theorems, Proofs, Wrong, Samples, Examples or
-  Clauses nor in Inner (by what payload's loops are proved), nor in a file of such a name.
+- A file of definitions is one below specs/ that stands neither in Laws, Theorems, Proofs, Wrong, Samples or Examples
+  nor in Inner (by what payload's loops are proved), nor in a file of such a name.
 - Such a file has none of the kit's `cond`, `eqb`, `ltb` and `leb`, but ground's Plain, which gives them their other names.
   Laws among definitions may have them.
 """
@@ -13,8 +13,8 @@ import re
 
 from checks.specs import House
 
-APART = {"Laws", "Theorems", "Proofs", "Wrong", "Samples", "Examples", "Clauses", "Opened", "Inner"}
-NONE = ("conformance", "groups", "invariant", "none_due", "sure_add")
+APART = {"Laws", "Theorems", "Proofs", "Wrong", "Samples", "Examples", "Opened", "Inner"}
+NONE = ("conformance", "groups", "invariant", "none_due", "pinned", "sure_add", "tables")
 KIT = ("cond", "eqb", "ltb", "leb")
 PLAIN = "ground/specs/Plain.antt"
 

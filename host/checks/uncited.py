@@ -2,8 +2,8 @@
 
 - A name that a `use` line brings into a file and that the file does not name again.
 - A law of specs/ that nothing names: no other declaration, no page of docs/. Theorems, wrong readings, samples and
-  examples are there for their own sake (files and folders of these names, and crates/conformance), and so are equations by
-  refl among definitions.
+  examples are there for their own sake (files and folders of these names, crates/conformance and crates/pinned), and so
+  are equations by refl among definitions.
 - A function of src/ that is not public and that nothing calls. What is public is held by promised-names.
 """
 import collections
@@ -40,7 +40,7 @@ def brought_in(text):
 
 
 def for_its_own_sake(inside):
-    return inside.parts[0] == "conformance" or any(part in OWN_SAKE for part in inside.with_suffix("").parts)
+    return inside.parts[0] in ("conformance", "pinned") or any(part in OWN_SAKE for part in inside.with_suffix("").parts)
 
 
 def laws(text, inside):

@@ -1,6 +1,7 @@
--- The refusals of every entry point that can refuse (demand 1), in one table: each row is an entry point's name, its call and the proof that it copes. host/tools/refusals holds each row to the entry point's contract.
+-- The refusals of every entry point that can refuse (demand 1), in one table: each row is an entry point's name, its call and the proof that it copes. host/checks/refusals.py holds each row to the entry point's contract.
 pub mod Cards
 pub mod CardStates
+pub mod Entries
 pub mod Epochs
 pub mod Going
 pub mod Lines
@@ -15,8 +16,9 @@ pub mod Seeing
 pub mod Senders
 pub mod Spoken
 pub mod Tables
+pub mod Wrong
 use mathlib.Core.List.{List, [], _∷_}
-use Rattle.conformance.specs.Entries.{Coping, row}
+use Entries.{Coping, row}
 use Cards as card
 use CardStates as cardState
 use Epochs as sender

@@ -1,1 +1,1 @@
-// No code: 01's examples in one table, and every entry point's refusals in a second. They stand in specs/.
+// No code: 01's examples and worked ones, every entry point's refusals, and theorems that join crates. They stand in specs/.

@@ -1,5 +1,5 @@
 -- Wrong readings of 2026-05, each as a definition with a run on which it breaks what the request says. Three more, which take a run of 72 frames, stand in
--- crates/conformance/specs/Replays.antt: a pending fetch forgotten at the cut, a malformed line handed as a flagged frame, and the port of a report read behind its fetch.
+-- crates/conformance/specs/Examples/Replays.antt: a pending fetch forgotten at the cut, a malformed line handed as a flagged frame, and the port of a report read behind its fetch.
 use mathlib.Core.Path.{_≡_, refl}
 use mathlib.Core.List.{List, [], _∷_, _++_}
 use Prim.Native.Nat.{ℕ}

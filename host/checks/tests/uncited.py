@@ -15,7 +15,7 @@ CASES = [
     ("a field of a record", {"crates/one/specs/Rules.antt": "pub record Rules : Type 0 where\n  pub first : ℕ\n"}, ""),
     ("a theorem", {"crates/one/specs/Theorems/Demand2.antt": LAW}, ""),
     ("a sample", {"crates/one/specs/Samples.antt": LAW}, ""),
-    ("a row of conformance", {"crates/conformance/specs/Clauses/Steps.antt": LAW}, ""),
+    ("a row of conformance", {"crates/pinned/specs/Receiving/Steps.antt": LAW}, ""),
     ("an example among definitions", {"crates/one/specs/Plain.antt": LAW}, ""),
     ("a law among definitions", {"crates/one/specs/Plain.antt": "pub law : (n : ℕ) → n ≡ n\nlaw n = omega arith\n"}, "nothing names the law\tlaw"),
     ("a name that is not used", {THEOREM: "use mathlib.Core.Path.{_≡_, refl, sym}\n\npub t : 0 ≡ 0\nt = refl\n"}, f"{THEOREM}\tbrings in and does not name\tsym of mathlib.Core.Path"),

@@ -1,7 +1,7 @@
 """unpinned [-q] [-c|-o] [-v] [WORD..]: which clauses of the definitions could be changed, with their code, and no computed example would notice?
 
 A definition of specs/ is changed in one place: a number, a comparison, a branch, an order, a field, a constructor. Then the
-examples that are computed are worked out again: the rows of every table of crates/conformance, and every closed equation of
+examples that are computed are worked out again: the rows of every table of crates/conformance and crates/pinned, and every closed equation of
 specs/ but those of laws. One fact is a line of the output, fields parted by tabs:
     unpinned   FILE:LINE  DEFINITION  what it was -> what it became  how many examples reach it, which all stay as they were
     unreached  FILE:LINE  DEFINITION  (no example does)
@@ -34,7 +34,7 @@ from checks.unpinned.values import Trouble
 from checks.unpinned.working import Made
 
 # crates whose files are examples, and crates of plain words, which those above try
-EXAMPLES, WORDS = ("conformance",), ("ground", "counting")
+EXAMPLES, WORDS = ("conformance", "pinned", "tables"), ("ground", "counting")
 # seconds of the longest example that `-q` takes
 QUICK = 0.3
 

@@ -32,7 +32,7 @@ def examples(house, made, quick):
         if "Laws" in d.module.parts or "Proofs" in d.module.parts:
             continue
         words = [t.text for t in d.signature]
-        if words[-2:] == ["List", "Row"] and len(words) == 2 and d.clauses:
+        if words in (["List", "Row"], ["Pinned"]) and d.clauses:
             def row(k, d=d):
                 r = F(made.constant(d.number)[k])
                 return same(r.fields["given"], r.fields["said"])

@@ -192,7 +192,7 @@ class House:
             if ".declared." in source or rest and rest[0] == "declared":
                 return "constructor", own.split(".")[-1]
             return "library", own
-        if own in ("ascii", "tabulate", "drawn"):
+        if own in ("ascii", "tabulate", "drawn") or module.crate == "tables" and own in ("row", "pins", "same"):
             return "library", own
         if rest:
             return "constructor", own

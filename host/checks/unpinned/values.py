@@ -143,5 +143,8 @@ LIBRARY = {
     "ascii": (1, lambda s: tuple(F(s).encode("latin-1"))),
     "tabulate": (2, tabulated),
     "drawn": (3, drawn),
+    # crates/tables: a row, and rows that pin a sentence
+    "row": (4, lambda name, given, said, holds: Rec({"name": name, "given": given, "said": said})),
+    "pins": (2, lambda sentence, rows: F(rows)),
 }
-VALUES = {"true": "True", "false": "False", "zero": "0", "[]": "()", "tt": "()", "refl": "()"}
+VALUES = {"true": "True", "false": "False", "zero": "0", "[]": "()", "tt": "()", "refl": "()", "same": "()"}

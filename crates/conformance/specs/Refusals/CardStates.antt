@@ -13,7 +13,7 @@ use Rattle.circuits.specs.Calls.{Call as CardCall, outcomeOf}
 use Rattle.circuits.specs.Calls.Call.{AddSlot, Claim, Lapse, Release, RemoveSlot, Report, StartEpoch}
 use Rattle.circuits.specs.Commands as card
 use Rattle.circuits.specs.Readings.{packetBytes, payloadBytes}
-use Rattle.conformance.specs.Entries.{Call, Copes, If, Refusal, Unless, behind, copes, first, put-anew, stateful, stateless, tested}
+use Rattle.conformance.specs.Refusals.Entries.{Call, Copes, If, Refusal, Unless, behind, copes, first, put-anew, stateful, stateless, tested}
 use Rattle.conformance.specs.Refusals.Cards as own
 use Rattle.conformance.specs.Refusals.Cards.{emptyCard}
 use Rattle.conformance.specs.Refusals.Senders.{allBytes, inEpochs, isSent, sends-is}

@@ -17,7 +17,7 @@ use Rattle.circuits.specs.Laws.GroupSender.{put-back, sender-number}
 use Rattle.circuits.specs.Owners.{ownedBytes}
 use Rattle.circuits.specs.Parts.{emptySender, groupOutcome, isSlot, isUsed, marked, owns, refused, senderOf, shownSender, withSender}
 use Rattle.circuits.specs.Readings.{boardShown, outgoingShown, ownedShown, packetAnswer, packetBytes, payloadAnswer, payloadBytes, ranksShown}
-use Rattle.conformance.specs.Entries.{Call, Copes, If, Refusal, Unless, copes, stateful, stateless}
+use Rattle.conformance.specs.Refusals.Entries.{Call, Copes, If, Refusal, Unless, copes, stateful, stateless}
 use Rattle.conformance.specs.Refusals.Epochs as sender
 use Rattle.conformance.specs.Refusals.Tables.{idle, member-is, stateAt}
 use Rattle.sender.specs.declared.epochs.Sender.{Sender}

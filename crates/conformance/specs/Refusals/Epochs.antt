@@ -12,7 +12,7 @@ use Rattle.packet.specs.Sent.{sentFits}
 use Rattle.packet.specs.Vc12.{vc12Fits}
 use Rattle.packet.specs.Words.{assigned}
 use Rattle.packet.specs.Writing.{fitting}
-use Rattle.conformance.specs.Entries.{Call, Copes, If, Refusal, Unless, copes, either, stateful, stateless}
+use Rattle.conformance.specs.Refusals.Entries.{Call, Copes, If, Refusal, Unless, copes, either, stateful, stateless}
 use Rattle.conformance.specs.Refusals.Packets.{smallOf}
 use Rattle.conformance.specs.Refusals.Payloads.{ranged}
 use Rattle.conformance.specs.Refusals.Tables as table

@@ -10,7 +10,7 @@ use Rattle.console.specs.declared.line.Line.the-variants.{Size, Add, Remove, Re
 use Rattle.console.specs.declared.session.Session.{Session}
 use Rattle.console.specs.Replies.{replyOf, sizeReply}
 use Rattle.console.specs.Session.{feedBytes, feedOf, finishBytes, finishOf}
-use Rattle.conformance.specs.Entries.{Call, Copes, If, Refusal, copes, done, stateful}
+use Rattle.conformance.specs.Refusals.Entries.{Call, Copes, If, Refusal, copes, done, stateful}
 use Rattle.conformance.specs.Refusals.Tables.{add, add-copes, lapse, lapse-copes, remove, remove-copes, report-copes}
 use Rattle.sender.specs.declared.table.Table.{Table}
 use Rattle.sender.specs.Commands.{startOf}

@@ -6,7 +6,7 @@ use Prim.Native.Nat.{ℕ}
 use lib.ListN.{length, take}
 use Rattle.ground.specs.Plain.{if_then_else_, _==_}
 use Rattle.c_recordings.specs.Mends.{lengthsAnswerC, mendAnswerC, mendedC, mendedLengthC, notesC, notesLengthC}
-use Rattle.conformance.specs.Entries.{Call, Copes, Refusal, Unless, copes, stateful, stateless}
+use Rattle.conformance.specs.Refusals.Entries.{Call, Copes, Refusal, Unless, copes, stateful, stateless}
 use Rattle.conformance.specs.Refusals.Receivers.{startRanged, timesInRange}
 use Rattle.mending.specs.Lines.{linesWith}
 use Rattle.mending.specs.Mending.{answerBy, fitting, mendAnswer, mendedOf, notesOf, openingOf, readAnswer}

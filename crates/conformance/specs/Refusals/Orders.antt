@@ -7,7 +7,7 @@ use Rattle.ground.specs.Plain.{_==_, _<?_}
 use Rattle.c_cards.specs.Orders.{orderAnswerOn, orderAnswersOn, orderStateOn}
 use Rattle.circuits.specs.declared.card.Card.{Card}
 use Rattle.circuits.specs.Answers.{answerNumber}
-use Rattle.conformance.specs.Entries.{Call, Copes, If, Unless, copes, stateful}
+use Rattle.conformance.specs.Refusals.Entries.{Call, Copes, If, Unless, copes, stateful}
 use Rattle.orders.specs.declared.commands.Command.{Command}
 use Rattle.orders.specs.Orders.{answersOf, firstAnswers, firstOrdered, orderedOf}
 

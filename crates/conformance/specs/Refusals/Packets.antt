@@ -22,7 +22,7 @@ use Rattle.packet.specs.Vc12.{lowestOf, readVc12Answer, readVc12Bits, readVc12R
 use Rattle.packet.specs.Words.{assigned}
 use Rattle.packet.specs.Writing.{fitting, writeAnswer, writeBytes, writingNumber}
 use Rattle.step.specs.Carried.{readingIn}
-use Rattle.conformance.specs.Entries.{Call, Copes, If, Refusal, Unless, answers-alone, behind, copes, stateless}
+use Rattle.conformance.specs.Refusals.Entries.{Call, Copes, If, Refusal, Unless, answers-alone, behind, copes, stateless}
 
 -- 'FIXED 0, ADD 1, NORM 2, EOS 3, IDLE 5, DNU 15. All others are unassigned.'
 abbrev pub named : ℕ → Bool

@@ -11,7 +11,7 @@ use Rattle.paths.specs.Answers.{answerOf, areShort, numberOf}
 use Rattle.paths.specs.Checking.{checkedOf}
 use Rattle.paths.specs.declared.answers.Answer.the-variants.{Done, Range}
 use Rattle.paths.specs.Planning.{planOf, setOf}
-use Rattle.conformance.specs.Entries.{Call, Copes, Unless, copes, stateful, stateless}
+use Rattle.conformance.specs.Refusals.Entries.{Call, Copes, Unless, copes, stateful, stateless}
 
 -- 'k of 0 or above the number of candidates, more than 64 candidates, a delay above 4,095, or W outside 16 to 2,048 is 4'
 abbrev pub ranged : (delays : List ℕ) (k W : ℕ) → Bool

@@ -10,7 +10,7 @@ use Rattle.ground.specs.Plain.{_==_, _≤?_}
 use Rattle.payload.specs.Answers.{answerBy, numberOf, underDone}
 use Rattle.payload.specs.Joining.{fromAnswer, joined, joinedFrom, wholeAnswer}
 use Rattle.payload.specs.Spreading.{oneAnswer, spreadAll, spreadOne}
-use Rattle.conformance.specs.Entries.{Call, Copes, Refusal, Unless, answers-alone, copes, stateless}
+use Rattle.conformance.specs.Refusals.Entries.{Call, Copes, Refusal, Unless, answers-alone, copes, stateless}
 
 -- X is at most 64 and P 1 to 2,340
 abbrev pub ranged : ℕ → ℕ → Bool

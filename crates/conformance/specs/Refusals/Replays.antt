@@ -10,7 +10,7 @@ use Rattle.ground.specs.Flags.{oneIf}
 use Rattle.ground.specs.Plain.{if_then_else_, _==_, _<?_, _≤?_}
 use Rattle.bytes.specs.Bytes.{indexOf}
 use Rattle.c_recordings.specs.Replays.{beginAnswerC, beginStateC, bytesOf, lastC, lengthsAnswerC, outLengthC, replayOf, storeLengthC, turnAnswerC, turnAtC, turnOutC, turnRowsC, turnSaidC, turnStateC, turnStoreC, turnWantsC, turnWrittenC}
-use Rattle.conformance.specs.Entries.{Call, Copes, Refusal, Unless, copes, done, stateful}
+use Rattle.conformance.specs.Refusals.Entries.{Call, Copes, Refusal, Unless, copes, done, stateful}
 use Rattle.conformance.specs.Refusals.Receivers.{startRanged, timesInRange}
 use Rattle.packet.specs.Kinds.{frames, payloadRight, tags}
 use Rattle.phases.specs.Sizes.{knownKind, sized, startSized}

@@ -6,7 +6,7 @@ use Prim.Native.Nat.{ℕ}
 use lib.ListN.{length}
 use Rattle.c_face.specs.Boards.{shownAnswerC}
 use Rattle.c_face.specs.Settings.{settingsBytesC}
-use Rattle.conformance.specs.Entries.{Call, Copes, Unless, copes, stateful, stateless}
+use Rattle.conformance.specs.Refusals.Entries.{Call, Copes, Unless, copes, stateful, stateless}
 use Rattle.conformance.specs.Refusals.Receivers.{portsOf, rowsOf, storeOf}
 use Rattle.conformance.specs.Refusals.Senders.{isWhole, shows}
 use Rattle.ground.specs.Plain.{_==_}

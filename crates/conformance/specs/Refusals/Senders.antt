@@ -11,7 +11,7 @@ use Rattle.ground.specs.Types.{Bytes}
 use Rattle.c_face.specs.Boards.{boardBytesC, outgoingBytesC, ranksBytesC, shownAnswerC, shownBytes}
 use Rattle.c_face.specs.Keeping.{bytesOf, senderOf}
 use Rattle.c_face.specs.Senders.{areBytes, callAnswerC, callStateC, packetAnswerC, packetBytesC, payloadAnswerC, payloadBytesC, sends, startAnswerC, startStateC}
-use Rattle.conformance.specs.Entries.{Call, Copes, If, Refusal, Unless, behind, copes, first, put-anew, stateful, stateless, tested}
+use Rattle.conformance.specs.Refusals.Entries.{Call, Copes, If, Refusal, Unless, behind, copes, first, put-anew, stateful, stateless, tested}
 use Rattle.conformance.specs.Refusals.Epochs as own
 use Rattle.packet.specs.Kinds.{epochs, knownKind}
 use Rattle.sender.specs.Calls.Call.{AddSlot, Lapse, RemoveSlot, Report}

@@ -6,7 +6,7 @@ use lib.ListN.{getD, length}
 use Rattle.ground.specs.Plain.{_==_, _<?_, _≤?_}
 use Rattle.c_cards.specs.Changes.{appliedAnswerC, appliedBytesC, boardFrom, changesFrom, comparedAnswerC, comparedBytesC, spokenAnswerC, spokenBytesC, writtenC}
 use Rattle.c_cards.specs.Runs.{runsAnswerC, runsBytesC, runsWrittenC, wholeAnswerC, wholeBytesC, wholeWrittenC}
-use Rattle.conformance.specs.Entries.{Call, Copes, If, Refusal, Unless, copes, stateful, stateless}
+use Rattle.conformance.specs.Refusals.Entries.{Call, Copes, If, Refusal, Unless, copes, stateful, stateless}
 use Rattle.sender.specs.declared.board.Board.{Board}
 use Rattle.spoken.specs.Applying.{appliedOf, fits}
 use Rattle.spoken.specs.Changes.{answerNumber, comparedOf, noChanges}

@@ -4,7 +4,7 @@ use mathlib.Core.Bool.{Bool, true, false, not, _||_}
 use mathlib.Core.List.{List, [], _∷_}
 use Prim.Native.Nat.{ℕ}
 use Rattle.ground.specs.Plain.{if_then_else_, _==_, _<?_}
-use Rattle.conformance.specs.Entries.{Call, Copes, If, Refusal, Unless, copes, done, stateful}
+use Rattle.conformance.specs.Refusals.Entries.{Call, Copes, If, Refusal, Unless, copes, done, stateful}
 use Rattle.sender.specs.declared.table.State.{State}
 use Rattle.sender.specs.declared.table.State.the-variants.{Idle, Add, Active, Dnu}
 use Rattle.sender.specs.declared.table.Table.{Table}

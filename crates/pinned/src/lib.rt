@@ -1,0 +1,1 @@
+// No code: named rows that pin clauses of definitions, worked out apart. They stand in specs/.
