@@ -10,7 +10,7 @@ FILES = {
     "crates.txt": "one:\nconformance: one\npinned: one\n",
 }
 SAID = "- Adding. Stated: `tableOf` of crates/one/specs/Table.antt. "
-MARK = "\n\n<!-- The table below is written by host/tools/rules -w. -->\n\n"
+MARK = "\n\n<!-- The table below is written by host/check rules -w. -->\n\n"
 HEAD = "| Definitions of | Named rows | Wrong readings and samples | Theorems | Named by none of these |\n|---|---|---|---|---|\n"
 NONE = "| [one](../crates/one) | | | | `more`, `tableOf` |\n"
 ROWS = "| [one](../crates/one) | `adds` 2 of [pinned/Sending](../crates/pinned/specs/Sending.antt) | | | `more` |\n"

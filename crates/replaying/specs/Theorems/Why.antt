@@ -15,7 +15,7 @@ use Rattle.judge.specs.declared.seen.Seen.{Seen}
 use Rattle.phases.specs.Sizes.{portsIn, storeFor}
 use Rattle.receiver.specs.declared.report.Report.{Report}
 use Rattle.receiver.specs.Cause.{causeFit, causeIn, causeOut}
-use Rattle.receiver.specs.Fetch.{FetchOutcome, dueIn, fetchOf, fits, noneDue, recordOf, reportIfDue}
+use Rattle.receiver.specs.Fetch.{FetchOutcome, dueIn, fetchOf, fits, recordOf, reportIfDue}
 use Rattle.receiver.specs.Lengths.{fetchFits, outputFor, rowsFit}
 use Rattle.receiver.specs.Report.{reportBy, reportOf, seenAll}
 use Rattle.replaying.specs.declared.replay.Replay.{Replay}
@@ -40,16 +40,12 @@ module _ (s : List (List ℕ)) (store out : List ℕ) where
   rec = fetchOf s store out (replicate 8 0) .report
 
   given : ltb 0 (getD rec 0 0) ≡ true → (fits s store out (replicate 8 0) ≡ true) × (dueIn g n s ≡ true)
-  unfolding fetchOf reportIfDue
+  unfolding fetchOf reportIfDue recordOf
   given =
       cond-by (λ (o : FetchOutcome). ltb 0 (getD (o .report) 0 0) ≡ true → (fits s store out (replicate 8 0) ≡ true) × (dueIn g n s ≡ true)) (fits s store out (replicate 8 0)) _ _
       (λ f. cond-by (λ (r : Report). ltb 0 (getD (recordOf r) 0 0) ≡ true → (fits s store out (replicate 8 0) ≡ true) × (dueIn g n s ≡ true)) (dueIn g n s) _ _
-      (λ d t. (f, d)) none)
+      (λ d t. (f, d)) (λ d t. absurd (not-suc-le-zero (ltb-true 0 0 t))))
       (λ f t. absurd (not-suc-le-zero (ltb-true 0 0 t)))
-    where
-      none : dueIn g n s ≡ false → ltb 0 (getD (recordOf noneDue) 0 0) ≡ true → (fits s store out (replicate 8 0) ≡ true) × (dueIn g n s ≡ true)
-      unfolding recordOf
-      none d t = absurd (not-suc-le-zero (ltb-true 0 0 t))
 
   rows-fit : fits s store out (replicate 8 0) ≡ true → rowsFit n (length s) ≡ true
   unfolding fits fetchFits
