@@ -27,7 +27,7 @@ use Rattle.rows.specs.Rows.{putRow, rowIn}
 use Rattle.rows.specs.Step.{putStep, stepAt, withNext}
 use Rattle.step.specs.Theorems.Steady.{mid-epoch-goes-on, mid-even, steady-taken}
 use Rattle.step.specs.declared.arrival.Taken.{Taken}
-use Rattle.step.specs.Arrival.{distanceIn, takenOf}
+use Rattle.step.specs.Arrival.{distanceIn, flagged, takenOf}
 use Rattle.step.specs.OwnCount.{endsOdd}
 use Rattle.step.specs.Steady.{midEpoch, steady, steadyTaken}
 use Rattle.store.specs.Frames.{placeIn, storedAt}
@@ -137,6 +137,16 @@ port-rows kind s i t h tag stepped gathered marked e0 e1 e2 e3 =
     let same : marksAt stepped i ≡ marksAt s i = rw e1 (marks-after-step s i (t .step)) in
     let m : marksAt gathered i ≡ marksAt s i = rw e2 (marks-after-packets stepped i (gatheredBy kind (packetsAt stepped i) (t .counted) tag h) ∙ same) in
     e3 ∙ rw (m, e2, p, e1, e0) refl
+
+-- A flagged frame: packets and marks are put back as they were.
+pub flagged-step : (kind : ℕ) (s : List (List ℕ)) (i : ℕ) (g : Group) (q : Step) → portRows kind s i (takenOf g q true false 0) 0 ≡ putStep s i (takenOf g q true false 0 .step)
+unfolding portRows takenOf flagged gatheredBy marksBy
+flagged-step kind s i g q =
+    let now : Step = takenOf g q true false 0 .step in
+    let stepped : List (List ℕ) = putStep s i now in
+    same-marks s i (putPackets stepped i (packetsAt s i)) (marks-after-packets stepped i (packetsAt s i) ∙ marks-after-step s i now)
+    ∙ ap (λ (pair : List (List ℕ)). putPackets stepped i pair) (sym (packets-after-step s i now))
+    ∙ sym (same-packets stepped i)
 
 -- A steady frame in mid-epoch: the marks are put back as they were.
 module _ (s : List (List ℕ)) (i h : ℕ) (g : Group) where

@@ -12,11 +12,12 @@ use Rattle.counting.specs.Each.{each}
 use Rattle.counting.specs.Words.{some}
 use Rattle.ground.specs.Truth.{and-right}
 use Rattle.phases.specs.Beginning.{foremost}
+use Rattle.phases.specs.Settling.{settledOf}
 use Rattle.phases.specs.Sizes.{portsIn}
 use Rattle.judge.specs.declared.seen.Seen.{Seen}
 use Rattle.receiver.specs.Anew.{anewAnswer, anewFits, anewRows}
 use Rattle.receiver.specs.Behind.{behindAnswer, behindBy, behindIn, behindOut}
-use Rattle.receiver.specs.Frame.{portRows, settledBy}
+use Rattle.receiver.specs.Frame.{settledBy}
 use Rattle.receiver.specs.Cause.{causeAnswer, causeFit, causeIn, causeOut}
 use Rattle.receiver.specs.Heard.{goodAt, heardAnswer, heardFit, heardOf, heardOut}
 use Rattle.receiver.specs.Laws.Anew.{anew-fits, flagged-rows, flaggedPort, flaggedPorts}
@@ -28,9 +29,10 @@ use Rattle.receiver.specs.Shown.{shownFit}
 use Rattle.rows.specs.declared.group.Group.{Group}
 use Rattle.rows.specs.declared.step.Step.{Step}
 use Rattle.rows.specs.Group.{groupAt}
-use Rattle.rows.specs.Step.{stepAt}
+use Rattle.rows.specs.Step.{putStep, stepAt}
 use Rattle.step.specs.declared.arrival.Taken.{Taken}
 use Rattle.step.specs.Arrival.{takenOf}
+use Rattle.receiver.proofs.Arriving.{flagged-step}
 
 pub heard-length : (n rows out : ℕ) → heardFit n rows out ≡ true → out ≡ 4
 unfolding heardFit
@@ -142,7 +144,20 @@ module _ (s : List (List ℕ)) (g : Group) (n : ℕ) (fit : Bool) (eg : g ≡ gr
         let o = anew-fits s store (sym same-anew ∙ e) in
         rw (← same-anew, e) (refl, el ∙ rw (en, eg) (sym (flagged-rows s store o (portsIn (groupAt s)) (omega arith))))
 
+-- what follows for all ports, and nothing
+pub settled-some : (settles : Bool) (g : Group) (n : ℕ) (store : List ℕ) (a b : List (List ℕ)) → settles ≡ true → n ≡ portsIn g → b ≡ settledOf n store a → b ≡ settledBy settles (portsIn g) store a
+unfolding settledBy
+settled-some settles g n store a b e en eb = rw (e, ← en) eb
+
+pub settled-none : (settles : Bool) (g : Group) (store : List ℕ) (a : List (List ℕ)) → settles ≡ false → a ≡ settledBy settles (portsIn g) store a
+unfolding settledBy
+settled-none settles g store a e = rw e refl
+
 pub flagged-by : (store : List ℕ) (i : ℕ) (s : List (List ℕ)) (g : Group) (q : Step) (t : Taken) (a b : List (List ℕ)) → g ≡ groupAt s → q ≡ stepAt s i → t ≡ takenOf g q true false 0
-    → a ≡ portRows (g .kind) s i t 0 → b ≡ settledBy (t .settles) (portsIn g) store a → b ≡ flaggedPort store i s
+    → a ≡ putStep s i (t .step) → b ≡ settledBy (t .settles) (portsIn g) store a → b ≡ flaggedPort store i s
 unfolding flaggedPort
-flagged-by store i s g q t a b eg eq et ea eb = eb ∙ rw (ea, et, eq, eg) refl
+flagged-by store i s g q t a b eg eq et ea eb =
+    eb
+    ∙ rw (ea, et, eq, eg)
+    (ap (λ (rows : List (List ℕ)). settledBy (takenOf (groupAt s) (stepAt s i) true false 0 .settles) (portsIn (groupAt s)) store rows)
+    (sym (flagged-step (groupAt s .kind) s i (groupAt s) (stepAt s i))))

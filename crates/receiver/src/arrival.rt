@@ -63,7 +63,7 @@ fn mark(kind: u8, state: &mut [[u8; 16]], port: u8, taken: Taken)
     }
 }
 
-pub(crate) fn put_port(kind: u8, state: &mut [[u8; 16]], port: u8, taken: Taken, h4: u8)
+fn put_port(kind: u8, state: &mut [[u8; 16]], port: u8, taken: Taken, h4: u8)
     ensures { λ _. ⌜ now (state .exit) ≡ portRows kind (now (state .entry)) port taken h4 ⌝ }
 {
     let step = taken.step;
@@ -90,7 +90,7 @@ fn put_frame(group: Group, port: u8, taken: Taken, h4: u8, payload: &[u8], store
 }
 
 // The ports are counted where something follows for them, which few frames bring.
-pub(crate) fn settle_by(settles: bool, group: Group, store: &[u8], state: &mut [[u8; 16]])
+fn settle_by(settles: bool, group: Group, store: &[u8], state: &mut [[u8; 16]])
     ensures { λ _. ⌜ now (state .exit) ≡ settledBy settles (portsIn group) (now (store .entry)) (now (state .entry)) ⌝ }
 {
     if settles {

@@ -1,5 +1,4 @@
 // Receiving begun anew: one flagged frame on every port, in port order.
-use crate::arrival;
 use crate::lengths;
 use rows::Group;
 use step::answers;
@@ -8,15 +7,20 @@ ghost use lib.ListN.{length};
 ghost use Rattle.receiver.specs.Anew.{anewAnswer, anewFits, anewRows};
 ghost use Rattle.receiver.specs.Laws.Anew.{flaggedPort, flaggedPorts};
 
-// The rows after a flagged frame, of which nothing is stored.
+// The rows after a flagged frame, of which nothing is stored: of the port its step alone changes. A frame's own functions (arrival) are not called, since
+// the compiler would then no longer take them into the call that every frame makes.
 fn flag_port(port: u8, store: &[u8], state: &mut [[u8; 16]])
     ensures { λ _. ⌜ now (state .exit) ≡ flaggedPort (now (store .entry)) port (now (state .entry)) ⌝ }
 {
     let group = rows::group::get(state);
     let step = rows::step::get(state, port);
     let taken = step::decide(group, step, true, false, 0);
-    arrival::put_port(group.kind, state, port, taken, 0);
-    arrival::settle_by(taken.settles, group, store, state);
+    let now = taken.step;
+    rows::step::put(state, port, now);
+    if taken.settles {
+        let ports = phases::ports_in(group);
+        phases::settle(ports, store, state);
+    }
 }
 
 fn flag_ports(ports: u8, store: &[u8], state: &mut [[u8; 16]])
