@@ -26,7 +26,7 @@ use Rattle.rows.specs.Group.{groupAt}
 use Rattle.rows.specs.Rows.{rowsFor}
 
 -- a receiver's rows, with what is lent for a fetch
-module _ (s : List (List ℕ)) (store out : List ℕ) where
+module _ (s : List (List ℕ)) (store out report : List ℕ) where
   abbrev g : Group
   g = groupAt s
 
@@ -36,36 +36,36 @@ module _ (s : List (List ℕ)) (store out : List ℕ) where
   abbrev ports : List Seen
   ports = seenAll g s n
 
-  abbrev rec : List ℕ
-  rec = fetchOf s store out (replicate 8 0) .report
-
-  given : ltb 0 (getD rec 0 0) ≡ true → (fits s store out (replicate 8 0) ≡ true) × (dueIn g n s ≡ true)
-  unfolding fetchOf reportIfDue recordOf
-  given =
-      cond-by (λ (o : FetchOutcome). ltb 0 (getD (o .report) 0 0) ≡ true → (fits s store out (replicate 8 0) ≡ true) × (dueIn g n s ≡ true)) (fits s store out (replicate 8 0)) _ _
-      (λ f. cond-by (λ (r : Report). ltb 0 (getD (recordOf r) 0 0) ≡ true → (fits s store out (replicate 8 0) ≡ true) × (dueIn g n s ≡ true)) (dueIn g n s) _ _
-      (λ d t. (f, d)) (λ d t. absurd (not-suc-le-zero (ltb-true 0 0 t))))
-      (λ f t. absurd (not-suc-le-zero (ltb-true 0 0 t)))
-
-  rows-fit : fits s store out (replicate 8 0) ≡ true → rowsFit n (length s) ≡ true
+  rows-fit : fits s store out report ≡ true → rowsFit n (length s) ≡ true
   unfolding fits fetchFits
   rows-fit e =
       let a : Bool = rowsFit n (length s) in
       let b : Bool = eqb (length store) (storeFor g n) in
       let c : Bool = leb (outputFor g n) (length out) in
-      and-left a b (and-left (a && b) c (and-left (a && b && c) (eqb 8 8) e))
+      and-left a b (and-left (a && b) c (and-left (a && b && c) (eqb (length report) 8) e))
 
-  own-cause : ltb 0 (getD rec 0 0) ≡ true → getD rec 3 0 ≡ causeOf (g .kind) ports (sizeOf n)
+  own-cause : fits s store out report ≡ true → dueIn g n s ≡ true → getD (fetchOf s store out report .report) 3 0 ≡ causeOf (g .kind) ports (sizeOf n)
   unfolding fetchOf reportIfDue recordOf reportOf reportBy
-  own-cause h = let e = given h in rw (e .0, e .1) refl
+  own-cause f d = rw (f, d) refl
 
-  own-mark : ltb 0 (getD rec 0 0) ≡ true → getD rec 0 0 ≡ markOf (g .kind) (causeOf (g .kind) ports (sizeOf n))
+  own-mark : fits s store out report ≡ true → dueIn g n s ≡ true → getD (fetchOf s store out report .report) 0 0 ≡ markOf (g .kind) (causeOf (g .kind) ports (sizeOf n))
   unfolding fetchOf reportIfDue recordOf reportOf reportBy
-  own-mark h = let e = given h in rw (e .0, e .1) (mark-by-cause (g .kind) ports (sizeOf n))
+  own-mark f d = rw (f, d) (mark-by-cause (g .kind) ports (sizeOf n))
 
-  own-port : ltb 0 (getD rec 0 0) ≡ true → blamedIn s ≡ blamedBy ports (sizeOf n) (causeOf (g .kind) ports (sizeOf n))
+  own-port : fits s store out report ≡ true → blamedIn s ≡ blamedBy ports (sizeOf n) (causeOf (g .kind) ports (sizeOf n))
   unfolding blamedIn causeOut causeFit causeIn blamedOf
-  own-port h = rw (rows-fit (given h .0)) refl
+  own-port f = rw (rows-fit f) refl
+
+-- a record that says a mark is a report's: the record lent was zeros
+given : (s : List (List ℕ)) (store out : List ℕ) → ltb 0 (getD (fetchOf s store out (replicate 8 0) .report) 0 0) ≡ true
+    → (fits s store out (replicate 8 0) ≡ true) × (dueIn (groupAt s) (portsIn (groupAt s)) s ≡ true)
+unfolding fetchOf reportIfDue recordOf
+given s store out =
+    let fit : Bool = fits s store out (replicate 8 0) in
+    let due : Bool = dueIn (groupAt s) (portsIn (groupAt s)) s in
+    cond-by (λ (o : FetchOutcome). ltb 0 (getD (o .report) 0 0) ≡ true → (fit ≡ true) × (due ≡ true)) fit _ _
+    (λ f. cond-by (λ (r : Report). ltb 0 (getD (recordOf r) 0 0) ≡ true → (fit ≡ true) × (due ≡ true)) due _ _ (λ d t. (f, d)) (λ d t. absurd (not-suc-le-zero (ltb-true 0 0 t))))
+    (λ f t. absurd (not-suc-le-zero (ltb-true 0 0 t)))
 
 -- The cause that a report's line names is the first clause that held of the ports seen; by it the report is held, doubtful or sure; and the port is the lowest to which that clause applies.
 pub why-named : (r : Replay) (rows : List (List ℕ)) (store out : List ℕ) → isDue r rows store out ≡ true
@@ -79,5 +79,7 @@ unfolding fetchRecordBy
 why-named r rows store out h =
     let own = take (rowsFor (r .ports)) rows in
     let lent = take (storeOf (r .ports) (r .size) (r .window)) store in
-    let c = own-cause own lent out h in
-    (c, own-mark own lent out h ∙ ap (markOf (groupAt own .kind)) (sym c), own-port own lent out h ∙ ap (blamedBy (seenAll (groupAt own) own (portsIn (groupAt own))) (sizeOf (portsIn (groupAt own)))) (sym c))
+    let e = given own lent out h in
+    let none : List ℕ = replicate 8 0 in
+    let c = own-cause own lent out none (e .0) (e .1) in
+    (c, own-mark own lent out none (e .0) (e .1) ∙ ap (markOf (groupAt own .kind)) (sym c), own-port own lent out none (e .0) ∙ ap (blamedBy (seenAll (groupAt own) own (portsIn (groupAt own))) (sizeOf (portsIn (groupAt own)))) (sym c))
