@@ -1,3 +1,5 @@
+-- Under 0 the frame is the joined one, and under 4 and 9 it stays: one case for each answer.
+-- The answer 0 says that both lengths are X P, which the work requires (`whole-fits`).
 use mathlib.Core.Path.{refl, sym, _∙_}
 use lib.ListN.{length}
 use native.Mathlib.Omega.{arith}

@@ -1,3 +1,5 @@
+-- Under 0 the members are those of the frame spread, and under 4 and 9 they stay: one case for each answer.
+-- The answer 0 says that both lengths are X P, which the work requires (`whole-fits`).
 use mathlib.Core.Path.{refl, sym, _∙_}
 use lib.ListN.{length}
 use native.Mathlib.Omega.{arith}

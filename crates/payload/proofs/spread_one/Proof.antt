@@ -1,3 +1,5 @@
+-- Under 0 the member is the one of the frame's rank r, and under 4 and 9 it stays: one case for each answer.
+-- The answer 0 says that the frame has X P bytes and the member P, which the work requires (`one-fits`).
 use mathlib.Core.Path.{refl, sym, _∙_}
 use lib.ListN.{length}
 use native.Mathlib.Omega.{arith}

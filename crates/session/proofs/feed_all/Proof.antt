@@ -1,3 +1,4 @@
+-- Nothing is promised of the session; the loop ends because each part fed uses at least one byte of what is left, and no more (`fed-on`).
 use Prim.Native.Nat.{_≤_, _-_}
 use native.Mathlib.Omega.{arith}
 use lib.ListN.{length}

@@ -1,3 +1,4 @@
+-- The owner row is the state's first 64 bytes: after i turns the first i places are read (`Done`), and after 64 the whole table.
 use mathlib.Core.Path.{_≡_, refl}
 use Prim.Native.Nat.{_≤_, _-_}
 use native.Mathlib.Omega.{arith}

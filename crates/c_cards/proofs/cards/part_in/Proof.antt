@@ -1,3 +1,5 @@
+-- Each of the two parts of a card's state, cut out by its ends, is the definition's part of the group (`read-part`), and the sender is read of it.
+-- A group other than 0 has the second part.
 use Rattle.c_cards.proofs.TwoGroups.{first-at, second-at, read-part}
 use Rattle.c_face.specs.Keeping.{senderOf}
 use mathlib.Core.Path.{_∙_, ap}

@@ -1,3 +1,4 @@
+-- The owner row over the first 64 bytes, then the group's part over its own: the definition's two fillings in the same order (`own-whole`).
 use Rattle.c_cards.proofs.TwoGroups.{own-whole}
 use borrow.Author.Needs.{needs}
 use lib.ListN.{length, length-map}

@@ -1,3 +1,4 @@
+-- A sender put into the part lent, cut out by its ends, fills the state from the part's place on and leaves the rest (`write-part`), for each group.
 use Rattle.c_cards.proofs.TwoGroups.{first-at, second-at, write-part}
 use native.Mathlib.Omega.{arith}
 use Rattle.c_cards.proofs.cards.put_part.Statement.{statement}

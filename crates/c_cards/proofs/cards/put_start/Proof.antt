@@ -1,3 +1,4 @@
+-- The card as started is put once for each group: the owner row and both parts are then all of it (`start-put`).
 use Rattle.c_cards.proofs.TwoGroups.{start-put}
 use native.Mathlib.Omega.{arith}
 use Rattle.c_cards.proofs.cards.put_start.Statement.{statement}

@@ -1,3 +1,4 @@
+-- Three exits are the three cases of the definition, in its order: 1 for a slot beyond the count, 0 for the group's own, 14 for any other.
 use mathlib.Core.Path.{_∙_, refl, sym}
 use native.Mathlib.Omega.{arith}
 use borrow.Author.Tests.{eq-eqb, le-ltb, lt-ltb, ne-eqb}

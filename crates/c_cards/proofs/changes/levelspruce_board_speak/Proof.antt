@@ -1,3 +1,5 @@
+-- The call meets its contract: 9 for each of two lengths, 2 for a wait that is none, and then what speaking answers; under 0 `written` is set.
+-- Each exit cites one law of Telling, in the order of the tests.
 use Rattle.c_cards.proofs.Telling.{spoken-bytes, spoken-first, spoken-is, spoken-refusal, spoken-second, spoken-told, spoken-wait}
 use native.Mathlib.Omega.{arith}
 use Rattle.c_cards.proofs.changes.levelspruce_board_speak.Statement.{statement}

@@ -1,3 +1,4 @@
+-- After i turns the first i changes are read of the bytes (`Done`), and after 64 the whole list, so that nothing of the blank one is left.
 use mathlib.Core.Path.{_≡_, refl}
 use Prim.Native.Nat.{_≤_, _-_}
 use native.Mathlib.Omega.{arith}

@@ -1,3 +1,4 @@
+-- After i turns the first i changes stand as five bytes each, behind the two of the head (`Filling`); five more are the next change (`five-more`).
 use mathlib.Core.Path.{_≡_}
 use Prim.Native.Nat.{_*_, _≤_, _-_}
 use native.Mathlib.Omega.{arith}

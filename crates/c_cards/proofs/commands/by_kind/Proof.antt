@@ -1,3 +1,4 @@
+-- Each of the four kinds is the definition's case, with the contract of its own call; any other number is 8 and leaves the state (`no-kind`).
 use mathlib.Core.Path.{refl}
 use native.Mathlib.Omega.{arith}
 use Rattle.c_cards.specs.Orders.{kindAnswerOn, kindStateOn}

@@ -1,3 +1,5 @@
+-- The call meets its contract: what the planner refuses, then 9 for the buffer, and under 0 the plan's 65 bytes.
+-- Each exit cites one law on an answer into a lent buffer (`lent-refused`, `lent-short`, `lent-done`), with the planner's number (`plan-number`).
 use mathlib.Core.Path.{_∙_, ap}
 use Rattle.c_cards.specs.Plans.{planBytesOf}
 use Rattle.c_cards.proofs.Planning.{lent-done, lent-refused, lent-short, plan-number}

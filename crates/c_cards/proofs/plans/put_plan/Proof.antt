@@ -1,3 +1,4 @@
+-- The count and then the 64 paths fill the whole buffer, so that nothing of the old one is left (`plan-whole`).
 use mathlib.Core.Path.{_≡_}
 use native.Mathlib.Omega.{arith}
 use lib.ListN.{length, length-map}

@@ -1,3 +1,5 @@
+-- The call meets its contract: 9 for each of two lengths, 2 for a wait that is none, then what speaking in runs answers; under 0 `written` is set.
+-- Each exit cites one law of Telling, in the order of the tests.
 use Rattle.c_cards.proofs.Telling.{runs-bytes, runs-first, runs-is, runs-refusal, runs-second, runs-told, runs-wait}
 use native.Mathlib.Omega.{arith}
 use Rattle.c_cards.proofs.runs.levelspruce_board_speak_runs.Statement.{statement}

@@ -1,3 +1,5 @@
+-- The call meets its contract: 9 for each of two lengths, and then what speaking the board answers; under 0 `written` is set.
+-- Each exit cites one law of WholeBoards, in the order of the tests.
 use Rattle.c_cards.proofs.WholeBoards.{whole-bytes, whole-first, whole-is, whole-refusal, whole-second, whole-told}
 use native.Mathlib.Omega.{arith}
 use Rattle.c_cards.proofs.runs.levelspruce_board_speak_whole.Statement.{statement}

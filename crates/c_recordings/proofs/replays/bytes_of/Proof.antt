@@ -1,3 +1,4 @@
+-- The seventeen bytes are the definition's, one by one: each is a number below 256, so that nothing is lost where it becomes a byte.
 use mathlib.Core.Path.{refl}
 use borrow.Author.Needs.{needs}
 use Rattle.c_recordings.specs.Replays.{bytesOf}

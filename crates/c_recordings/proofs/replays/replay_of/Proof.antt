@@ -1,3 +1,4 @@
+-- Every field is read at its place in the seventeen bytes, by a function that gives the definition's value; any bytes are a replay.
 use borrow.Author.Needs.{needs}
 use mathlib.Core.Path.{refl}
 use Rattle.c_recordings.specs.Replays.{replayOf}

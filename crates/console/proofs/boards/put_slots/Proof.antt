@@ -1,3 +1,5 @@
+-- After i turns the lines of the first i slots stand at the front of the output, and the next begins behind them (`Put`, `put-then`).
+-- The next line has room, since the room required holds 64 of the longest (`slot-room`).
 use mathlib.Core.Path.{_≡_}
 use Prim.Native.Nat.{_-_, _≤_}
 use native.Mathlib.Numerals.{add-one}

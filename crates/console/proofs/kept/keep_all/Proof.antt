@@ -1,3 +1,4 @@
+-- After i turns what is kept is the definition's for the first i bytes of the input; keeping one byte more gives that for i + 1 (`keep-turn`).
 use mathlib.Core.Path.{_≡_, refl, _∙_}
 use Prim.Native.Nat.{_-_, _≤_, _<_}
 use native.Mathlib.Omega.{arith}

@@ -1,3 +1,4 @@
+-- Where no tab follows, the rest is one field and read as a number (`two`); else the field up to the tab is the next of at least three (`more`).
 use mathlib.Core.Path.{_∙_}
 use borrow.Author.Needs.{needs}
 use Rattle.console.proofs.Parting.{two, more}

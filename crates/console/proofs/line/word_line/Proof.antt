@@ -1,3 +1,4 @@
+-- Three exits are the three cases of the definition: the one field is `lapse`, or `board`, or malformed.
 use borrow.Author.Needs.{needs}
 use Rattle.console.specs.Line.{wordLine}
 use Rattle.console.proofs.line.word_line.Statement.{statement}

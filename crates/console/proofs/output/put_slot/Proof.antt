@@ -1,3 +1,4 @@
+-- The four parts of the line are put one behind the other, and together are its text (`put-then`); room for all of it is room for each (`shorter`).
 use mathlib.Core.List.{_++_}
 use lib.ListN.{length}
 use borrow.Author.Needs.{needs}

@@ -1,3 +1,4 @@
+-- One case for each line: its own call of the sender, replied by number and table; the board is 0 and a malformed line 13, and both leave the table.
 use mathlib.Core.Path.{_∙_, ap}
 use borrow.Author.Needs.{needs}
 use Rattle.console.specs.Replies.{repliedOf, replyOf}

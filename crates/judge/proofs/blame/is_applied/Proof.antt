@@ -1,3 +1,4 @@
+-- One exit for each clause that a port can be blamed by, and one for all other causes: the cases of the definition, in its order.
 use borrow.Author.Tests.{eq-eqb, ne-eqb}
 use Rattle.judge.specs.Cause.{applies}
 use borrow.Author.Needs.{needs}

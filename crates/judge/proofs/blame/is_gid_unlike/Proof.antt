@@ -1,3 +1,4 @@
+-- After j turns it is found exactly if one of the first j ports that are not IDLE has a GID unlike the given one, as the definition counts them.
 use native.Mathlib.Numerals.{add-one}
 use mathlib.Core.Path.{_≡_, refl}
 use Prim.Native.Nat.{_≤_, _-_}

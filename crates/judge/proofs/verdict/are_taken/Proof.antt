@@ -1,3 +1,4 @@
+-- With the search at a number, the answer is whether each number below it is taken by one of the ports; at the limit that is the definition.
 use native.Mathlib.Numerals.{add-one}
 use mathlib.Core.Path.{_≡_, refl}
 use Prim.Native.Nat.{_≤_, _-_}

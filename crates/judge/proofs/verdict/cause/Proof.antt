@@ -1,3 +1,5 @@
+-- A port alone is judged without the table, which gives the same since only the first port counts (`cause-first`).
+-- Else a fixed group goes by its own clauses and any other by those of LCAS, on at most 64 ports (`size-le`).
 use mathlib.Core.Path.{_∙_}
 use borrow.Author.Tests.{eq-eqb, ne-eqb}
 use Rattle.judge.proofs.Alone.{cause-first}

@@ -1,3 +1,4 @@
+-- After i turns it is found exactly if one of the first i ports has a number that a port below it has too, as the definition counts them.
 use native.Mathlib.Numerals.{add-one}
 use mathlib.Core.Path.{_≡_, refl}
 use Prim.Native.Nat.{_≤_, _-_}

@@ -1,3 +1,4 @@
+-- After i turns the answer is whether of the first i ports exactly those say EOS that are active with the highest number.
 use native.Mathlib.Numerals.{add-one}
 use mathlib.Core.Path.{_≡_, refl}
 use Prim.Native.Nat.{_≤_, _-_}

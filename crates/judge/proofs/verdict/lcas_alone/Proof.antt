@@ -1,3 +1,5 @@
+-- The clauses of LCAS for one port: nothing can repeat (`none-repeats`), and its number is exact if it has none or 0 (`exact-alone`).
+-- A clause that holds decides (`by-held`), else one that doubts (`by-doubt`).
 use Rattle.judge.proofs.Alone.{exact-alone, none-repeats}
 use Rattle.judge.proofs.Judging.{by-held, by-doubt}
 use mathlib.Core.List.{[], _∷_}

@@ -1,3 +1,5 @@
+-- A clause that holds decides (`by-held`), else one that doubts (`by-doubt`), each from the definition's tally, repeats, EOS and exactness.
+-- The numbers to be exact are no more than the ports (`numbered-le`).
 use Rattle.judge.proofs.Judging.{by-held, by-doubt, numbered-le}
 use borrow.Author.Needs.{needs}
 use Rattle.judge.proofs.verdict.lcas_cause.Statement.{statement}

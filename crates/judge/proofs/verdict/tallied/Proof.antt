@@ -1,3 +1,4 @@
+-- After i turns the tally is that of the first i ports; it counts no more of them than there are, so that the next still fits.
 use native.Mathlib.Numerals.{add-one}
 use mathlib.Core.Path.{_≡_, _∙_, ap}
 use Prim.Native.Nat.{_≤_, _-_}

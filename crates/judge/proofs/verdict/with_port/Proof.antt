@@ -1,3 +1,4 @@
+-- Each field of the tally with one more port is the definition's; the count has room, since it was below 64 and grows by one at most.
 use native.Mathlib.Omega.{arith}
 use Prim.Native.Nat.{_≤_, _<_}
 use Rattle.judge.proofs.Counts.{one-fits}

@@ -1,3 +1,4 @@
+-- One case for each line: only a size can be one that is accepted, and then by its number.
 use borrow.Author.Needs.{needs}
 use Rattle.listener.proofs.lines.is_size.Statement.{statement}
 use Rattle.listener.proofs.lines.is_size.Tie as tie

@@ -1,3 +1,5 @@
+-- In runs the text is what speaking the whole board writes (`board-runs`), else what the console shows (`board-each`).
+-- The room required leaves no refusal by length.
 use Rattle.listener.proofs.Printing.{board-each, board-runs}
 use borrow.Author.Needs.{needs}
 use Rattle.listener.proofs.lines.put_board.Statement.{statement}

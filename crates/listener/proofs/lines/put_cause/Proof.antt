@@ -1,3 +1,4 @@
+-- One case for each line: the bytes put are the definition's text of that line, wherever they are put.
 use borrow.Author.Needs.{needs}
 use Rattle.listener.proofs.lines.put_cause.Statement.{statement}
 use Rattle.listener.proofs.lines.put_cause.Tie as tie

@@ -1,3 +1,5 @@
+-- In runs the text is what speaking in runs writes (`changes-runs`), else what speaking each change writes (`changes-each`).
+-- The room required leaves no refusal by length.
 use Rattle.listener.proofs.Printing.{changes-each, changes-runs}
 use borrow.Author.Needs.{needs}
 use Rattle.listener.proofs.lines.put_changes.Statement.{statement}

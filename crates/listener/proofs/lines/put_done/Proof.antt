@@ -1,3 +1,4 @@
+-- A size that is accepted is told with the count (`done-size`); for any other line there is no text, and the output stays (`done-none`).
 use borrow.Author.Tests.{not-false, not-true}
 use Rattle.listener.proofs.Printing.{done-none, done-size}
 use borrow.Author.Needs.{needs}

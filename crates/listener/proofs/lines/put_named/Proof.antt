@@ -1,3 +1,4 @@
+-- One case for each line: the bytes put are the definition's name of that line, none for a malformed one.
 use borrow.Author.Needs.{needs}
 use Rattle.listener.proofs.lines.put_named.Statement.{statement}
 use Rattle.listener.proofs.lines.put_named.Tie as tie

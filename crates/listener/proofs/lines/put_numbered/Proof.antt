@@ -1,3 +1,4 @@
+-- One case for each line: the decimal of its number for the three that have one, and no bytes for the four others.
 use borrow.Author.Needs.{needs}
 use Rattle.listener.proofs.lines.put_numbered.Statement.{statement}
 use Rattle.listener.proofs.lines.put_numbered.Tie as tie

@@ -1,3 +1,4 @@
+-- Three exits are the three cases of the definition, in its order: 1, then 3, whatever the line, and else the line's own cause.
 use borrow.Author.Tests.{eq-eqb, ne-eqb}
 use borrow.Author.Needs.{needs}
 use Rattle.listener.proofs.lines.put_why.Statement.{statement}

@@ -1,3 +1,5 @@
+-- 9 for an output with too little room and all as given (`finish-short`); a line that has begun is answered as if it had ended (`finish-line`);
+-- with no line begun nothing is done (`finish-none`).
 use Rattle.listener.proofs.Answering.{finish-line, finish-none, finish-short}
 use borrow.Author.Needs.{needs}
 use Rattle.listener.proofs.listening.finish.Statement.{statement}

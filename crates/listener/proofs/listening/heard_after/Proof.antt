@@ -1,3 +1,4 @@
+-- The board she holds changes with `epoch` (`heard-epoch`) and with a size that is accepted (`heard-anew`), and else stays (`heard-still`).
 use Rattle.listener.proofs.Answering.{heard-anew, heard-epoch, heard-still}
 use borrow.Author.Needs.{needs}
 use Rattle.listener.proofs.listening.heard_after.Statement.{statement}

@@ -1,3 +1,4 @@
+-- `epoch` tells the changes from the board she holds to the table's own (`text-epoch`); any other line tells what it says (`text-line`).
 use Rattle.listener.proofs.Answering.{text-epoch, text-line}
 use borrow.Author.Needs.{needs}
 use Rattle.listener.proofs.listening.put_line.Statement.{statement}

@@ -1,3 +1,4 @@
+-- Three exits are the three cases of the definition: the board (`said-board`), a line done (`said-done`), and a line refused (`said-refused`).
 use Rattle.listener.proofs.Answering.{said-board, said-done, said-refused}
 use borrow.Author.Needs.{needs}
 use Rattle.listener.proofs.listening.put_said.Statement.{statement}

@@ -1,3 +1,4 @@
+-- Both lists are tested as far as there are ports: with 64 at most, so much of each can be lent, and the answer is the definition's.
 use mathlib.Core.Path.{_≡_, sym}
 use Prim.Native.Nat.{_≤_}
 use lib.ListN.{length, length-map}

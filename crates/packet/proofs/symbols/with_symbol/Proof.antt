@@ -1,3 +1,4 @@
+-- The symbol changes one entry of the row, which is worked out of the old one (`with-parts`); a place beyond the row leaves it (`with-past`).
 use mathlib.Core.Path.{refl}
 use native.Mathlib.Omega.{arith}
 use borrow.Author.Needs.{needs}

@@ -1,3 +1,5 @@
+-- In range the answer is 0 with the check's own verdict (`check-done`), else 4 and not accepted (`check-range`).
+-- In range W is 16 at least, so that W - 16 is right (`done-sizes`).
 use mathlib.Core.Path.{sym, _∙_}
 use native.Mathlib.Omega.{arith}
 use Rattle.paths.proofs.Answering.{check-done, check-range, done-sizes}

@@ -1,3 +1,5 @@
+-- In range the answer is the proposal (`plan-done`), else 4 with no path (`plan-range`).
+-- In range k is 1 to the number of delays, these are 64 at most, and W is 16 at least: all that the proposal requires (`done-sizes`).
 use mathlib.Core.Path.{sym, _∙_}
 use native.Mathlib.Omega.{arith}
 use Rattle.paths.proofs.Answering.{done-sizes, plan-done, plan-range}

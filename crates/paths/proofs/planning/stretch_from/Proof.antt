@@ -1,3 +1,4 @@
+-- The spread is the last delay of the stretch above the first; both lie in the table, since the last one's place is below 64.
 use mathlib.Core.Path.{refl}
 use borrow.Author.Needs.{needs}
 use Rattle.paths.proofs.planning.stretch_from.Statement.{statement}

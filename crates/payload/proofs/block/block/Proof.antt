@@ -1,3 +1,5 @@
+-- A block is read as h rows of w bytes, turned and laid into the frame: those bytes of the frame are then the definition's (`block-is`).
+-- One exit for each of the three sizes; every row lies within the members (`ranked-in`) and every line within the frame (`block-in`).
 use mathlib.Core.Path.{_≡_}
 use native.Mathlib.Omega.{arith}
 use Rattle.payload.specs.Joining.{rankedByte}

@@ -1,3 +1,5 @@
+-- A block is read as h rows of 16 bytes, each from its member's start, turned and laid: those bytes of the frame are the definition's (`block-is`).
+-- One exit for each of the two sizes.
 use mathlib.Core.Path.{_≡_, refl}
 use native.Mathlib.Omega.{arith}
 use Rattle.payload.specs.Joining.{startedByte}

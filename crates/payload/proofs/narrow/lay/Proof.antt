@@ -1,3 +1,5 @@
+-- A block turned is w whole lines of the frame, which lie there as one run of 128 bytes (`lines-run`); a line's bytes are the block's columns
+-- (`block-turned`).
 use mathlib.Core.Path.{sym}
 use Prim.Native.Nat.{_<_}
 use native.Mathlib.Omega.{arith}

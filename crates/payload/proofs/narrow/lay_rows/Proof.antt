@@ -1,3 +1,5 @@
+-- A block turned is a run for each member; written, each member's bytes are its column of the lines read (`block-turned`).
+-- Two, four and eight members go apart with the sizes 64, 32 and 16, the only ones allowed (`even-two`, `even-four`, `even-eight`).
 use mathlib.Core.Path.{ap, _∙_}
 use Prim.Native.Nat.{ℕ, _*_}
 use native.Mathlib.Omega.{arith}

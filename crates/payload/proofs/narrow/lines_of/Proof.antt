@@ -1,3 +1,4 @@
+-- One shuffle turns two rows of 64, two turn four of 32, three turn eight of 16: no other sizes can be given (`even-two`, `even-four`, `even-eight`).
 use mathlib.Core.Path.{sym, ap₂, _∙_}
 use Prim.Native.Nat.{ℕ}
 use Rattle.payload.specs.Inner.Block.{turned}

@@ -1,3 +1,4 @@
+-- The product is the definition's as it stands; what is shown is that it fits, from the greatest that its three factors can be (`mul-le-mul`).
 use native.Mathlib.Nat.{mul-le-mul}
 use native.Mathlib.Omega.{arith}
 use Prim.Native.Nat.{_≤_, _+_}

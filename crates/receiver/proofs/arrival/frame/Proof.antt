@@ -1,3 +1,5 @@
+-- `frame` answers 1 or 9 and changes nothing, or does what is decided of the frame.
+-- Only behind the refusal is the port below the group's count, and so a byte (`refused-below`).
 use mathlib.Core.Path.{sym, _∙_}
 use native.Mathlib.Omega.{arith}
 use Rattle.receiver.proofs.Arriving.{refused-below, frame-refused, frame-decided}

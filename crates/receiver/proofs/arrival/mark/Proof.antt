@@ -1,3 +1,5 @@
+-- A port's marks after a frame are the definition's, though they are written only where they change.
+-- Where nothing is written, the definition leaves the marks as they are (`mark-none`).
 use mathlib.Core.Path.{refl, _∙_}
 use Rattle.receiver.proofs.Arriving.{mark-none}
 use borrow.Author.Needs.{needs}

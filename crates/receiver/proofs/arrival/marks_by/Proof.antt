@@ -1,3 +1,4 @@
+-- The four ways through the tests are the cases of the definition: cut on joining, marked at an epoch's last frame, else as they were.
 use mathlib.Core.Path.{refl}
 use Rattle.receiver.specs.Frame.{marksBy}
 use borrow.Author.Needs.{needs}

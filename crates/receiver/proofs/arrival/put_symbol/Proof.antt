@@ -1,3 +1,4 @@
+-- The definition's packet with the frame's symbol differs from the old one in one entry alone, and that is the one written (`symbol-put`).
 use Rattle.receiver.proofs.Arriving.{symbol-put}
 use borrow.Author.Needs.{needs}
 use Rattle.receiver.proofs.arrival.put_symbol.Statement.{statement}

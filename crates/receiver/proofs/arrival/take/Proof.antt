@@ -1,3 +1,5 @@
+-- Under every answer but 11 the port's rows, the store and what settles follow one another as in the definition; settling reads the new store.
+-- Under 11 both stay as given.
 use mathlib.Core.Path.{refl}
 use borrow.Author.Tests.{eq-eqb}
 use Rattle.receiver.specs.Frame.{takenFrame}

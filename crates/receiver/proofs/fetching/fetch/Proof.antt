@@ -1,3 +1,5 @@
+-- `fetch` answers 9 and changes nothing, or reports if a report is due and writes the record.
+-- The record has its eight bytes because the lengths were found right (`record-length`).
 use mathlib.Core.Path.{sym, _∙_}
 use borrow.Author.Tests.{not-true, not-false}
 use Rattle.receiver.proofs.Fetched.{fetch-unfit, fetch-fit}

@@ -1,3 +1,4 @@
+-- Report, rows and output are those of a due report, or with none due an empty report and all as given: one law for each (`given-due`, `given-none`).
 use Rattle.receiver.proofs.Fetched.{given-due, given-none}
 use borrow.Author.Needs.{needs}
 use Rattle.receiver.proofs.fetching.report_if_due.Statement.{statement}

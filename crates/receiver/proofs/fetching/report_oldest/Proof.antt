@@ -1,3 +1,5 @@
+-- Report and output follow from what was seen before the epoch was passed: cause, mark and order are worked out of that alone (`given-is`).
+-- The rows are those of the passing.
 use Rattle.receiver.proofs.Fetched.{given-is}
 use borrow.Author.Needs.{needs}
 use Rattle.receiver.proofs.fetching.report_oldest.Statement.{statement}

@@ -1,3 +1,4 @@
+-- A flagged frame on every port, in port order: after i turns the rows are those with the first i ports flagged.
 use mathlib.Core.Path.{_≡_, refl, ap, _∙_}
 use Prim.Native.Nat.{_≤_, _-_}
 use native.Mathlib.Numerals.{add-one}

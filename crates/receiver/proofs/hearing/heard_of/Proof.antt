@@ -1,3 +1,5 @@
+-- What the lowest port with a whole and good packet says: as long as the search goes on, no port below i has one.
+-- So the first found is the lowest (`heard-first`), and at the end there is none (`heard-none`).
 use Prim.Native.Nat.{ℕ, _≤_, _-_}
 use mathlib.Core.Path.{_≡_, refl, sym, _∙_}
 use mathlib.Core.Bool.{true, false}

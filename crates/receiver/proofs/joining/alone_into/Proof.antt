@@ -1,3 +1,5 @@
+-- With one member a group frame is that member's frame, a run of the store laid down as it is (`alone-run`).
+-- Where the payload or the store does not allow it, the definition joins nothing either (`alone-short`).
 use mathlib.Core.Path.{_≡_, _∙_, ap}
 use mathlib.Core.Bool.{_&&_}
 use Prim.Native.Nat.{ℕ, _+_, _-_, _≤_}

@@ -1,3 +1,5 @@
+-- A frame lies as far behind the start of its ring in one port as in another: joined from the store behind that distance, by the rings' starts,
+-- it is the definition's frame (`frame-by`). A distance beyond the store joins nothing (`frame-beyond`).
 use native.Mathlib.Omega.{arith}
 use Rattle.receiver.specs.Laws.Rings.{frame-beyond}
 use Rattle.receiver.proofs.Alone.{frame-by}

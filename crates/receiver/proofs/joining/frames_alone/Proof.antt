@@ -1,3 +1,4 @@
+-- After k turns the output holds the first k group frames of the one member, as the definition lays them; its port is the order's first.
 use mathlib.Core.Path.{_≡_, refl, ap, _∙_}
 use Prim.Native.Nat.{_≤_, _-_}
 use native.Mathlib.Numerals.{add-one}

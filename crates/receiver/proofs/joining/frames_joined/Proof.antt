@@ -1,3 +1,4 @@
+-- After k turns the output holds the first k group frames, as the definition lays them; the rings' starts are worked out once for all of them.
 use mathlib.Core.Path.{_≡_, refl, ap, _∙_}
 use Prim.Native.Nat.{_≤_, _-_}
 use native.Mathlib.Numerals.{add-one}

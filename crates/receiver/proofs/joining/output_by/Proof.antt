@@ -1,3 +1,4 @@
+-- A held epoch leaves the output as given, any other gets as many frames as an epoch of its kind has: the two cases of the definition.
 use mathlib.Core.Path.{refl}
 use borrow.Author.Tests.{not-true, not-false}
 use Rattle.receiver.specs.Report.{outputBy}

@@ -1,3 +1,4 @@
+-- Port times window times P + 1 is the definition's start as it stands; what is shown is that both products fit (`pair-fits`, `product-fits`).
 use Prim.Native.Nat.{_+_}
 use native.Mathlib.Omega.{arith}
 use Rattle.receiver.proofs.Numbers.{pair-fits, product-fits}

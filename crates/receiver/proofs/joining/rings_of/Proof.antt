@@ -1,3 +1,4 @@
+-- The first x places hold the rings' starts of the ranked ports, the others 0: after each turn the places below the rank are done (`Done`).
 use mathlib.Core.Path.{_≡_, refl}
 use Prim.Native.Nat.{_≤_, _+_, _-_, _*_}
 use native.Mathlib.Omega.{arith}

@@ -1,3 +1,4 @@
+-- Every port's number is how far it lies behind the foremost: after i turns the first i places are done and the others as given (`Done`).
 use Prim.Native.Nat.{_≤_, _-_}
 use native.Mathlib.Omega.{arith}
 use lib.ListN.{length}

@@ -1,3 +1,4 @@
+-- What is seen of each port, in a table of 64: after i turns the first i places are done and the others still the empty one (`Done`).
 use mathlib.Core.Path.{_≡_, refl, _∙_}
 use Prim.Native.Nat.{_≤_, _-_}
 use native.Mathlib.Omega.{arith}

@@ -1,3 +1,4 @@
+-- Each field of what is seen of a port is read by a function that gives the definition's value; word, number and GID are the ruling packet's.
 use mathlib.Core.Path.{refl}
 use Rattle.receiver.specs.Report.{seenOf}
 use borrow.Author.Needs.{needs}

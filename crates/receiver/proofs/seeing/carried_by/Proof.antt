@@ -1,3 +1,4 @@
+-- One case for each way a packet can be read: a packet gives its fields, each refusal its number and nothing else.
 use mathlib.Core.Path.{refl}
 use borrow.Author.Needs.{needs}
 use Rattle.receiver.proofs.seeing.carried_by.Statement.{statement}

@@ -1,3 +1,4 @@
+-- Every port's ten bytes as the definition has them: after i turns the first i places are done and the others as given (`Done`).
 use Prim.Native.Nat.{_≤_, _-_}
 use native.Mathlib.Omega.{arith}
 use lib.ListN.{length}

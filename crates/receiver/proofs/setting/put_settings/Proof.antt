@@ -1,3 +1,4 @@
+-- Four zeros for an empty group, else kind, ports, P and W: the two cases of the definition (`settings-none`, `settings-some`).
 use borrow.Author.Needs.{needs}
 use Rattle.receiver.proofs.Reading.{settings-none, settings-some}
 use Rattle.receiver.proofs.setting.put_settings.Statement.{statement}

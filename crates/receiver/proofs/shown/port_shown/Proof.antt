@@ -1,3 +1,4 @@
+-- The eight bytes shown of a port are the definition's because each is worked out by a function that gives the definition's value.
 use mathlib.Core.Path.{refl}
 use Rattle.receiver.specs.Shown.{portShown}
 use borrow.Author.Needs.{needs}

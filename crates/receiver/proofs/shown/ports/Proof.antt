@@ -1,3 +1,5 @@
+-- `ports` answers 9 and writes nothing, or shows each port.
+-- The output has a place for each port because its length was found right (`shown-length`).
 use mathlib.Core.Path.{sym, _∙_}
 use native.Mathlib.Omega.{arith}
 use borrow.Author.Tests.{not-true, not-false}

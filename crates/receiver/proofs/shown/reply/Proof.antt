@@ -1,3 +1,5 @@
+-- `reply` answers 9 and writes nothing, or writes MST and RS-Ack of the ports as they stand, zeros for a fixed group.
+-- The output has its two bytes because its length was found right (`reply-length`).
 use mathlib.Core.Path.{sym, _∙_}
 use borrow.Author.Tests.{not-true, not-false}
 use Rattle.receiver.proofs.Showing.{reply-unfit, reply-shown}

@@ -1,3 +1,4 @@
+-- A fresh port: step, member, packets and marks are put one after the other, in the definition's order, each with the definition's fresh value.
 use mathlib.Core.Path.{refl}
 use Rattle.receiver.specs.Starting.{freshPort}
 use borrow.Author.Needs.{needs}

@@ -1,3 +1,4 @@
+-- Every port fresh: after i turns the rows are those with the first i ports fresh.
 use mathlib.Core.Path.{_≡_, refl, ap, _∙_}
 use Prim.Native.Nat.{_≤_, _-_}
 use native.Mathlib.Numerals.{add-one}

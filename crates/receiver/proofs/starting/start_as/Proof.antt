@@ -1,3 +1,5 @@
+-- 4 before 9: what is out of range leaves an empty group, anything else is a start with sizes.
+-- Ports, P and W lose nothing in becoming small numbers, because right sizes are small (`right-sizes`, `window-most`).
 use mathlib.Core.Path.{refl, sym, _∙_}
 use native.Mathlib.Omega.{arith}
 use Rattle.receiver.specs.Starting.{startAsAnswer, startAsRows}

@@ -1,3 +1,4 @@
+-- 9 for a length that does not fit, with the rows as given (`sized-unfit`); else every port fresh and then the group (`sized-done`).
 use mathlib.Core.Path.{refl, _∙_}
 use borrow.Author.Tests.{not-true, not-false}
 use borrow.Author.Needs.{needs}

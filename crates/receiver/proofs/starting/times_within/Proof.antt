@@ -1,3 +1,4 @@
+-- No time is above 5000: after i turns the answer is whether this is so of the first i.
 use mathlib.Core.Path.{_≡_, refl}
 use Prim.Native.Nat.{_≤_, _-_}
 use native.Mathlib.Numerals.{add-one}

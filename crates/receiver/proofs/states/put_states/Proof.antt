@@ -1,3 +1,4 @@
+-- Each port's new state into its row: after i turns the rows are those with the first i states put.
 use mathlib.Core.Path.{_≡_, refl, ap, _∙_}
 use Prim.Native.Nat.{_≤_, _-_}
 use native.Mathlib.Numerals.{add-one}

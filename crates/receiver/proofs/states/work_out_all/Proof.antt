@@ -1,3 +1,4 @@
+-- States and RS-Ack are worked out of the ports before either is put, as in the definition; then the states are put, and the group last.
 use mathlib.Core.Path.{refl}
 use Rattle.receiver.specs.Report.{statesWorkedOut}
 use borrow.Author.Needs.{needs}

@@ -1,3 +1,4 @@
+-- With one port the state and RS-Ack worked out of it alone are those the tables of 64 would give (`states-alone`).
 use Rattle.receiver.proofs.Alone.{states-alone}
 use borrow.Author.Needs.{needs}
 use Rattle.receiver.proofs.states.work_out_alone.Statement.{statement}

@@ -1,3 +1,5 @@
+-- One case for each way a line's end is found or not (`record-nothing`, `record-open`, `record-long`, `record-ends`).
+-- An end that is found lies at the place or behind it and within the text, so that the line can be read (`ends-within`).
 use mathlib.Core.Path.{sym, _∙_}
 use native.Mathlib.Omega.{arith}
 use Rattle.recording.specs.Laws.Parting.{ends-within, record-ends, record-long, record-nothing, record-open}

@@ -1,3 +1,4 @@
+-- Four exits: a port that is no number, an H4 that is none, a frame, and numbers out of range. Only in range is H4 a byte (`h4-below`).
 use native.Mathlib.Omega.{arith}
 use Rattle.recording.proofs.Framing.{a-frame, h4-below, no-frame, no-h4, no-port}
 use Rattle.recording.proofs.record.frame_by.Statement.{statement}

@@ -1,3 +1,4 @@
+-- One case for each record: a frame is one, and each of the four others is none.
 use native.Mathlib.Omega.{arith}
 use Rattle.recording.proofs.record.is_frame.Statement.{statement}
 use Rattle.recording.proofs.record.is_frame.Tie as tie

@@ -1,3 +1,4 @@
+-- The four bytes that part and end a record are read at their places: all lie in the text, since the end does and is six behind the first at least.
 use native.Mathlib.Omega.{arith}
 use borrow.Author.Needs.{needs}
 use Rattle.recording.specs.Laws.Here.{partedAt}

@@ -1,3 +1,4 @@
+-- Both rows are read by `row_in`, which gives the definition's row for any place; so only the two places have to be shown to fit.
 use borrow.Author.Needs.{needs}
 use Rattle.rows.specs.Packets.{packetsAt}
 use Rattle.rows.proofs.packets.get.Statement.{statement}

@@ -1,3 +1,4 @@
+-- The eleven fields' bytes stand in the definition's order, the tag as two; the spare list, of four bytes, is the list of its places (`listed`).
 use mathlib.Core.Path.{refl}
 use lib.ListN.{length-map}
 use borrow.Author.Needs.{needs}

@@ -1,3 +1,4 @@
+-- The others fall in by the number of the slot that leaves, and then that slot is made idle: the definition's table, on at most 64 slots (`size-le`).
 use borrow.Author.Needs.{needs}
 use Rattle.sender.specs.Commands.{removedFrom}
 use Rattle.sender.specs.Laws.Sizes.{size-le}

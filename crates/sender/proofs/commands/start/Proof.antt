@@ -1,3 +1,5 @@
+-- 0 and more than 64 answer 4 with an empty table, each its own exit (`start-none`, `start-many`).
+-- Any other count gives a fresh table of so many slots (`start-done`).
 use native.Mathlib.Omega.{arith}
 use borrow.Author.Needs.{needs}
 use Rattle.sender.proofs.Answers.{start-none, start-many, start-done}

@@ -1,3 +1,4 @@
+-- The first change always rises; any later one by the slot before it, whose place k - 1 is right only behind that test (`rises-before`).
 use Rattle.spoken.proofs.Fitting.{rises-before}
 use borrow.Author.Needs.{needs}
 use Rattle.spoken.proofs.applying.rises_at.Statement.{statement}

@@ -1,3 +1,4 @@
+-- After k turns the answer is whether each of the first k changes can be spoken, with its slot above the one before (`speak-more`).
 use mathlib.Core.Path.{_≡_, refl}
 use Prim.Native.Nat.{_≤_, _-_}
 use native.Mathlib.Omega.{arith}

@@ -1,3 +1,4 @@
+-- The slot and then its row are put one behind the other, and together are the line (`put-then`); room for both is room for each (`shorter`).
 use lib.ListN.{length}
 use Rattle.text.specs.Text.{LINE-END}
 use Rattle.text.specs.Laws.Putting.{put-then, room, shorter}

@@ -1,3 +1,4 @@
+-- After i turns the answer is whether each of the first i rows has a word that is shown (`whole-more`).
 use mathlib.Core.Path.{_≡_, refl}
 use Prim.Native.Nat.{_-_, _≤_}
 use native.Mathlib.Omega.{arith}

@@ -1,3 +1,5 @@
+-- An odd packet has a right CRC and another number than its own, and VC-12 has none. The CRC is worked out last, where it alone decides.
+-- Both exits are the definition by cases on its three tests (`even`, `odd`).
 use mathlib.Core.Path.{_≡_, refl, sym, _∙_}
 use mathlib.Core.Bool.{Bool, true, false, not, _&&_, _||_, true≢false}
 use mathlib.Core.List.{List}

@@ -1,3 +1,5 @@
+-- A frame that loses step begins a new run; any other goes on by one tag, as in the definition.
+-- Where step is not lost, a frame that does not count finds fewer than three breaks, so one more can be counted (`few-breaks`).
 use mathlib.Core.Path.{refl, sym, _∙_}
 use Rattle.step.specs.Run.{stayedRun}
 use Rattle.step.specs.Theorems.Run.{few-breaks}

@@ -1,3 +1,4 @@
+-- Three exits are the three cases of the definition, in its order: a run begun anew, the fifth bit, and a run that goes on.
 use mathlib.Core.Path.{refl}
 use borrow.Author.Tests.{eq-eqb, ne-eqb}
 use borrow.Author.Needs.{needs}

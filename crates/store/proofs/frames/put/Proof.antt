@@ -1,3 +1,5 @@
+-- Payload and then H4 are one run from the place on (`put-frame`); a frame that would go beyond the store's end is dropped (`put-none`).
+-- The two tests together are the definition's one, asked so that no sum can overflow.
 use native.Mathlib.Omega.{arith}
 use borrow.Author.Needs.{needs}
 use Rattle.store.proofs.Putting.{put-frame, put-none}

@@ -1,3 +1,4 @@
+-- An epoch beyond the row's 128 bits leaves it; any other sets its bit in one byte, and the others stay: the two cases of the definition.
 use mathlib.Core.Path.{refl}
 use borrow.Author.Needs.{needs}
 use borrow.Author.Tests.{lt-ltb, le-ltb}

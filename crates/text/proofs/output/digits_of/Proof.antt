@@ -1,3 +1,5 @@
+-- Written from the end: what stands from the start on, with the digits of the rest still to come before it, is the whole text (`digits-turn`).
+-- With no rest or no place left nothing more comes before it (`digits-done`); the definition ends at twenty digits too.
 use mathlib.Core.Path.{_≡_, refl, _∙_, sym}
 use Prim.Native.Nat.{_≤_}
 use native.Mathlib.Omega.{arith}

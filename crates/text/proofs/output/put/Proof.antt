@@ -1,3 +1,5 @@
+-- A text that would go beyond the end, or begins beyond it, is not put (`put-none`); any other is copied to its place (`put-here`).
+-- The two tests together are the definition's one, asked so that no sum can overflow.
 use Prim.Native.Nat.{_+_, _≤_}
 use native.Mathlib.Omega.{arith}
 use lib.ListN.{length}

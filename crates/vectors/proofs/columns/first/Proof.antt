@@ -1,3 +1,4 @@
+-- Nothing is promised of the result; the search reads within the bytes, since its place is never above their length, and ends there.
 use Prim.Native.Nat.{_-_, _≤_}
 use lib.ListN.{length}
 use borrow.Author.Needs.{needs}

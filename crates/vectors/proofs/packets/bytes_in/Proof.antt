@@ -1,3 +1,4 @@
+-- Nothing is promised of the bytes; sixteen turns write within the array, and each reads from a column below 1000.
 use Prim.Native.Nat.{_-_, _≤_}
 use borrow.Author.Needs.{needs}
 use Rattle.vectors.proofs.packets.bytes_in.Statement.{statement}

@@ -1,3 +1,4 @@
+-- Nothing is promised of the lines; the walk ends because each line's end lies at its start or behind it, and within the file.
 use Prim.Native.Nat.{_-_}
 use lib.ListN.{length}
 use borrow.Author.Needs.{needs}

@@ -1,3 +1,4 @@
+-- The walk ends because each line's end lies at its start or behind it, and within the file; state and store keep their lengths through every line.
 use mathlib.Core.Path.{_≡_}
 use Prim.Native.Nat.{_-_}
 use lib.ListN.{length}

@@ -1,3 +1,4 @@
+-- Sixteen turns, one for each tag of the epoch; state and store keep their lengths through every frame.
 use mathlib.Core.Path.{_≡_}
 use Prim.Native.Nat.{_-_, _≤_}
 use lib.ListN.{length}

@@ -1,3 +1,4 @@
+-- A turn for each port; state and store keep their lengths through every frame.
 use mathlib.Core.Path.{_≡_}
 use Prim.Native.Nat.{_-_, _≤_}
 use lib.ListN.{length}

@@ -1,3 +1,4 @@
+-- How often RS-Ack turned is never above the epochs so far, each of which adds one at most: so the sum fits. The four buffers keep their lengths.
 use mathlib.Core.Path.{_≡_}
 use Prim.Native.Nat.{_-_, _≤_}
 use lib.ListN.{length}

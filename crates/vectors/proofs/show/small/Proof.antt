@@ -1,3 +1,4 @@
+-- Each number shown lies within those given, since the place is never above their number, and the walk ends there.
 use Prim.Native.Nat.{_-_, _≤_}
 use lib.ListN.{length}
 use borrow.Author.Needs.{needs}

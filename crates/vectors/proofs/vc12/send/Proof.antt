@@ -1,3 +1,4 @@
+-- 130 turns, so that every tag fits in its type; state and store keep their lengths through every frame and fetch.
 use mathlib.Core.Path.{_≡_}
 use Prim.Native.Nat.{_-_, _≤_}
 use lib.ListN.{length}
