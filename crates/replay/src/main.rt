@@ -6,7 +6,7 @@ use replaying::Replay;
 ghost use mathlib.Core.Path.{_≡_};
 ghost use Prim.Native.Nat.{_≤_};
 ghost use lib.ListN.{length};
-ghost use Rattle.replaying.specs.Deeds.{Carried};
+ghost use Rattle.replaying.specs.Deeds.{Carried, deskWith};
 ghost use Rattle.replaying.specs.Replay.{STORE};
 
 // Rows for 64 ports, the most that a recording can name: the group's own, and five to a port.
@@ -29,7 +29,7 @@ fn at_most(n: usize, most: usize) -> usize
 }
 
 // One turn on a text from a place on, and what it prints. Where that cannot be written there is nobody to go on for.
-// Each function below gives the replay that it is handed, carried on by turns alone.
+// Each function below gives the replay that it is handed, with its rows and its store, carried on by turns alone.
 fn take_turn(
     replay: Replay,
     text: &[u8],
@@ -40,7 +40,7 @@ fn take_turn(
     out: &mut [u8],
     said: &mut [u8],
 ) -> Done
-    ensures { λ r. ⌜ (r .at ≤ length (now (text .entry))) × Carried replay (r .replay) ⌝ }
+    ensures { λ r. ⌜ (r .at ≤ length (now (text .entry))) × Carried (deskWith replay (now (rows .entry)) (now (store .entry))) (deskWith (r .replay) (now (rows .exit)) (now (store .exit))) ⌝ }
 {
     let turn = replaying::turn(replay, text, at, last, rows, store, out, said);
     let after = turn.replay;
@@ -63,7 +63,7 @@ fn run_text(
     store: &mut [u8],
     out: &mut [u8],
 ) -> Done
-    ensures { λ r. ⌜ (r .at ≤ length (now (text .entry))) × Carried replay (r .replay) ⌝ }
+    ensures { λ r. ⌜ (r .at ≤ length (now (text .entry))) × Carried (deskWith replay (now (rows .entry)) (now (store .entry))) (deskWith (r .replay) (now (rows .exit)) (now (store .exit))) ⌝ }
 {
     let mut said = io::buffer();
     let mut now = replay;
@@ -110,7 +110,7 @@ fn run_front(
     out: &mut [u8],
 ) -> Done
     requires { ⌜ end ≤ length (now buffer) ⌝ }
-    ensures { λ r. ⌜ Carried replay (r .replay) ⌝ }
+    ensures { λ r. ⌜ Carried (deskWith replay (now (rows .entry)) (now (store .entry))) (deskWith (r .replay) (now (rows .exit)) (now (store .exit))) ⌝ }
 {
     run_text(replay, &buffer[..end], last, rows, store, out)
 }
@@ -132,7 +132,7 @@ fn run_some(
     out: &mut [u8],
 ) -> Part
     requires { ⌜ kept ≤ length (now buffer) ⌝ }
-    ensures { λ r. ⌜ (r .kept ≤ length (now (buffer .entry))) × Carried replay (r .replay) ⌝ }
+    ensures { λ r. ⌜ (r .kept ≤ length (now (buffer .entry))) × Carried (deskWith replay (now (rows .entry)) (now (store .entry))) (deskWith (r .replay) (now (rows .exit)) (now (store .exit))) ⌝ }
 {
     let got = io::read_full(fd, &mut buffer[kept..]);
     let end = at_most(kept + got, buffer.len());
@@ -156,7 +156,7 @@ fn run_file(
     out: &mut [u8],
 ) -> Replay
     requires { ⌜ length (now store) ≡ STORE ⌝ }
-    ensures { λ r. ⌜ Carried replay r ⌝ }
+    ensures { λ r. ⌜ Carried (deskWith replay (now (rows .entry)) (now (store .entry))) (deskWith r (now (rows .exit)) (now (store .exit))) ⌝ }
 {
     let mut buffer = [0u8; 65536];
     let mut now = replay;
@@ -190,7 +190,7 @@ fn run_named(
     out: &mut [u8],
 ) -> Replay
     requires { ⌜ length (now store) ≡ STORE ⌝ }
-    ensures { λ r. ⌜ Carried replay r ⌝ }
+    ensures { λ r. ⌜ Carried (deskWith replay (now (rows .entry)) (now (store .entry))) (deskWith r (now (rows .exit)) (now (store .exit))) ⌝ }
 {
     let mut path = io::buffer();
     let length = os::arg(place, &mut path);
@@ -216,7 +216,7 @@ fn run_all(
     out: &mut [u8],
 ) -> Replay
     requires { ⌜ length (now store) ≡ STORE ⌝ }
-    ensures { λ r. ⌜ Carried replay r ⌝ }
+    ensures { λ r. ⌜ Carried (deskWith replay (now (rows .entry)) (now (store .entry))) (deskWith r (now (rows .exit)) (now (store .exit))) ⌝ }
 {
     let mut now = replay;
     let mut i = 1;

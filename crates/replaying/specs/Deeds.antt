@@ -9,8 +9,8 @@ use Rattle.replaying.specs.declared.replay.Phase.{Phase}
 use Rattle.replaying.specs.declared.replay.Phase.the-variants.{Settings, Reading, Fetching, Skipping, Ended}
 use Rattle.replaying.specs.declared.replay.Replay.{Replay}
 use Rattle.replaying.specs.Replay.{beginning}
-use Rattle.replaying.specs.Runs.{Host, answer, called, calls}
-use Rattle.replaying.specs.Turn.{turnOf}
+use Rattle.replaying.specs.Runs.{Desk, Host, answer, called, calls}
+use Rattle.replaying.specs.Turn.{turnOf, turnRows, turnStore}
 use Rattle.text.specs.Text.{LINE-END}
 
 -- a host that begins
@@ -23,7 +23,7 @@ wantsWithin zero last h = answer last h .wants
 wantsWithin (suc n) last h = answer last h .wants || wantsWithin n last (called last h)
 
 -- what a phase asks for before the next line
-abbrev pub stage : Phase → ℕ → ℕ
+abbrev pub stage : (phase : Phase) (left : ℕ) → ℕ
 stage Settings left = 1
 stage Reading left = 0
 stage Fetching left = suc left
@@ -34,53 +34,62 @@ stage Ended left = 0
 abbrev pub weight : (bytes : ℕ) (phase : Phase) (left : ℕ) → ℕ
 weight bytes phase left = 2050 * bytes + stage phase left
 
-abbrev pub turnsLeft : Host → ℕ
+abbrev pub turnsLeft : (h : Host) → ℕ
 turnsLeft h = weight (length (h .text)) (h .replay .phase) (h .replay .left)
 
 -- it reads more of a part behind the text that is left, it calls, or it closes the part: the text that is left is its last, and the host calls until more is wanted
 pub data Deed : Type 0 where
-  Read : List ℕ → Deed
+  Read : (more : Bytes) → Deed
   Call : Deed
   Close : Deed
 
-abbrev pub hasRead : Host → List ℕ → Host
+abbrev pub hasRead : (h : Host) (more : Bytes) → Host
 hasRead h more = record { replay = h .replay; rows = h .rows; store = h .store; out = h .out; buffer = h .buffer; text = h .text ++ more; said = h .said }
 
 -- no host calls more often until more is wanted (`ends` of Theorems/Ends.antt)
-abbrev pub closed : Host → Host
+abbrev pub closed : (h : Host) → Host
 closed h = calls (suc (turnsLeft h)) true h
 
-abbrev pub does : Host → Deed → Host
+abbrev pub does : (h : Host) (deed : Deed) → Host
 does h (Read more) = hasRead h more
 does h Call = called false h
 does h Close = closed h
 
-abbrev pub run : Host → List Deed → Host
+abbrev pub run : (h : Host) (deeds : List Deed) → Host
 run h [] = h
 run h (d ∷ ds) = run (does h d) ds
 
 -- the last line of a part, 'with or without its end': joined to another, it has one
-abbrev pub withEnd : List ℕ → List ℕ
+abbrev pub withEnd : (text : Bytes) → Bytes
 withEnd [] = []
 withEnd (b ∷ []) = if b == LINE-END then b ∷ [] else b ∷ LINE-END ∷ []
 withEnd (b ∷ c ∷ text) = b ∷ withEnd (c ∷ text)
 
 -- the joined recording: the parts that it has closed, and what it has read of the part that is not closed, which is `part` before the deeds
-abbrev pub joinedFrom : List ℕ → List Deed → List ℕ
+abbrev pub joinedFrom : (part : Bytes) (deeds : List Deed) → Bytes
 joinedFrom part [] = part
 joinedFrom part (Read more ∷ ds) = joinedFrom (part ++ more) ds
 joinedFrom part (Call ∷ ds) = joinedFrom part ds
 joinedFrom part (Close ∷ ds) = withEnd part ++ joinedFrom [] ds
 
-abbrev pub joined : List Deed → List ℕ
+abbrev pub joined : (deeds : List Deed) → Bytes
 joined ds = joinedFrom [] ds
 
 -- and at the end of the recording it calls so often, with the last text
-abbrev pub lastCalls : ℕ → Host → Host
+abbrev pub lastCalls : (n : ℕ) (h : Host) → Host
 lastCalls zero h = h
 lastCalls (suc n) h = lastCalls n (called true h)
 
--- 'with the state carried over': a replay that goes on from another by turns alone, whatever text and buffers are lent to each
-pub data Carried (from : Replay) : Replay → Type 0 where
+-- a replay with the rows and the store that are lent to it
+abbrev pub deskWith : (replay : Replay) (rows : Rows) (store : Bytes) → Desk
+deskWith replay rows store = record { replay = replay; rows = rows; store = store }
+
+-- one turn, on whatever text and with whatever output and room
+abbrev pub turnedOn : (d : Desk) (text : Bytes) (last : Bool) (out : Bytes) (said : ℕ) → Desk
+turnedOn d text last out said =
+    deskWith (turnOf (d .replay) text last (d .rows) (d .store) out said .replay) (turnRows (d .replay) text last (d .rows) (d .store) out said) (turnStore (d .replay) text last (d .rows) (d .store) out said)
+
+-- 'with the state carried over': a replay, its rows and its store that go on from others by turns alone
+pub data Carried (from : Desk) : Desk → Type 0 where
   same : Carried from from
-  turned : {r : Replay} → Carried from r → (text : List ℕ) (last : Bool) (rows : List (List ℕ)) (store out : List ℕ) (said : ℕ) → Carried from (turnOf r text last rows store out said .replay)
+  turned : {d : Desk} → Carried from d → (text : Bytes) (last : Bool) (out : Bytes) (said : ℕ) → Carried from (turnedOn d text last out said)

@@ -2,14 +2,14 @@ use mathlib.Core.Path.{_≡_}
 use Prim.Native.Nat.{_-_}
 use lib.ListN.{length}
 use borrow.Author.Needs.{needs}
-use Rattle.replaying.specs.Deeds.{Carried}
+use Rattle.replaying.specs.Deeds.{Carried, deskWith}
 use Rattle.replaying.specs.Deeds.Carried.{same}
 use Rattle.replaying.specs.Laws.Carrying.{carried-on}
 use Rattle.replay.proofs.run_all.Statement.{statement}
 use Rattle.replay.proofs.run_all.Tie as tie
 
 abbrev Inv-loop : tie.InvT-loop
-Inv-loop count rows₀ store₀ out₀ now₀ i₀ rows store out now i = (length rows ≡ length rows₀) × (length store ≡ length store₀) × (length out ≡ length out₀) × Carried now₀ now
+Inv-loop count rows₀ store₀ out₀ now₀ i₀ rows store out now i = (length rows ≡ length rows₀) × (length store ≡ length store₀) × (length out ≡ length out₀) × Carried (deskWith now₀ rows₀ store₀) (deskWith now rows store)
 
 abbrev μ-loop : tie.MeasureT-loop
 μ-loop count rows₀ store₀ out₀ now₀ i₀ rows store out now i = count - i

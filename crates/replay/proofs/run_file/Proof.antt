@@ -6,14 +6,14 @@ use lib.ListN.{length}
 use borrow.Author.Needs.{needs}
 use borrow.Author.Tests.{ltb-true}
 use Rattle.ground.specs.Truth.{and-right}
-use Rattle.replaying.specs.Deeds.{Carried}
+use Rattle.replaying.specs.Deeds.{Carried, deskWith}
 use Rattle.replaying.specs.Deeds.Carried.{same}
 use Rattle.replaying.specs.Laws.Carrying.{carried-on}
 use Rattle.replay.proofs.run_file.Statement.{statement}
 use Rattle.replay.proofs.run_file.Tie as tie
 
 abbrev Inv-loop : tie.InvT-loop
-Inv-loop fd rows₀ store₀ out₀ buffer₀ now₀ kept₀ goes₀ turns₀ rows store out buffer now kept goes turns = (length buffer ≡ 65536) × (kept ≤ 65536) × (length rows ≡ length rows₀) × (length store ≡ length store₀) × (length out ≡ length out₀) × Carried now₀ now
+Inv-loop fd rows₀ store₀ out₀ buffer₀ now₀ kept₀ goes₀ turns₀ rows store out buffer now kept goes turns = (length buffer ≡ 65536) × (kept ≤ 65536) × (length rows ≡ length rows₀) × (length store ≡ length store₀) × (length out ≡ length out₀) × Carried (deskWith now₀ rows₀ store₀) (deskWith now rows store)
 
 abbrev μ-loop : tie.MeasureT-loop
 μ-loop fd rows₀ store₀ out₀ buffer₀ now₀ kept₀ goes₀ turns₀ rows store out buffer now kept goes turns = turns

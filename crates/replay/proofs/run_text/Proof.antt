@@ -8,7 +8,7 @@ use lib.ListN.{length}
 use borrow.Author.Needs.{needs}
 use borrow.Author.Tests.{ltb-true}
 use Rattle.ground.specs.Truth.{and-right}
-use Rattle.replaying.specs.Deeds.{Carried}
+use Rattle.replaying.specs.Deeds.{Carried, deskWith}
 use Rattle.replaying.specs.Deeds.Carried.{same}
 use Rattle.replaying.specs.Laws.Carrying.{carried-on}
 use Rattle.replay.proofs.run_text.Statement.{statement}
@@ -16,7 +16,7 @@ use Rattle.replay.proofs.run_text.Tie as tie
 
 abbrev Inv-loop : tie.InvT-loop
 Inv-loop text last rows₀ store₀ out₀ said₀ now₀ at₀ goes₀ turns₀ rows store out said now at goes turns =
-    (at ≤ length text) × (length rows ≡ length rows₀) × (length store ≡ length store₀) × (length out ≡ length out₀) × (4096 ≡ length said) × (length text ≤ 18446744073709551615) × Carried now₀ now
+    (at ≤ length text) × (length rows ≡ length rows₀) × (length store ≡ length store₀) × (length out ≡ length out₀) × (4096 ≡ length said) × (length text ≤ 18446744073709551615) × Carried (deskWith now₀ rows₀ store₀) (deskWith now rows store)
 
 abbrev μ-loop : tie.MeasureT-loop
 μ-loop text last rows₀ store₀ out₀ said₀ now₀ at₀ goes₀ turns₀ rows store out said now at goes turns = turns

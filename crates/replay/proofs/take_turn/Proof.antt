@@ -40,7 +40,7 @@ same-length-4 c = search needs
 returns : tie.Need-returns
 returns c =
     let at-turn = c .before .before .before .before .before .before .before .before .before .before .before .before .before in
-    (search needs, carried-once _ _ _ _ _ _ _ _ _ (at-turn .turn .ensures .0))
+    (search needs, carried-once _ _ _ _ _ _ _ _ _ _ _ (at-turn .turn .ensures .0) (at-turn .turn .ensures .1) (at-turn .turn .ensures .2))
 
 pub take-turn-spec : {M : Type 1} → statement M
 take-turn-spec = tie.close (tie.spec turn-requires at-most-requires slice-reshare-prefix-write-all slice-aggregate-write-all write-all-requires at-most-requires-2 same-length same-length-2 same-length-3 same-length-4 returns)
