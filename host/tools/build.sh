@@ -62,7 +62,7 @@ build_c() {
 build_link() {
     mkdir -p target/host
     # shellcheck disable=SC2046,SC2086
-    $archive_compiler -std=c99 $strict -O2 host/link/*.c $(over c_face) -o target/host/link
+    $archive_compiler -std=c99 $strict -O2 host/link/*.c $(over c_face c_receiver) -o target/host/link
 }
 
 # build_order: a planner's lines over a card with two circuits.
@@ -90,7 +90,7 @@ build_mend() {
 build_desk() {
     mkdir -p target/host
     # shellcheck disable=SC2046,SC2086
-    $archive_compiler -std=c99 $strict -O2 host/desk/*.c $(over c_face c_recordings) -o target/host/desk
+    $archive_compiler -std=c99 $strict -O2 host/desk/*.c $(over c_receiver c_recordings) -o target/host/desk
 }
 
 # build_own NAME SOURCE COMPILER WORD..: a C or C++ program for this machine's own processor.
