@@ -1,4 +1,4 @@
-"""c-face [FOLDER]: the C header says of each call what the crates of C calls have: c_face, c_cards and c_recordings.
+"""c-face [FOLDER]: the C header says of each call what the crates of C calls have: c_face, c_receiver, c_cards and c_recordings.
 
 A contract names its parameters and C passes them by place, so nothing proved holds the two together. This does: for
 each `pub extern "C" fn` of their src/, include/levelspruce.h declares the same parameters in the same order, with
@@ -9,7 +9,7 @@ import re
 
 from checks.contracts import functions, module_path, without_comments
 
-FACES = ("c_face", "c_cards", "c_recordings")  # as host/tools/platform.sh has them
+FACES = ("c_face", "c_receiver", "c_cards", "c_recordings")  # as host/tools/platform.sh has them
 NUMBERS = {"u8": "uint8_t", "u16": "uint16_t", "u32": "uint32_t", "u64": "uint64_t", "usize": "size_t"}
 SLICE = re.compile(r"&\s*(?P<mut>mut\s+)?\[\s*(?:\[\s*(?P<row>\w+)\s*;\s*(?P<size>\d+)\s*\]|(?P<number>\w+))\s*\]")
 

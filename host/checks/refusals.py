@@ -106,7 +106,7 @@ def opened(made, file, call):
 def short(name):
     """crate::function or crate::Type::function: a name without its modules. A C call has its bare name."""
     parts = name.split("::")
-    if parts[0] in ("c_face", "c_cards", "c_recordings"):
+    if parts[0] in ("c_face", "c_receiver", "c_cards", "c_recordings"):
         return parts[-1]
     return "::".join(parts[:1] + [p for p in parts[1:-1] if p[0].isupper()] + parts[-1:])
 

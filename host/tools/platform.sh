@@ -6,8 +6,8 @@
 # C++) link an object of the same proved module.
 # shellcheck disable=SC2034
 
-faces='c_face c_cards c_recordings'        # the crates of the C calls; the first has all that a link needs
-archive=target/staticlib/liblevelspruce.a  # the library: all of their calls and the texts, which are C
+faces='c_face c_receiver c_cards c_recordings'  # the crates of the C calls; the first two have all that a link needs
+archive=target/staticlib/liblevelspruce.a       # the library: all of their calls and the texts, which are C
 texts=target/staticlib/texts.o
 
 # proved_of CRATE: what rt writes of it

@@ -1,5 +1,5 @@
 // The C calls for cards and for those who run and plan them: cards, work orders, the changes of a board and their lines, paths.
-// include/levelspruce.h is the header of these, of c_face's and of c_recordings'.
+// include/levelspruce.h is the header of all crates of C calls.
 mod boards;
 mod cards;
 mod changes;

@@ -4,7 +4,6 @@ pub mod Laws
 pub mod Opened
 pub mod Packets
 pub mod Payloads
-pub mod Receivers
 pub mod Relaying
 pub mod Runs
 pub mod Senders

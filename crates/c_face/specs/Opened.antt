@@ -1,6 +1,5 @@
 -- All that this crate and those below it define, opened under one name for examples that are computed. A new definition is named here, and nowhere else.
 use Prim.Native.Nat.{ℕ}
-use Rattle.receiver.specs.Opened.{receiverOpen}
 use Rattle.sender.specs.Opened.{senderOpen}
 use Rattle.c_face.specs.Boards.{boardByte, boardBytesOf, rankByte, ranksBytesOf, shownAnswerC, shownBytes}
 use Rattle.c_face.specs.Keeping.{byteAt, bytesOf, rowsIn, senderOf, slotsIn}
@@ -9,7 +8,7 @@ use Rattle.c_face.specs.Senders.{callAnswerC, callStateC, packetAnswerC,
 use Rattle.c_face.specs.Settings.{senderSettings}
 
 unfoldable pub cFaceOpen : ℕ
-unfolding receiverOpen senderOpen boardByte boardBytesOf rankByte ranksBytesOf shownAnswerC shownBytes byteAt bytesOf rowsIn senderOf slotsIn
+unfolding senderOpen boardByte boardBytesOf rankByte ranksBytesOf shownAnswerC shownBytes byteAt bytesOf rowsIn senderOf slotsIn
     readAnswerC readFieldsC readFixedAnswerC readFixedFieldsC readVc12AnswerC readVc12FieldsC callAnswerC callStateC packetAnswerC packetBytesC
     payloadAnswerC payloadBytesC sends startAnswerC startStateC senderSettings
 cFaceOpen = 0

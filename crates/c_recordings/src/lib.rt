@@ -1,4 +1,4 @@
-// The C calls for recordings: replayed and mended. include/levelspruce.h is the header of these, of c_face's and of c_cards'.
+// The C calls for recordings: replayed and mended. include/levelspruce.h is the header of all crates of C calls.
 mod keeping;
 mod mends;
 mod replays;

@@ -22,8 +22,7 @@ use Rattle.sender.specs.Epochs.{beginOf, packetAnswer, packetBytes, payloadAnsw
 use Rattle.c_face.specs.Boards.{boardBytesOf, ranksBytesOf}
 use Rattle.c_cards.specs.Cards.{areEpochs, boardBytesOn, callAnswerOn, callStateOn, cardOf, isCard, keptCard, outgoingBytesOn, ownedBytesOn, packetAnswerOn, packetBytesOn, payloadAnswerOn, payloadBytesOn, putCard, ranksBytesOn, shownAnswerOn, shownBytesOn, startAnswerOn, startStateOn}
 use Rattle.c_cards.specs.Plans.{checkAnswerC, checkByteC, lentAnswer, lentBytes, planAnswerC, planBytesC, planBytesOf}
-use Rattle.c_face.specs.Receivers.{H4}
-use Rattle.c_face.specs.Senders.{noStart, outside, sends}
+use Rattle.c_face.specs.Senders.{H4, noStart, outside, sends}
 use Rattle.c_face.specs.Theorems.CratesOwn.{h4-epochs, h4-sent}
 
 -- levelspruce_paths_plan and levelspruce_paths_check are paths::plan and paths::check, with room for their result

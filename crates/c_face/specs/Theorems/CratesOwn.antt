@@ -1,11 +1,11 @@
 -- Each C call is the crate's own function: the same answer, by its number, and the same lent bytes.
 use mathlib.Core.Path.{_≡_, refl}
 use mathlib.Core.Bool.{Bool, true, false, cond, _||_}
-use mathlib.Core.List.{List, []}
-use Prim.Native.Nat.{ℕ, _<_}
+use mathlib.Core.List.{List}
+use Prim.Native.Nat.{ℕ}
 use lib.Dec.{ltb}
 use lib.ListN.{length}
-use borrow.Author.Tests.{eq-eqb, lt-ltb, ne-eqb}
+use borrow.Author.Tests.{eq-eqb}
 use Rattle.packet.specs.Laws.Clock.{h4-clock}
 use Rattle.packet.specs.declared.layout.Fields.{Fields}
 use Rattle.packet.specs.Fixed.{readFixedAnswer, writeFixedAnswer}
@@ -17,8 +17,6 @@ use Rattle.packet.specs.Writing.{writeAnswer, writeBytes, writingNumber}
 use Rattle.payload.specs.Answers.{numberOf}
 use Rattle.payload.specs.Joining.{joined, wholeAnswer}
 use Rattle.payload.specs.Spreading.{spreadAll}
-use Rattle.receiver.specs.Frame.{frameOf}
-use Rattle.receiver.specs.Starting.{startAnswer, startAsAnswer, startAsRows, startRows}
 use Rattle.sender.specs.Board.{boardOf}
 use Rattle.sender.specs.Commands.{answered, freshOf, startOf}
 use Rattle.sender.specs.declared.table.Answer.the-variants.{Done, OutOfRange}
@@ -29,8 +27,7 @@ use Rattle.c_face.specs.Boards.{boardBytesC, boardBytesOf, outgoingBytes
 use Rattle.c_face.specs.Keeping.{bytesOf, senderOf}
 use Rattle.c_face.specs.Payloads.{joinAnswerC, joinFrameC, spreadAnswerC, spreadMembersC}
 use Rattle.c_face.specs.Packets.{readAnswerC, readFieldsC, readFixedAnswerC, readFixedFieldsC, readVc12AnswerC, readVc12FieldsC, valuesOr, writeAnswerC, writeBytesC, writeFixedAnswerC, writeVc12AnswerC, writeVc12BytesC}
-use Rattle.c_face.specs.Receivers.{H4, failedC, startAsAnswerC, startAsRowsC}
-use Rattle.c_face.specs.Senders.{callAnswerC, callStateC, isEpoch, isState, keptBytes, noStart, outside, packetAnswerC, packetBytesC, payloadAnswerC, payloadBytesC, sends, startAnswerC, startStateC}
+use Rattle.c_face.specs.Senders.{H4, callAnswerC, callStateC, isEpoch, isState, keptBytes, noStart, outside, packetAnswerC, packetBytesC, payloadAnswerC, payloadBytesC, sends, startAnswerC, startStateC}
 
 -- levelspruce_packet_write is packet::write on fields that are bytes
 pub write-own : (f : Fields) (h4 : List ℕ)
@@ -143,25 +140,3 @@ pub ranks-own : (state ranks : List ℕ) → length state ≡ 397 → length ran
     → (shownAnswerC 68 state ranks ≡ 0) × (ranksBytesC state ranks ≡ ranksBytesOf (ranksOf (senderOf state)))
 unfolding shownAnswerC shownBytes
 ranks-own state ranks h l = rw (eq-eqb (length state) 397 h, eq-eqb (length ranks) 68 l) (refl, refl)
-
--- levelspruce_receiver_start is levelspruce_receiver_start_as with the kind H4 and empty lists
-pub start-as-own : (ports P W store : ℕ) (s : List (List ℕ))
-    → (startAnswer H4 ports P W store (length s) ≡ startAsAnswerC H4 ports P W store [] [] (length s))
-    × (startRows H4 ports P W store s ≡ startAsRowsC H4 ports P W store [] [] s)
-start-as-own ports P W store s = (refl, refl)
-
--- and that one is receiver::start_as, of every kind that is a byte
-pub start-as-named : (kind ports P W store : ℕ) (hold restore : List ℕ) (s : List (List ℕ)) → kind < 256
-    → (startAsAnswerC kind ports P W store hold restore (length s) ≡ startAsAnswer kind ports P W store hold restore (length s))
-    × (startAsRowsC kind ports P W store hold restore s ≡ startAsRows kind ports P W store hold restore s)
-start-as-named kind ports P W store hold restore s h = rw (lt-ltb kind 256 h) (refl, refl)
-
--- levelspruce_receiver_start (for the kind H4), _fetch, _ports and _reply promise the receiver's own definitions as they stand, so that no law is needed; levelspruce_receiver_frame is receiver::frame, told of the flag by 1 or 0
-pub frame-own : (s : List (List ℕ)) (i : ℕ) (failed : Bool) (h : ℕ) (payload store : List ℕ)
-    → frameOf s i (failedC (cond failed 1 0)) h payload store ≡ frameOf s i failed h payload store
-frame-own s i true h payload store = refl
-frame-own s i false h payload store = refl
-
--- or by any other number for 1
-pub any-failed : (failed : ℕ) → (failed ≡ 0 → ⊥) → failedC failed ≡ true
-any-failed failed d = rw (ne-eqb failed 0 d) refl

@@ -5,7 +5,7 @@ use Prim.Native.Nat.{ℕ}
 use lib.ListN.{length, replicate, take}
 use Rattle.ground.specs.Plain.{if_then_else_}
 use Rattle.ground.specs.Types.{Bytes, Epoch}
-use Rattle.c_face.specs.Receivers.{startAsAnswerC}
+use Rattle.c_receiver.specs.Receivers.{startAsAnswerC}
 use Rattle.tables.specs.Rows.{Equal, Row, equal-rows, row, same}
 use Rattle.tables.specs.Waits.{away, here, statesAt}
 use Rattle.judge.specs.declared.seen.Seen.{Seen}

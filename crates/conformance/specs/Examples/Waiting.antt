@@ -1,6 +1,6 @@
 -- Examples of request 2026-03, hold-off and wait-to-restore, worked out apart: states over some reports, and what a start answers.
 use mathlib.Core.List.{List, [], _∷_, _++_}
-use Rattle.c_face.specs.Receivers.{startAsAnswerC}
+use Rattle.c_receiver.specs.Receivers.{startAsAnswerC}
 use Rattle.tables.specs.Rows.{Equal, Row, equal-rows, row, same}
 use Rattle.tables.specs.Waits.{Sent, away, each, okFor, here, idle, leftOf, statesAt}
 use Rattle.receiver.specs.Starting.{startAsAnswer}

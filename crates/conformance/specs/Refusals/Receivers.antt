@@ -6,7 +6,7 @@ use Prim.Native.Nat.{ℕ, _+_, _-_, _*_, _/_, _%_}
 use native.Mathlib.Nat.{mod-mod}
 use native.Mathlib.Omega.{arith}
 use lib.ListN.{getD, length}
-use Rattle.c_face.specs.Receivers.{failedC, kindC, startAsAnswerC, startAsRowsC}
+use Rattle.c_receiver.specs.Receivers.{failedC, kindC, startAsAnswerC, startAsRowsC}
 use Rattle.conformance.specs.Refusals.Entries.{Call, Copes, If, Refusal, Under, Unless, copes, done, either, first, refused, stateful, stateless}
 use Rattle.counting.specs.Words.{every}
 use Rattle.ground.specs.Circle.{after}

@@ -10,7 +10,7 @@ use Rattle.c_face.specs.Keeping.{senderOf}
 use Rattle.c_face.specs.Packets.{given, readAnswerC, readFieldsC, readFixedAnswerC, readFixedFieldsC, valuesIn, writeAnswerC, writeBytesC, writeFixedAnswerC}
 use Rattle.c_face.specs.Payloads.{joinAnswerC, joinFrameC, spreadAnswerC, spreadMembersC}
 use Rattle.c_cards.specs.Plans.{checkAnswerC, checkByteC, planAnswerC, planBytesC}
-use Rattle.c_face.specs.Receivers.{failedC, kindC, startAsAnswerC, startAsRowsC}
+use Rattle.c_receiver.specs.Receivers.{failedC, kindC, startAsAnswerC, startAsRowsC}
 use Rattle.c_face.specs.Senders.{startAnswerC, startStateC}
 use Rattle.pinned.specs.Filled.{nines, zeros}
 use Rattle.rows.specs.Group.{groupAt}

@@ -10,7 +10,7 @@ use Rattle.ground.specs.Table.{tabulate}
 use Rattle.c_cards.specs.Cards.{cardOf, startAnswerOn, startStateOn}
 use Rattle.c_face.specs.Keeping.{senderOf}
 use Rattle.c_face.specs.Packets.{readVc12AnswerC, readVc12FieldsC, writeVc12AnswerC, writeVc12BytesC}
-use Rattle.c_face.specs.Receivers.{startAsAnswerC}
+use Rattle.c_receiver.specs.Receivers.{startAsAnswerC}
 use Rattle.c_face.specs.Senders.{callStateC, packetAnswerC, packetBytesC, payloadAnswerC, payloadBytesC, startAnswerC, startStateC}
 use Rattle.packet.specs.Kinds.{endsEpoch, epochAfter, epochOf, epochsIn, firstTag, idleNumber, mstFirst, placeOf, tagAfter, tagBefore}
 use Rattle.packet.specs.Symbols.{packetRow}

@@ -1,6 +1,6 @@
 use native.Mathlib.Omega.{arith}
-use Rattle.c_face.proofs.receivers.levelspruce_receiver_start_as.Statement.{statement}
-use Rattle.c_face.proofs.receivers.levelspruce_receiver_start_as.Tie as tie
+use Rattle.c_receiver.proofs.receivers.levelspruce_receiver_start_as.Statement.{statement}
+use Rattle.c_receiver.proofs.receivers.levelspruce_receiver_start_as.Tie as tie
 
 kind-byte-requires : tie.Need-kind-byte-requires
 kind-byte-requires c κs = omega arith

@@ -1,6 +1,6 @@
 use native.Mathlib.Omega.{arith}
-use Rattle.c_face.proofs.receivers.levelspruce_receiver_frame.Statement.{statement}
-use Rattle.c_face.proofs.receivers.levelspruce_receiver_frame.Tie as tie
+use Rattle.c_receiver.proofs.receivers.levelspruce_receiver_frame.Statement.{statement}
+use Rattle.c_receiver.proofs.receivers.levelspruce_receiver_frame.Tie as tie
 
 is-failed-requires : tie.Need-is-failed-requires
 is-failed-requires c κs = omega arith

@@ -2,7 +2,7 @@
 use packet::kinds;
 ghost use mathlib.Core.Path.{_≡_};
 ghost use lib.ListN.{length};
-ghost use Rattle.c_face.specs.Receivers.{failedC, kindC, startAsAnswerC, startAsRowsC};
+ghost use Rattle.c_receiver.specs.Receivers.{failedC, kindC, startAsAnswerC, startAsRowsC};
 ghost use Rattle.receiver.specs.Fetch.{fetchOf};
 ghost use Rattle.receiver.specs.Frame.{frameOf};
 ghost use Rattle.receiver.specs.Shown.{portsAnswer, portsOut, replyAnswer, replyOut};

@@ -1,0 +1,2 @@
+-- What the C calls are, proved on the definitions.
+pub mod CratesOwn
