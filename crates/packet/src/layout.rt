@@ -57,6 +57,19 @@ pub(crate) fn halves_of(
     ]
 }
 
+// The 26 reserved bits are one number, the first one highest. By these each nibble of them, or the three bits beside RS-Ack and GID, begins there.
+const BESIDE_ACK: u32 = 8388608;
+
+const MFI1_11: u32 = 524288;
+
+const MFI1_12: u32 = 32768;
+
+const MFI1_13: u32 = 2048;
+
+const BESIDE_GID: u32 = 256;
+
+const MFI1_4: u32 = 16;
+
 fn reserved_of(nibbles: [u8; 16]) -> u32
     ensures { λ r. ⌜ r ≡ reservedOf nibbles ⌝ }
 {
@@ -65,7 +78,11 @@ fn reserved_of(nibbles: [u8; 16]) -> u32
     let mfi1_13 = (nibbles[5] % 16) as u32;
     let beside_gid = (nibbles[11] % 16 / 2) as u32;
     let mfi1_4_and_5 = byte_of(nibbles[12], nibbles[13]) as u32;
-    beside_ack * 8388608 + mfi1_11_and_12 * 32768 + mfi1_13 * 2048 + beside_gid * 256 + mfi1_4_and_5
+    beside_ack * BESIDE_ACK
+        + mfi1_11_and_12 * MFI1_12
+        + mfi1_13 * MFI1_13
+        + beside_gid * BESIDE_GID
+        + mfi1_4_and_5
 }
 
 pub(crate) fn fields_of(nibbles: [u8; 16]) -> Fields
@@ -91,17 +108,17 @@ fn data_of(fields: Fields) -> [u8; 16]
     [
         fields.mst / 16,
         fields.mst % 16,
-        (reserved / 8388608 % 8) as u8 * 2 + fields.rs_ack,
-        (reserved / 524288 % 16) as u8,
-        (reserved / 32768 % 16) as u8,
-        (reserved / 2048 % 16) as u8,
+        (reserved / BESIDE_ACK % 8) as u8 * 2 + fields.rs_ack,
+        (reserved / MFI1_11 % 16) as u8,
+        (reserved / MFI1_12 % 16) as u8,
+        (reserved / MFI1_13 % 16) as u8,
         fields.sq / 16,
         fields.sq % 16,
         fields.epoch / 16,
         fields.epoch % 16,
         fields.word.0,
-        (reserved / 256 % 8) as u8 * 2 + fields.gid,
-        (reserved / 16 % 16) as u8,
+        (reserved / BESIDE_GID % 8) as u8 * 2 + fields.gid,
+        (reserved / MFI1_4 % 16) as u8,
         (reserved % 16) as u8,
         0,
         0,

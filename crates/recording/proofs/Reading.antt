@@ -8,8 +8,10 @@ use Rattle.recording.specs.declared.pairs.Awaited.{Awaited}
 use Rattle.recording.specs.declared.pairs.Awaited.the-variants.{Nothing}
 use Rattle.recording.specs.declared.pairs.Pairs.{Pairs}
 use Rattle.recording.specs.declared.pairs.Settings.{Settings}
+use Rattle.recording.specs.declared.pairs.Timer.{Timer}
+use Rattle.recording.specs.declared.pairs.Timer.the-variants.{HoldOff, Restore}
 use Rattle.recording.specs.Opening.{handed, opened, openedBy}
-use Rattle.recording.specs.Pairs.{awaiting, countPut, fieldBy, fieldIn, holdFrom, holdNamed, holdRead, kindNamed, kindRead, kindTo, named, restoreFrom, restoreNamed, restoreRead, settingsTo, withHold, withRestore}
+use Rattle.recording.specs.Pairs.{awaiting, fieldBy, fieldIn, kindNamed, kindRead, kindTo, named, settingsTo, timeFrom, timeNamed, timeRead, withTime}
 use Rattle.text.specs.declared.fields.Number.{Number}
 use Rattle.text.specs.declared.fields.Number.the-variants.{Value, Unreadable}
 use Rattle.text.specs.Ascii.{ascii}
@@ -21,12 +23,12 @@ module _ (p : Pairs) (f : List ℕ) (a : Bool) (ea : a ≡ sameBytes f (ascii "k
   name-kind t r h = rw (← ea, t) h
 
   module _ (ta : (a && not (p .«has_kind»)) ≡ false) (b : Bool) (eb : b ≡ sameBytes f (ascii "hold-off")) where
-    pub name-hold : (b && not (p .«has_hold_off»)) ≡ true → (r : Pairs) → r ≡ holdNamed p → r ≡ named p f
+    pub name-hold : (b && not (p .«has_hold_off»)) ≡ true → (r : Pairs) → r ≡ timeNamed p HoldOff → r ≡ named p f
     unfolding named
     name-hold t r h = rw (← ea, ta, ← eb, t) h
 
     module _ (tb : (b && not (p .«has_hold_off»)) ≡ false) (c : Bool) (ec : c ≡ sameBytes f (ascii "wait-to-restore")) where
-      pub name-restore : (c && not (p .«has_restore»)) ≡ true → (r : Pairs) → r ≡ restoreNamed p → r ≡ named p f
+      pub name-restore : (c && not (p .«has_restore»)) ≡ true → (r : Pairs) → r ≡ timeNamed p Restore → r ≡ named p f
       unfolding named
       name-restore t r h = rw (← ea, ta, ← eb, tb, ← ec, t) h
 
@@ -53,23 +55,15 @@ module _ (p : Pairs) (f : List ℕ) (a : Bool) (ea : a ≡ sameBytes f (ascii "H
       unfolding kindRead
       kind-none t r h = rw (← ea, ta, ← eb, tb, ← ec, t) h
 
-module _ (p : Pairs) (i : ℕ) (number : Number) where
-  pub hold-none : number ≡ Unreadable → (r : Pairs) → r ≡ awaiting Nothing p → r ≡ holdRead p i number
-  unfolding holdRead
-  hold-none e r h = rw e h
-
-  pub restore-none : number ≡ Unreadable → (r : Pairs) → r ≡ awaiting Nothing p → r ≡ restoreRead p i number
-  unfolding restoreRead
-  restore-none e r h = rw e h
+module _ (p : Pairs) (t : Timer) (i : ℕ) (number : Number) where
+  pub time-none : number ≡ Unreadable → (r : Pairs) → r ≡ awaiting Nothing p → r ≡ timeRead p t i number
+  unfolding timeRead
+  time-none e r h = rw e h
 
   module _ (n : ℕ) (e : number ≡ Value n) (s : Settings) (a : Awaited) (r : Pairs) (h : r ≡ settingsTo s a p) where
-    pub hold-value : s ≡ withHold (p .settings) (countPut (p .settings .«hold_off») i n) → a ≡ holdFrom (p .settings .ports) (i + 1) → r ≡ holdRead p i number
-    unfolding holdRead
-    hold-value es ea = h ∙ rw (e, es, ea)
-
-    pub restore-value : s ≡ withRestore (p .settings) (countPut (p .settings .restore) i n) → a ≡ restoreFrom (p .settings .ports) (i + 1) → r ≡ restoreRead p i number
-    unfolding restoreRead
-    restore-value es ea = h ∙ rw (e, es, ea)
+    pub time-value : s ≡ withTime (p .settings) t i n → a ≡ timeFrom t (p .settings .ports) (i + 1) → r ≡ timeRead p t i number
+    unfolding timeRead
+    time-value es ea = h ∙ rw (e, es, ea)
 
 module _ (p : Pairs) (a : Awaited) (e : p .awaited ≡ a) where
   pub field-is : (f : List ℕ) (r : Pairs) → r ≡ fieldBy a p f → r ≡ fieldIn p f

@@ -3,10 +3,10 @@ use Prim.Native.Nat.{ℕ}
 use Rattle.text.specs.Opened.{textOpen}
 use Rattle.recording.specs.Line.{foundOf}
 use Rattle.recording.specs.Opening.{lineOpening, opened, openingIn, settingsBy}
-use Rattle.recording.specs.Pairs.{fieldIn, holdRead, kindRead, named, restoreRead}
+use Rattle.recording.specs.Pairs.{fieldIn, kindRead, named, timeRead}
 use Rattle.recording.specs.Record.{flagIn, frameBy, lastRecord, lineRecord, recordIn}
 
 unfoldable pub recordingOpen : ℕ
-unfolding textOpen foundOf lineOpening opened openingIn settingsBy fieldIn holdRead kindRead named restoreRead flagIn frameBy lastRecord lineRecord
+unfolding textOpen foundOf lineOpening opened openingIn settingsBy fieldIn kindRead named timeRead flagIn frameBy lastRecord lineRecord
     recordIn
 recordingOpen = 0

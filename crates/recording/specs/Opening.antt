@@ -11,7 +11,7 @@ use Rattle.recording.specs.declared.opening.FirstLine.the-variants as F
 use Rattle.recording.specs.declared.line.Found.{Found}
 use Rattle.recording.specs.declared.line.Found.the-variants.{Nothing, Open, TooLong, Ends}
 use Rattle.recording.specs.declared.pairs.Awaited.{Awaited}
-use Rattle.recording.specs.declared.pairs.Awaited.the-variants.{Name, Kind, HoldOff, Restore}
+use Rattle.recording.specs.declared.pairs.Awaited.the-variants.{Name, Kind, Time}
 use Rattle.recording.specs.declared.pairs.Awaited.the-variants as A
 use Rattle.recording.specs.declared.pairs.Pairs.{Pairs}
 use Rattle.recording.specs.declared.pairs.Settings as S
@@ -43,8 +43,7 @@ handed End = noSettings F.End
 abbrev pub openedBy : (awaited : Awaited) (s : S.Settings) (next : ℕ) → Opening
 openedBy Name s next = Settings s next
 openedBy Kind s next = Malformed
-openedBy (HoldOff i) s next = Malformed
-openedBy (Restore i) s next = Malformed
+openedBy (Time t i) s next = Malformed
 openedBy A.Nothing s next = Malformed
 
 unfoldable pub opened : Pairs → ℕ → Opening

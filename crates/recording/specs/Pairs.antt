@@ -1,15 +1,17 @@
 -- Behind the three numbers of a first line stand pairs, each a name and what it says (2026-05), in any order, each at most once: `kind` with the group's
 -- kind (2026-12, 2026-01), `hold-off` and `wait-to-restore` (2026-03) with a number for each port. The fields are taken one after the other.
-use mathlib.Core.Bool.{true, false, not, _&&_}
+use mathlib.Core.Bool.{Bool, true, false, not, _&&_, _||_}
 use mathlib.Core.List.{List, [], _∷_}
 use Prim.Native.Nat.{ℕ, _+_}
 use lib.ListN.{replicate, set}
 use Rattle.ground.specs.Plain.{if_then_else_, _<?_}
 use Rattle.ground.specs.Types.{Bytes}
 use Rattle.recording.specs.declared.pairs.Awaited.{Awaited}
-use Rattle.recording.specs.declared.pairs.Awaited.the-variants.{Name, Kind, HoldOff, Restore, Nothing}
+use Rattle.recording.specs.declared.pairs.Awaited.the-variants.{Name, Kind, Time, Nothing}
 use Rattle.recording.specs.declared.pairs.Pairs.{Pairs}
 use Rattle.recording.specs.declared.pairs.Settings.{Settings}
+use Rattle.recording.specs.declared.pairs.Timer.{Timer}
+use Rattle.recording.specs.declared.pairs.Timer.the-variants.{HoldOff, Restore}
 use Rattle.packet.specs.Kinds.{fixedKind, vc12Kind}
 use Rattle.text.specs.declared.fields.Number.{Number}
 use Rattle.text.specs.declared.fields.Number.the-variants.{Value, Unreadable}
@@ -31,30 +33,35 @@ awaiting a p = record { settings = p .settings; awaited = a; «has_kind» = p .�
 abbrev pub wrongField : Pairs → Pairs
 wrongField p = awaiting Nothing p
 
--- a list has as many numbers as there are ports: the one of a port, or the next name
-abbrev pub holdFrom : ℕ → ℕ → Awaited
-holdFrom ports i = if i <? ports then HoldOff i else Name
+-- of the two times of a port, hold-off and not wait-to-restore
+abbrev pub isHold : Timer → Bool
+isHold HoldOff = true
+isHold Restore = false
 
-abbrev pub restoreFrom : ℕ → ℕ → Awaited
-restoreFrom ports i = if i <? ports then Restore i else Name
+-- a list has as many numbers as there are ports: the one of a port, or the next name
+abbrev pub timeFrom : (timer : Timer) (ports port : ℕ) → Awaited
+timeFrom t ports i = if i <? ports then Time t i else Name
 
 -- a name
 
 abbrev pub kindNamed : Pairs → Pairs
 kindNamed p = record { settings = p .settings; awaited = Kind; «has_kind» = true; «has_hold_off» = p .«has_hold_off»; «has_restore» = p .«has_restore» }
 
-abbrev pub holdNamed : Pairs → Pairs
-holdNamed p = record { settings = p .settings; awaited = holdFrom (p .settings .ports) 0; «has_kind» = p .«has_kind»; «has_hold_off» = true; «has_restore» = p .«has_restore» }
-
-abbrev pub restoreNamed : Pairs → Pairs
-restoreNamed p =
-    record { settings = p .settings; awaited = restoreFrom (p .settings .ports) 0; «has_kind» = p .«has_kind»; «has_hold_off» = p .«has_hold_off»; «has_restore» = true }
+abbrev pub timeNamed : Pairs → Timer → Pairs
+timeNamed p t =
+    record {
+      settings = p .settings;
+      awaited = timeFrom t (p .settings .ports) 0;
+      «has_kind» = p .«has_kind»;
+      «has_hold_off» = p .«has_hold_off» || isHold t;
+      «has_restore» = p .«has_restore» || not (isHold t);
+    }
 
 unfoldable pub named : Pairs → Bytes → Pairs
 named p field =
     if sameBytes field (ascii "kind") && not (p .«has_kind») then kindNamed p
-    else if sameBytes field (ascii "hold-off") && not (p .«has_hold_off») then holdNamed p
-    else if sameBytes field (ascii "wait-to-restore") && not (p .«has_restore») then restoreNamed p
+    else if sameBytes field (ascii "hold-off") && not (p .«has_hold_off») then timeNamed p HoldOff
+    else if sameBytes field (ascii "wait-to-restore") && not (p .«has_restore») then timeNamed p Restore
     else wrongField p
 
 -- what it says
@@ -62,18 +69,23 @@ named p field =
 abbrev pub settingsTo : (s : Settings) (a : Awaited) (p : Pairs) → Pairs
 settingsTo s a p = record { settings = s; awaited = a; «has_kind» = p .«has_kind»; «has_hold_off» = p .«has_hold_off»; «has_restore» = p .«has_restore» }
 
-abbrev pub withHold : Settings → List ℕ → Settings
-withHold s counts = record { «hold_off» = counts; restore = s .restore; kind = s .kind; ports = s .ports; size = s .size; window = s .window }
-
-abbrev pub withRestore : Settings → List ℕ → Settings
-withRestore s counts = record { «hold_off» = s .«hold_off»; restore = counts; kind = s .kind; ports = s .ports; size = s .size; window = s .window }
-
 abbrev pub withKind : Settings → ℕ → Settings
 withKind s kind = record { «hold_off» = s .«hold_off»; restore = s .restore; kind = kind; ports = s .ports; size = s .size; window = s .window }
 
--- of a group with more than 64 ports, which no receiver has, the numbers of the first 64 are kept
-abbrev pub countPut : (counts : List ℕ) (port n : ℕ) → List ℕ
-countPut counts i n = if i <? 64 then set counts i n else counts
+-- the number of a port put into its list; of a group with more than 64 ports, which no receiver has, the numbers of the first 64 are kept
+abbrev pub countPut : (counts : List ℕ) (own : Bool) (port n : ℕ) → List ℕ
+countPut counts own i n = if own && i <? 64 then set counts i n else counts
+
+abbrev pub withTime : (s : Settings) (timer : Timer) (port n : ℕ) → Settings
+withTime s t i n =
+    record {
+      «hold_off» = countPut (s .«hold_off») (isHold t) i n;
+      restore = countPut (s .restore) (not (isHold t)) i n;
+      kind = s .kind;
+      ports = s .ports;
+      size = s .size;
+      window = s .window;
+    }
 
 abbrev pub kindTo : Pairs → ℕ → Pairs
 kindTo p kind = settingsTo (withKind (p .settings) kind) Name p
@@ -85,20 +97,15 @@ kindRead p field =
     else if sameBytes field (ascii "VC12") then kindTo p vc12Kind
     else wrongField p
 
-unfoldable pub holdRead : (p : Pairs) (port : ℕ) (number : Number) → Pairs
-holdRead p i (Value n) = settingsTo (withHold (p .settings) (countPut (p .settings .«hold_off») i n)) (holdFrom (p .settings .ports) (i + 1)) p
-holdRead p i Unreadable = wrongField p
-
-unfoldable pub restoreRead : (p : Pairs) (port : ℕ) (number : Number) → Pairs
-restoreRead p i (Value n) = settingsTo (withRestore (p .settings) (countPut (p .settings .restore) i n)) (restoreFrom (p .settings .ports) (i + 1)) p
-restoreRead p i Unreadable = wrongField p
+unfoldable pub timeRead : (p : Pairs) (timer : Timer) (port : ℕ) (number : Number) → Pairs
+timeRead p t i (Value n) = settingsTo (withTime (p .settings) t i n) (timeFrom t (p .settings .ports) (i + 1)) p
+timeRead p t i Unreadable = wrongField p
 
 -- one field
 abbrev pub fieldBy : (awaited : Awaited) (p : Pairs) (field : Bytes) → Pairs
 fieldBy Name p field = named p field
 fieldBy Kind p field = kindRead p field
-fieldBy (HoldOff i) p field = holdRead p i (numberOf 9 field)
-fieldBy (Restore i) p field = restoreRead p i (numberOf 9 field)
+fieldBy (Time t i) p field = timeRead p t i (numberOf 9 field)
 fieldBy Nothing p field = p
 
 unfoldable pub fieldIn : Pairs → Bytes → Pairs

@@ -55,8 +55,7 @@ fn opened_by(pairs: Pairs, next: usize) -> First
             line: FirstLine::Settings,
         },
         Awaited::Kind => none(FirstLine::Malformed),
-        Awaited::HoldOff(_) => none(FirstLine::Malformed),
-        Awaited::Restore(_) => none(FirstLine::Malformed),
+        Awaited::Time(_, _) => none(FirstLine::Malformed),
         Awaited::Nothing => none(FirstLine::Malformed),
     }
 }

@@ -6,7 +6,7 @@ ghost use Prim.Native.Nat.{_+_, _≤_};
 ghost use lib.ListN.{length};
 ghost use lib.Seq.{slice};
 ghost use Rattle.recording.specs.Laws.Pairs.{fieldsFrom};
-ghost use Rattle.recording.specs.Pairs.{awaiting, countPut, fieldIn, firstPairs, holdFrom, holdNamed, holdRead, kindNamed, kindRead, kindTo, named, pairsFrom, plainSettings, restoreFrom, restoreNamed, restoreRead, settingsTo, withHold, withRestore};
+ghost use Rattle.recording.specs.Pairs.{awaiting, countPut, fieldIn, firstPairs, isHold, kindNamed, kindRead, kindTo, named, pairsFrom, plainSettings, settingsTo, timeFrom, timeNamed, timeRead, withTime};
 
 // A group's settings. hold_off, restore: the number of each port.
 pub struct Settings {
@@ -20,15 +20,20 @@ pub struct Settings {
     pub window: u32,
 }
 
+// The two times of a port (2026-03).
+pub(crate) enum Timer {
+    HoldOff,
+    Restore,
+}
+
 // What the next field has to be.
 pub(crate) enum Awaited {
     // a pair's name
     Name,
     // a kind
     Kind,
-    // a port's number
-    HoldOff(u32),
-    Restore(u32),
+    // the number of a port
+    Time(Timer, u32),
     // a field was wrong
     Nothing,
 }
@@ -96,20 +101,20 @@ fn awaits(pairs: Pairs, awaited: Awaited) -> Pairs
     }
 }
 
-fn hold_from(ports: u32, i: u64) -> Awaited
-    ensures { λ r. ⌜ r ≡ holdFrom ports i ⌝ }
+fn is_hold(timer: Timer) -> bool
+    ensures { λ r. ⌜ r ≡ isHold timer ⌝ }
 {
-    if i < ports as u64 {
-        return Awaited::HoldOff(i as u32);
+    match timer {
+        Timer::HoldOff => true,
+        Timer::Restore => false,
     }
-    Awaited::Name
 }
 
-fn restore_from(ports: u32, i: u64) -> Awaited
-    ensures { λ r. ⌜ r ≡ restoreFrom ports i ⌝ }
+fn time_from(timer: Timer, ports: u32, i: u64) -> Awaited
+    ensures { λ r. ⌜ r ≡ timeFrom timer ports i ⌝ }
 {
     if i < ports as u64 {
-        return Awaited::Restore(i as u32);
+        return Awaited::Time(timer, i as u32);
     }
     Awaited::Name
 }
@@ -127,31 +132,18 @@ fn kind_named(pairs: Pairs) -> Pairs
     }
 }
 
-fn hold_named(pairs: Pairs) -> Pairs
-    ensures { λ r. ⌜ r ≡ holdNamed pairs ⌝ }
+fn time_named(pairs: Pairs, timer: Timer) -> Pairs
+    ensures { λ r. ⌜ r ≡ timeNamed pairs timer ⌝ }
 {
     let settings = pairs.settings;
-    let awaited = hold_from(settings.ports, 0);
+    let awaited = time_from(timer, settings.ports, 0);
+    let holds = is_hold(timer);
     Pairs {
         settings,
         awaited,
         has_kind: pairs.has_kind,
-        has_hold_off: true,
-        has_restore: pairs.has_restore,
-    }
-}
-
-fn restore_named(pairs: Pairs) -> Pairs
-    ensures { λ r. ⌜ r ≡ restoreNamed pairs ⌝ }
-{
-    let settings = pairs.settings;
-    let awaited = restore_from(settings.ports, 0);
-    Pairs {
-        settings,
-        awaited,
-        has_kind: pairs.has_kind,
-        has_hold_off: pairs.has_hold_off,
-        has_restore: true,
+        has_hold_off: pairs.has_hold_off | holds,
+        has_restore: pairs.has_restore | !holds,
     }
 }
 
@@ -163,10 +155,10 @@ fn read_name(pairs: Pairs, text: &[u8], at: usize, limit: usize) -> Pairs
         return kind_named(pairs);
     }
     if text::same(text, at, limit, b"hold-off") & !pairs.has_hold_off {
-        return hold_named(pairs);
+        return time_named(pairs, Timer::HoldOff);
     }
     if text::same(text, at, limit, b"wait-to-restore") & !pairs.has_restore {
-        return restore_named(pairs);
+        return time_named(pairs, Timer::Restore);
     }
     awaits(pairs, Awaited::Nothing)
 }
@@ -203,11 +195,11 @@ fn read_kind(pairs: Pairs, text: &[u8], at: usize, limit: usize) -> Pairs
     awaits(pairs, Awaited::Nothing)
 }
 
-// The number of a port into a list, which has 64.
-fn put_count(counts: [u32; 64], i: u32, n: u32) -> [u32; 64]
-    ensures { λ r. ⌜ r ≡ countPut counts i n ⌝ }
+// The number of a port into a list, which has 64, if it is that list's.
+fn put_count(counts: [u32; 64], own: bool, i: u32, n: u32) -> [u32; 64]
+    ensures { λ r. ⌜ r ≡ countPut counts own i n ⌝ }
 {
-    if i < 64 {
+    if own & (i < 64) {
         let mut next = counts;
         next[i as usize] = n;
         return next;
@@ -215,12 +207,14 @@ fn put_count(counts: [u32; 64], i: u32, n: u32) -> [u32; 64]
     counts
 }
 
-fn with_hold(settings: Settings, i: u32, n: u32) -> Settings
-    ensures { λ r. ⌜ r ≡ withHold settings (countPut (settings .«hold_off») i n) ⌝ }
+fn with_time(settings: Settings, timer: Timer, i: u32, n: u32) -> Settings
+    ensures { λ r. ⌜ r ≡ withTime settings timer i n ⌝ }
 {
+    let holds = is_hold(timer);
     let before = settings.hold_off;
-    let hold_off = put_count(before, i, n);
-    let restore = settings.restore;
+    let hold_off = put_count(before, holds, i, n);
+    let others = settings.restore;
+    let restore = put_count(others, !holds, i, n);
     Settings {
         hold_off,
         restore,
@@ -231,43 +225,15 @@ fn with_hold(settings: Settings, i: u32, n: u32) -> Settings
     }
 }
 
-fn with_restore(settings: Settings, i: u32, n: u32) -> Settings
-    ensures { λ r. ⌜ r ≡ withRestore settings (countPut (settings .restore) i n) ⌝ }
-{
-    let before = settings.restore;
-    let restore = put_count(before, i, n);
-    let hold_off = settings.hold_off;
-    Settings {
-        hold_off,
-        restore,
-        kind: settings.kind,
-        ports: settings.ports,
-        size: settings.size,
-        window: settings.window,
-    }
-}
-
-fn read_hold(pairs: Pairs, i: u32, number: Number) -> Pairs
-    ensures { λ r. ⌜ r ≡ holdRead pairs i number ⌝ }
+fn read_time(pairs: Pairs, timer: Timer, i: u32, number: Number) -> Pairs
+    ensures { λ r. ⌜ r ≡ timeRead pairs timer i number ⌝ }
 {
     let Number::Value(n) = number else {
         return awaits(pairs, Awaited::Nothing);
     };
     let before = pairs.settings;
-    let settings = with_hold(before, i, n);
-    let awaited = hold_from(before.ports, i as u64 + 1);
-    with_settings(pairs, settings, awaited)
-}
-
-fn read_restore(pairs: Pairs, i: u32, number: Number) -> Pairs
-    ensures { λ r. ⌜ r ≡ restoreRead pairs i number ⌝ }
-{
-    let Number::Value(n) = number else {
-        return awaits(pairs, Awaited::Nothing);
-    };
-    let before = pairs.settings;
-    let settings = with_restore(before, i, n);
-    let awaited = restore_from(before.ports, i as u64 + 1);
+    let settings = with_time(before, timer, i, n);
+    let awaited = time_from(timer, before.ports, i as u64 + 1);
     with_settings(pairs, settings, awaited)
 }
 
@@ -279,13 +245,9 @@ fn read_field(pairs: Pairs, text: &[u8], at: usize, limit: usize) -> Pairs
     match awaited {
         Awaited::Name => read_name(pairs, text, at, limit),
         Awaited::Kind => read_kind(pairs, text, at, limit),
-        Awaited::HoldOff(i) => {
+        Awaited::Time(timer, i) => {
             let number = text::read_number(text, at, limit, 9);
-            read_hold(pairs, i, number)
-        }
-        Awaited::Restore(i) => {
-            let number = text::read_number(text, at, limit, 9);
-            read_restore(pairs, i, number)
+            read_time(pairs, timer, i, number)
         }
         Awaited::Nothing => pairs,
     }

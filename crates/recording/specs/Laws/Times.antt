@@ -10,10 +10,12 @@ use Rattle.recording.specs.declared.pairs.Awaited.{Awaited}
 use Rattle.recording.specs.declared.pairs.Awaited.the-variants as A
 use Rattle.recording.specs.declared.pairs.Pairs.{Pairs}
 use Rattle.recording.specs.declared.pairs.Settings.{Settings}
+use Rattle.recording.specs.declared.pairs.Timer.{Timer}
+use Rattle.recording.specs.declared.pairs.Timer.the-variants.{HoldOff, Restore}
 use Rattle.recording.specs.Line.{MOST}
 use Rattle.recording.specs.Opening.{Opening, lineOpening, opened, openedBy, openingBy, settingsBy}
 use Rattle.recording.specs.Opening.{Opening as O}
-use Rattle.recording.specs.Pairs.{countPut, fieldBy, fieldIn, firstPairs, holdNamed, holdRead, kindNamed, kindRead, kindTo, named, pairsFrom, restoreNamed, restoreRead, wrongField}
+use Rattle.recording.specs.Pairs.{countPut, fieldBy, fieldIn, firstPairs, isHold, kindNamed, kindRead, kindTo, named, pairsFrom, timeNamed, timeRead, wrongField}
 use Rattle.text.specs.declared.fields.Number.{Number}
 use Rattle.text.specs.declared.fields.Number.the-variants.{Value, Unreadable}
 use Rattle.text.specs.Ascii.{ascii}
@@ -24,18 +26,18 @@ pub record Timed (s : Settings) : Type 0 where
   pub hold : length (s .«hold_off») ≡ 64
   pub restores : length (s .restore) ≡ 64
 
-put-long : (counts : List ℕ) (i n : ℕ) → length counts ≡ 64 → length (countPut counts i n) ≡ 64
-put-long counts i n e = go (ltb i 64)
+put-long : (counts : List ℕ) (own : Bool) (i n : ℕ) → length counts ≡ 64 → length (countPut counts own i n) ≡ 64
+put-long counts own i n e = go (own && ltb i 64)
   where
     go : (b : Bool) → length (cond b (set counts i n) counts) ≡ 64
     go true = length-set counts i n ∙ e
     go false = e
 
 field-timed : (p : Pairs) (field : List ℕ) → Timed (p .settings) → Timed (fieldIn p field .settings)
-unfolding fieldIn named kindRead holdRead restoreRead
+unfolding fieldIn named kindRead timeRead
 field-timed p field t = go (p .awaited)
   where
-    name : (a b c : Bool) → Timed (cond a (kindNamed p) (cond b (holdNamed p) (cond c (restoreNamed p) (wrongField p))) .settings)
+    name : (a b c : Bool) → Timed (cond a (kindNamed p) (cond b (timeNamed p HoldOff) (cond c (timeNamed p Restore) (wrongField p))) .settings)
     name true b c = t
     name false true c = t
     name false false true = t
@@ -47,19 +49,15 @@ field-timed p field t = go (p .awaited)
     kind false false true = record { hold = t .hold; restores = t .restores }
     kind false false false = t
 
-    holds : (i : ℕ) (n : Number) → Timed (holdRead p i n .settings)
-    holds i (Value n) = record { hold = put-long (p .settings .«hold_off») i n (t .hold); restores = t .restores }
-    holds i Unreadable = t
-
-    restored : (i : ℕ) (n : Number) → Timed (restoreRead p i n .settings)
-    restored i (Value n) = record { hold = t .hold; restores = put-long (p .settings .restore) i n (t .restores) }
-    restored i Unreadable = t
+    timed : (timer : Timer) (i : ℕ) (n : Number) → Timed (timeRead p timer i n .settings)
+    timed timer i (Value n) =
+        record { hold = put-long (p .settings .«hold_off») (isHold timer) i n (t .hold); restores = put-long (p .settings .restore) (not (isHold timer)) i n (t .restores) }
+    timed timer i Unreadable = t
 
     go : (a : Awaited) → Timed (fieldBy a p field .settings)
     go A.Name = name (sameBytes field (ascii "kind") && not (p .«has_kind»)) (sameBytes field (ascii "hold-off") && not (p .«has_hold_off»)) (sameBytes field (ascii "wait-to-restore") && not (p .«has_restore»))
     go A.Kind = kind (sameBytes field (ascii "H4")) (sameBytes field (ascii "FIXED")) (sameBytes field (ascii "VC12"))
-    go (A.HoldOff i) = holds i (numberOf 9 field)
-    go (A.Restore i) = restored i (numberOf 9 field)
+    go (A.Time timer i) = timed timer i (numberOf 9 field)
     go A.Nothing = t
 
 pairs-timed : (p : Pairs) (fields : List (List ℕ)) → Timed (p .settings) → Timed (pairsFrom p fields .settings)
@@ -80,8 +78,7 @@ opened-timed p n t = go (p .awaited)
     go : (a : Awaited) → TimedIn (openedBy a (p .settings) n)
     go A.Name = t
     go A.Kind = tt
-    go (A.HoldOff i) = tt
-    go (A.Restore i) = tt
+    go (A.Time timer i) = tt
     go A.Nothing = tt
 
 settings-timed : (a b c : Number) (pairs : List (List ℕ)) (n : ℕ) → TimedIn (settingsBy a b c pairs n)

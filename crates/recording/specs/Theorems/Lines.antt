@@ -75,8 +75,7 @@ opened-opens p n m = go (p .awaited)
     go : (a : Awaited) → openedBy a (p .settings) n ≡ opensTo n (openedBy a (p .settings) m)
     go A.Name = refl
     go A.Kind = refl
-    go (A.HoldOff i) = refl
-    go (A.Restore i) = refl
+    go (A.Time t i) = refl
     go A.Nothing = refl
 
 settings-opens : (a b c : Number) (pairs : List (List ℕ)) (n m : ℕ) → settingsBy a b c pairs n ≡ opensTo n (settingsBy a b c pairs m)
@@ -114,8 +113,7 @@ opened-settled p n = go (p .awaited)
     go : (a : Awaited) → isSettled (openedBy a (p .settings) n) ≡ true
     go A.Name = refl
     go A.Kind = refl
-    go (A.HoldOff i) = refl
-    go (A.Restore i) = refl
+    go (A.Time t i) = refl
     go A.Nothing = refl
 
 settings-settled : (a b c : Number) (pairs : List (List ℕ)) (n : ℕ) → isSettled (settingsBy a b c pairs n) ≡ true

@@ -2,8 +2,8 @@
 use mathlib.Core.Path.{refl, ap, _∙_}
 use lib.Seq.{slice}
 use Rattle.recording.proofs.Reading.{field-is}
-use Rattle.recording.specs.Pairs.{holdRead, restoreRead}
-use Rattle.recording.specs.declared.pairs.Awaited.the-variants.{Name, Kind, HoldOff, Restore, Nothing}
+use Rattle.recording.specs.Pairs.{timeRead}
+use Rattle.recording.specs.declared.pairs.Awaited.the-variants.{Name, Kind, Time, Nothing}
 use Rattle.text.specs.declared.fields.Number.{Number}
 use native.Mathlib.Omega.{arith}
 use Rattle.recording.proofs.pairs.read_field.Statement.{statement}
@@ -27,17 +27,8 @@ enum-known-awaited c = omega arith
 read-number-requires : tie.Need-read-number-requires
 read-number-requires c κs = omega arith
 
-read-hold-requires : tie.Need-read-hold-requires
-read-hold-requires c κs = omega arith
-
-enum-known-awaited-2 : tie.Need-enum-known-awaited-2
-enum-known-awaited-2 c = omega arith
-
-read-number-requires-2 : tie.Need-read-number-requires-2
-read-number-requires-2 c κs = omega arith
-
-read-restore-requires : tie.Need-read-restore-requires
-read-restore-requires c κs = omega arith
+read-time-requires : tie.Need-read-time-requires
+read-time-requires c κs = omega arith
 
 enum-told-3 : tie.Need-enum-told-3
 enum-told-3 c = omega arith
@@ -49,13 +40,13 @@ returns-2 : tie.Need-returns-2
 returns-2 c = field-is (c .before .before .before .before .args .pairs) Kind (c .before .enum-told2 .given .1) (slice (c .before .before .before .before .args .at) (c .before .before .before .before .args .limit) (c .before .before .before .before .args .text .now)) (c .read-kind .result) (c .read-kind .ensures)
 
 returns-3 : tie.Need-returns-3
-returns-3 c = field-is (c .before .before .before .before .before .before .args .pairs) (HoldOff (c .before .before .before .awaited .given .0 .0)) (c .before .before .before .awaited .given .1) (slice (c .before .before .before .before .before .before .args .at) (c .before .before .before .before .before .before .args .limit) (c .before .before .before .before .before .before .args .text .now)) (c .read-hold .result) (c .read-hold .ensures ∙ ap (λ (n : Number). holdRead (c .before .before .before .before .before .before .args .pairs) (c .before .before .before .awaited .given .0 .0) n) (c .before .read-number .ensures))
+returns-3 c =
+    let start = c .before .before .before .before .before .before in
+    let given = c .before .before .before .awaited .given in
+    field-is (start .args .pairs) (Time (given .0 .0) (given .0 .1 .0)) (given .1) (slice (start .args .at) (start .args .limit) (start .args .text .now)) (c .read-time .result) (c .read-time .ensures ∙ ap (λ (n : Number). timeRead (start .args .pairs) (given .0 .0) (given .0 .1 .0) n) (c .before .read-number .ensures))
 
 returns-4 : tie.Need-returns-4
-returns-4 c = field-is (c .before .before .before .before .before .before .args .pairs) (Restore (c .before .before .before .awaited2 .given .0 .0)) (c .before .before .before .awaited2 .given .1) (slice (c .before .before .before .before .before .before .args .at) (c .before .before .before .before .before .before .args .limit) (c .before .before .before .before .before .before .args .text .now)) (c .read-restore .result) (c .read-restore .ensures ∙ ap (λ (n : Number). restoreRead (c .before .before .before .before .before .before .args .pairs) (c .before .before .before .awaited2 .given .0 .0) n) (c .before .read-number2 .ensures))
-
-returns-5 : tie.Need-returns-5
-returns-5 c = field-is (c .before .before .before .args .pairs) Nothing (c .enum-told3 .given .1) (slice (c .before .before .before .args .at) (c .before .before .before .args .limit) (c .before .before .before .args .text .now)) (c .before .before .before .args .pairs) refl
+returns-4 c = field-is (c .before .before .before .args .pairs) Nothing (c .enum-told3 .given .1) (slice (c .before .before .before .args .at) (c .before .before .before .args .limit) (c .before .before .before .args .text .now)) (c .before .before .before .args .pairs) refl
 
 pub read-field-spec : {M : Type 1} → statement M
 read-field-spec =
@@ -67,13 +58,9 @@ read-field-spec =
     read-kind-requires
     enum-known-awaited
     read-number-requires
-    read-hold-requires
-    enum-known-awaited-2
-    read-number-requires-2
-    read-restore-requires
+    read-time-requires
     enum-told-3
     returns
     returns-2
     returns-3
-    returns-4
-    returns-5)
+    returns-4)

@@ -23,8 +23,8 @@ slice-aggregate-same-2 c = omega arith
 same-requires-2 : tie.Need-same-requires-2
 same-requires-2 c κs = omega arith
 
-hold-named-requires : tie.Need-hold-named-requires
-hold-named-requires c κs = omega arith
+time-named-requires : tie.Need-time-named-requires
+time-named-requires c κs = omega arith
 
 returns-2 : tie.Need-returns-2
 returns-2 c =
@@ -32,7 +32,7 @@ returns-2 c =
     let same = c .before .before .before .before .before .before .before .same in
     let test1 = c .before .before .before .before .before .if1 in
     let same2 = c .before .before .before .same2 in
-    name-hold (start .args .pairs) (slice (start .args .at) (start .args .limit) (start .args .text .now)) (same .result) (same .ensures) (test1 .left) (same2 .result) (same2 .ensures) (c .before .if2 .taken) (c .hold-named .result) (c .hold-named .ensures)
+    name-hold (start .args .pairs) (slice (start .args .at) (start .args .limit) (start .args .text .now)) (same .result) (same .ensures) (test1 .left) (same2 .result) (same2 .ensures) (c .before .if2 .taken) (c .time-named .result) (c .time-named .ensures)
 
 slice-aggregate-same-3 : tie.Need-slice-aggregate-same-3
 slice-aggregate-same-3 c = omega arith
@@ -40,8 +40,8 @@ slice-aggregate-same-3 c = omega arith
 same-requires-3 : tie.Need-same-requires-3
 same-requires-3 c κs = omega arith
 
-restore-named-requires : tie.Need-restore-named-requires
-restore-named-requires c κs = omega arith
+time-named-requires-2 : tie.Need-time-named-requires-2
+time-named-requires-2 c κs = omega arith
 
 returns-3 : tie.Need-returns-3
 returns-3 c =
@@ -51,7 +51,7 @@ returns-3 c =
     let same2 = c .before .before .before .before .before .before .before .same2 in
     let test2 = c .before .before .before .before .before .if2 in
     let same3 = c .before .before .before .same3 in
-    name-restore (start .args .pairs) (slice (start .args .at) (start .args .limit) (start .args .text .now)) (same .result) (same .ensures) (test1 .left) (same2 .result) (same2 .ensures) (test2 .left) (same3 .result) (same3 .ensures) (c .before .if3 .taken) (c .restore-named .result) (c .restore-named .ensures)
+    name-restore (start .args .pairs) (slice (start .args .at) (start .args .limit) (start .args .text .now)) (same .result) (same .ensures) (test1 .left) (same2 .result) (same2 .ensures) (test2 .left) (same3 .result) (same3 .ensures) (c .before .if3 .taken) (c .time-named2 .result) (c .time-named2 .ensures)
 
 awaits-requires : tie.Need-awaits-requires
 awaits-requires c κs = omega arith
@@ -76,11 +76,11 @@ read-name-spec =
     returns
     slice-aggregate-same-2
     same-requires-2
-    hold-named-requires
+    time-named-requires
     returns-2
     slice-aggregate-same-3
     same-requires-3
-    restore-named-requires
+    time-named-requires-2
     returns-3
     awaits-requires
     returns-4)

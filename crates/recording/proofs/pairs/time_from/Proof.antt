@@ -1,10 +1,10 @@
 use borrow.Author.Tests.{le-ltb, lt-ltb}
 use native.Mathlib.Omega.{arith}
-use Rattle.recording.proofs.pairs.hold_from.Statement.{statement}
-use Rattle.recording.proofs.pairs.hold_from.Tie as tie
+use Rattle.recording.proofs.pairs.time_from.Statement.{statement}
+use Rattle.recording.proofs.pairs.time_from.Tie as tie
 
-cast-t5 : tie.Need-cast-t5
-cast-t5 c = omega arith
+cast-t6 : tie.Need-cast-t6
+cast-t6 c = omega arith
 
 returns : tie.Need-returns
 returns c = rw (lt-ltb (c .before .args .i) (c .before .args .ports) (c .if1 .taken))
@@ -12,5 +12,5 @@ returns c = rw (lt-ltb (c .before .args .i) (c .before .args .ports) (c .if1 .ta
 returns-2 : tie.Need-returns-2
 returns-2 c = rw (le-ltb (c .before .args .i) (c .before .args .ports) (c .if1 .left))
 
-pub hold-from-spec : {M : Type 1} → statement M
-hold-from-spec = tie.close (tie.spec cast-t5 returns returns-2)
+pub time-from-spec : {M : Type 1} → statement M
+time-from-spec = tie.close (tie.spec cast-t6 returns returns-2)
