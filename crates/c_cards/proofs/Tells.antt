@@ -5,8 +5,8 @@ use Prim.Native.Nat.{ℕ}
 use native.Mathlib.Omega.{arith}
 use lib.ListN.{length}
 use borrow.Author.Tests.{eq-eqb, lt-ltb, ne-eqb}
-use Rattle.circuits.specs.Parts as P
-use Rattle.circuits.specs.Readings.{outgoingShown}
+use Rattle.cards.specs.Parts as P
+use Rattle.cards.specs.Readings.{outgoingShown}
 use Rattle.sender.specs.declared.board.Board.{Board}
 use Rattle.sender.specs.declared.epochs.Sender.{Sender}
 use Rattle.spoken.specs.Changes.{answerNumber, comparedOf}

@@ -9,19 +9,19 @@ use lib.ListN.{length, getD, take, drop}
 use borrow.Author.Tests.{eq-eqb, ne-eqb, eqb-true, lt-ltb, ltb-true}
 use Rattle.ground.specs.Drawn.{fillAt, fillAt-all}
 use Rattle.ground.specs.Table.{tabulate, tabulate-self}
-use Rattle.circuits.specs.declared.answers.Answer.{Answer}
-use Rattle.circuits.specs.declared.card.BoardOutcome.{BoardOutcome}
-use Rattle.circuits.specs.declared.card.Card.{Card}
-use Rattle.circuits.specs.declared.card.CardOutcome.{CardOutcome}
-use Rattle.circuits.specs.declared.card.OwnedOutcome.{OwnedOutcome}
-use Rattle.circuits.specs.declared.card.RanksOutcome.{RanksOutcome}
-use Rattle.circuits.specs.Answers.{answerNumber}
-use Rattle.circuits.specs.Calls.{Call, outcomeOf}
-use Rattle.circuits.specs.Commands.{startOf}
-use Rattle.circuits.specs.Laws.Alike.{Alike, AlikeAfter, alike-call, alike-payload, alike-shown}
-use Rattle.circuits.specs.Owners.{ownerIn}
-use Rattle.circuits.specs.Parts as P
-use Rattle.circuits.specs.Readings.{boardShown, outgoingShown, ownedShown, payloadAnswer, payloadBytes, ranksShown}
+use Rattle.cards.specs.declared.answers.Answer.{Answer}
+use Rattle.cards.specs.declared.card.BoardOutcome.{BoardOutcome}
+use Rattle.cards.specs.declared.card.Card.{Card}
+use Rattle.cards.specs.declared.card.CardOutcome.{CardOutcome}
+use Rattle.cards.specs.declared.card.OwnedOutcome.{OwnedOutcome}
+use Rattle.cards.specs.declared.card.RanksOutcome.{RanksOutcome}
+use Rattle.cards.specs.Answers.{answerNumber}
+use Rattle.cards.specs.Calls.{Call, outcomeOf}
+use Rattle.cards.specs.Commands.{startOf}
+use Rattle.cards.specs.Laws.Alike.{Alike, AlikeAfter, alike-call, alike-payload, alike-shown}
+use Rattle.cards.specs.Owners.{ownerIn}
+use Rattle.cards.specs.Parts as P
+use Rattle.cards.specs.Readings.{boardShown, outgoingShown, ownedShown, payloadAnswer, payloadBytes, ranksShown}
 use Rattle.sender.specs.Board.{boardOf}
 use Rattle.sender.specs.declared.epochs.Sender.{Sender}
 use Rattle.sender.specs.Epochs.{ranksOf}

@@ -7,9 +7,9 @@ use Prim.Native.Nat.{ℕ, _-_}
 use lib.ListN.{getD, length}
 use Rattle.ground.specs.Plain.{if_then_else_, _==_, _<?_}
 use Rattle.ground.specs.Table.{tabulate}
-use Rattle.circuits.specs.Calls.{Call}
-use Rattle.circuits.specs.Calls.Call.{Claim, Release, AddSlot, RemoveSlot, Report, Lapse, StartEpoch}
-use Rattle.circuits.specs.Owners.{isMarked}
+use Rattle.cards.specs.Calls.{Call}
+use Rattle.cards.specs.Calls.Call.{Claim, Release, AddSlot, RemoveSlot, Report, Lapse, StartEpoch}
+use Rattle.cards.specs.Owners.{isMarked}
 use Rattle.orders.specs.Orders.{callBy}
 use Rattle.c_cards.specs.Cards.{boardBytesOn, callAnswerOn, callStateOn, outgoingBytesOn, ownedBytesOn, ownersIn, packetAnswerOn, packetBytesOn, partIn, payloadAnswerOn, payloadBytesOn, ranksBytesOn, shownAnswerOn}
 use Rattle.c_cards.specs.Going.{changesAnswerOn, changesBytesOn, changesToldOn}

@@ -4,20 +4,20 @@ use mathlib.Core.List.{List, [], _∷_}
 use Prim.Native.Nat.{ℕ}
 use Rattle.ground.specs.Plain.{if_then_else_}
 use Rattle.ground.specs.Types.{Bytes}
-use Rattle.circuits.specs.Views.{Asked, Made}
-use Rattle.circuits.specs.Views.Asked.{Do, Packet, Payload, Board, Outgoing, Ranks, Owned}
+use Rattle.cards.specs.Views.{Asked, Made}
+use Rattle.cards.specs.Views.Asked.{Do, Packet, Payload, Board, Outgoing, Ranks, Owned}
 use Rattle.c_cards.specs.CardCalls.{fitting}
 use Rattle.c_cards.specs.Cards.{callStateOn}
 
 -- what a C call asks of its numbers
-abbrev pub fits : Asked → Bool
-fits (Do k) = fitting k
-fits (Packet i h4) = true
-fits (Payload i p frame member) = true
-fits Board = true
-fits Outgoing = true
-fits Ranks = true
-fits Owned = true
+abbrev pub numbersFit : Asked → Bool
+numbersFit (Do k) = fitting k
+numbersFit (Packet i h4) = true
+numbersFit (Payload i p frame member) = true
+numbersFit Board = true
+numbersFit Outgoing = true
+numbersFit Ranks = true
+numbersFit Owned = true
 
 -- a reading is lent the state and leaves it
 abbrev pub stateAfter : (state : Bytes) (group : ℕ) (asked : Asked) → Bytes
@@ -36,4 +36,4 @@ stateAfterAll state (m ∷ ms) = stateAfterAll (stateAfter state (m .group) (m .
 -- the calls among them that are not refused for a number that is no byte
 abbrev pub meant : List Made → List Made
 meant [] = []
-meant (m ∷ ms) = if fits (m .asked) then m ∷ meant ms else meant ms
+meant (m ∷ ms) = if numbersFit (m .asked) then m ∷ meant ms else meant ms

@@ -9,14 +9,14 @@ use Rattle.ground.specs.Drawn.{fillAt}
 use Rattle.ground.specs.Plain.{if_then_else_, _==_, _<?_}
 use Rattle.ground.specs.Table.{tabulate}
 use Rattle.ground.specs.Types.{Bytes, Epoch}
-use Rattle.circuits.specs.declared.card.Card.{Card}
-use Rattle.circuits.specs.declared.card.CardOutcome.{CardOutcome}
-use Rattle.circuits.specs.Answers.{answerNumber}
-use Rattle.circuits.specs.Calls.{Call, outcomeOf}
-use Rattle.circuits.specs.Commands.{startOf}
-use Rattle.circuits.specs.Owners.{ownerIn}
-use Rattle.circuits.specs.Parts as P
-use Rattle.circuits.specs.Readings.{boardShown, outgoingShown, ownedShown, packetAnswer, packetBytes, payloadAnswer, payloadBytes, ranksShown}
+use Rattle.cards.specs.declared.card.Card.{Card}
+use Rattle.cards.specs.declared.card.CardOutcome.{CardOutcome}
+use Rattle.cards.specs.Answers.{answerNumber}
+use Rattle.cards.specs.Calls.{Call, outcomeOf}
+use Rattle.cards.specs.Commands.{startOf}
+use Rattle.cards.specs.Owners.{ownerIn}
+use Rattle.cards.specs.Parts as P
+use Rattle.cards.specs.Readings.{boardShown, outgoingShown, ownedShown, packetAnswer, packetBytes, payloadAnswer, payloadBytes, ranksShown}
 use Rattle.c_face.specs.Boards.{boardBytes, boardBytesOf, ranksBytes, ranksBytesOf}
 use Rattle.c_face.specs.Keeping.{byteAt, senderOf, stateBytes}
 use Rattle.c_face.specs.Senders.{isEpoch, noStart}

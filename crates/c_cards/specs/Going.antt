@@ -4,7 +4,7 @@ use mathlib.Core.Bool.{_&&_}
 use mathlib.Core.List.{List}
 use Prim.Native.Nat.{ℕ}
 use Rattle.ground.specs.Plain.{if_then_else_, _==_}
-use Rattle.circuits.specs.Readings.{outgoingShown}
+use Rattle.cards.specs.Readings.{outgoingShown}
 use Rattle.sender.specs.declared.board.Board.{Board}
 use Rattle.spoken.specs.Changes.{answerNumber, comparedOf}
 use Rattle.spoken.specs.Taking.{takenOf}

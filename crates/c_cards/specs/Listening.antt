@@ -6,8 +6,8 @@ use mathlib.Core.List.{List, [], _∷_}
 use Prim.Native.Nat.{ℕ}
 use lib.ListN.{length}
 use Rattle.ground.specs.Plain.{if_then_else_, _==_}
-use Rattle.circuits.specs.Calls.{Call}
-use Rattle.circuits.specs.Calls.Call.{Claim, Release, AddSlot, RemoveSlot, Report, Lapse, StartEpoch}
+use Rattle.cards.specs.Calls.{Call}
+use Rattle.cards.specs.Calls.Call.{Claim, Release, AddSlot, RemoveSlot, Report, Lapse, StartEpoch}
 use Rattle.sender.specs.Board.{boardOf}
 use Rattle.sender.specs.declared.table.Table.{Table}
 use Rattle.sender.specs.Epochs.{SenderCall}
@@ -21,7 +21,7 @@ use Rattle.c_cards.specs.Going.{changesAnswerC, changesAnswerOn, changes
 use Rattle.c_face.specs.Boards.{boardBytesOf}
 use Rattle.c_face.specs.Keeping.{senderOf}
 use Rattle.c_cards.specs.Orders.{orderStateOn}
-use Rattle.c_face.specs.Runs.{fits}
+use Rattle.c_face.specs.Runs.{numbersFit}
 use Rattle.c_face.specs.Senders.{callAnswerC, callStateC}
 
 -- what a host calls, and how it tells
@@ -44,8 +44,8 @@ isStart (SenderCall.StartEpoch gid mst ack) = true
 abbrev pub senderHost : Host SenderCall
 senderHost =
     record {
-      left = λ state call. callStateC (fits call) call state;
-      starts = λ state call. isStart call && callAnswerC (fits call) call state == 0;
+      left = λ state call. callStateC (numbersFit call) call state;
+      starts = λ state call. isStart call && callAnswerC (numbersFit call) call state == 0;
       table = λ state. senderOf state .table;
       answer = changesAnswerC;
       changes = changesBytesC;

@@ -7,8 +7,8 @@ use lib.ListN.{getD, length, take}
 use Rattle.ground.specs.Plain.{if_then_else_, _<?_}
 use Rattle.ground.specs.Table.{tabulate}
 use Rattle.ground.specs.Types.{Bytes}
-use Rattle.circuits.specs.Views.{Made}
-use Rattle.circuits.specs.Views.Asked.{Do}
+use Rattle.cards.specs.Views.{Made}
+use Rattle.cards.specs.Views.Asked.{Do}
 use Rattle.orders.specs.Orders.{callBy}
 use Rattle.c_cards.specs.CardRuns.{stateAfterAll}
 use Rattle.c_cards.specs.Cards.{callAnswerOn}

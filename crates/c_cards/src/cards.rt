@@ -4,18 +4,18 @@ use crate::keeping;
 use c_face::boards::BOARD_BYTES;
 use c_face::boards::RANKS_BYTES;
 use c_face::senders;
-use circuits::Card;
-use circuits::CardOutcome;
+use cards::Card;
+use cards::CardOutcome;
 use packet::kinds;
 use sender::Sender;
 ghost use mathlib.Core.Path.{_≡_};
 ghost use mathlib.Core.Bool.{true};
 ghost use Prim.Native.Nat.{_<_};
 ghost use lib.ListN.{length};
-ghost use Rattle.circuits.specs.Answers.{answerNumber};
-ghost use Rattle.circuits.specs.Calls.Call.{Claim, Release, AddSlot, RemoveSlot, Report, Lapse, StartEpoch};
-ghost use Rattle.circuits.specs.Commands.{startOf};
-ghost use Rattle.circuits.specs.Owners.{ownerIn};
+ghost use Rattle.cards.specs.Answers.{answerNumber};
+ghost use Rattle.cards.specs.Calls.Call.{Claim, Release, AddSlot, RemoveSlot, Report, Lapse, StartEpoch};
+ghost use Rattle.cards.specs.Commands.{startOf};
+ghost use Rattle.cards.specs.Owners.{ownerIn};
 ghost use Rattle.ground.specs.Drawn.{fillAt};
 ghost use Rattle.c_cards.specs.Cards.{alone, areEpochs, boardBytesOn, callAnswerOn, callStateOn, cardBytes, cardOf, keptCard, outgoingBytesOn, ownedBytesOn, ownersIn, packetAnswerOn, packetBytesOn, partAt, partIn, payloadAnswerOn, payloadBytesOn, putCard, putOwn, ranksBytesOn, refusalOf, shownAnswerOn, startAnswerOn, startStateOn};
 ghost use Rattle.c_face.specs.Keeping.{byteAt, senderOf, stateBytes};
@@ -93,7 +93,7 @@ pub(crate) fn put_own(card: Card, group: u32, state: &mut [u8])
     ensures { λ r. ⌜ now (state .exit) ≡ putOwn group card (now (state .entry)) ⌝ }
 {
     let owners = card.owners;
-    let sender = circuits::sender_of(card, group);
+    let sender = cards::sender_of(card, group);
     keeping::put_bytes(&owners, 0, state);
     put_part(sender, group, state);
 }
@@ -314,7 +314,7 @@ fn owner_at(state: &[u8], slot: u32) -> u8
 fn slot_refusal(owner: u8, group: u32, count: u8, slot: u32) -> u8
     ensures { λ r. ⌜ r ≡ slotRefusal owner group count slot ⌝ }
 {
-    let mark = circuits::mark_of(group);
+    let mark = cards::mark_of(group);
     let size = ground::size_byte(count);
     if size as u32 <= slot {
         return 1;

@@ -9,12 +9,12 @@ use Rattle.ground.specs.Drawn.{Filling, fillAt, fillAt-ext, filling, filling-al
 use Rattle.ground.specs.Flags.{oneIf}
 use Rattle.sender.specs.declared.board.Board.{Board}
 use Rattle.sender.specs.declared.ranks.Ranks.{Ranks}
-use Rattle.sender.specs.Table.{sizeOf}
+use Rattle.sender.specs.Table.{slotCount}
 use Rattle.c_face.specs.Boards.{boardByte, boardBytesOf, rankByte, ranksBytesOf, shownAnswerC, shownBytes}
 use Rattle.c_face.specs.Keeping.{rowsByte}
 
 module _ (b : Board) where
-  board-head : (j : ℕ) → j < 2 → getD (sizeOf (b .count) ∷ oneIf (b .wait) ∷ []) j 0 ≡ boardByte b j
+  board-head : (j : ℕ) → j < 2 → getD (slotCount (b .count) ∷ oneIf (b .wait) ∷ []) j 0 ≡ boardByte b j
   unfolding boardByte
   board-head j h = rw (lt-ltb j 2 h) refl
 
@@ -22,13 +22,13 @@ module _ (b : Board) where
   unfolding boardByte
   board-rows j h = let e : 2 + j - 2 ≡ j = omega arith in rw (le-ltb (2 + j) 2 (omega arith), e) refl
 
-  pub board-whole : (n w : ℕ) (d a out : List ℕ) → length d ≡ 130 → n ≡ sizeOf (b .count) → w ≡ oneIf (b .wait) → a ≡ fillAt 0 2 (λ k. getD (n ∷ w ∷ []) k 0) d
+  pub board-whole : (n w : ℕ) (d a out : List ℕ) → length d ≡ 130 → n ≡ slotCount (b .count) → w ≡ oneIf (b .wait) → a ≡ fillAt 0 2 (λ k. getD (n ∷ w ∷ []) k 0) d
       → out ≡ fillAt 2 128 (rowsByte (b .rows)) a → out ≡ boardBytesOf b
   unfolding boardBytesOf
   board-whole n w d a out l en ew ea eo =
-      let e : a ≡ fillAt 0 2 (λ k. getD (sizeOf (b .count) ∷ oneIf (b .wait) ∷ []) k 0) d =
+      let e : a ≡ fillAt 0 2 (λ k. getD (slotCount (b .count) ∷ oneIf (b .wait) ∷ []) k 0) d =
       ea ∙ ap (λ (v : ℕ). fillAt 0 2 (λ k. getD (n ∷ v ∷ []) k 0) d) ew ∙ ap (λ (v : ℕ). fillAt 0 2 (λ k. getD (v ∷ oneIf (b .wait) ∷ []) k 0) d) en in
-      let A : Filling 0 2 (boardByte b) d a = filling 0 2 (boardByte b) d a (e ∙ fillAt-ext 0 2 (λ k. getD (sizeOf (b .count) ∷ oneIf (b .wait) ∷ []) k 0) (boardByte b) d board-head) in
+      let A : Filling 0 2 (boardByte b) d a = filling 0 2 (boardByte b) d a (e ∙ fillAt-ext 0 2 (λ k. getD (slotCount (b .count) ∷ oneIf (b .wait) ∷ []) k 0) (boardByte b) d board-head) in
       let B : Filling 0 130 (boardByte b) d out = filling-piece 128 (rowsByte (b .rows)) out A eo board-rows in
       filling-all B l
 

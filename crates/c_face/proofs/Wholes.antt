@@ -6,7 +6,7 @@ use native.Mathlib.Omega.{arith}
 use lib.Dec.{ltb}
 use lib.ListN.{length, set}
 use borrow.Author.Tests.{lt-ltb}
-use Rattle.counting.specs.Each.{Done, done-all}
+use Rattle.ground.specs.Counting.Each.{Done, done-all}
 use Rattle.ground.specs.Drawn.{Filling, drawn-all, filling-more}
 use Rattle.ground.specs.Table.{tabulate}
 

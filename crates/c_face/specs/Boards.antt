@@ -11,13 +11,13 @@ use Rattle.sender.specs.Board.{boardOf}
 use Rattle.sender.specs.declared.board.Board.{Board}
 use Rattle.sender.specs.declared.ranks.Ranks.{Ranks}
 use Rattle.sender.specs.Epochs.{ranksOf}
-use Rattle.sender.specs.Table.{sizeOf}
+use Rattle.sender.specs.Table.{slotCount}
 use Rattle.c_face.specs.Keeping.{rowsByte, senderOf}
 use Rattle.c_face.specs.Senders.{isState}
 
 -- the count, at most 64, and the wait, then each slot's word and number
 unfoldable pub boardByte : Board → ℕ → ℕ
-boardByte b k = if k <? 2 then getD (sizeOf (b .count) ∷ oneIf (b .wait) ∷ []) k 0 else rowsByte (b .rows) (k - 2)
+boardByte b k = if k <? 2 then getD (slotCount (b .count) ∷ oneIf (b .wait) ∷ []) k 0 else rowsByte (b .rows) (k - 2)
 
 abbrev pub boardBytes : ℕ
 boardBytes = 130

@@ -52,7 +52,7 @@ rowsIn bytes at = tabulate 64 (rowIn bytes at)
 
 abbrev pub tableIn : Bytes → Table
 tableIn bytes =
-    record { slots = slotsIn bytes; count = byteIn bytes 384; wait = flagOf (byteIn bytes 385); bit = byteIn bytes 386; kind = byteIn bytes 387 }
+    record { slots = slotsIn bytes; count = byteIn bytes 384; wait = flagOf (byteIn bytes 385); remembered = byteIn bytes 386; kind = byteIn bytes 387 }
 
 abbrev pub boardIn : (bytes : Bytes) (at count wait : ℕ) → Board
 boardIn bytes at count wait = record { rows = rowsIn bytes at; count = count; wait = flagOf wait }
@@ -88,7 +88,7 @@ abbrev pub fieldBytes : Sender → Bytes
 fieldBytes s =
     s .table .count
     ∷ oneIf (s .table .wait)
-    ∷ s .table .bit
+    ∷ s .table .remembered
     ∷ s .table .kind
     ∷ s .outgoing .count
     ∷ oneIf (s .outgoing .wait)

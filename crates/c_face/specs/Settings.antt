@@ -5,7 +5,7 @@ use Rattle.ground.specs.Flags.{oneIf}
 use Rattle.ground.specs.Types.{Bytes}
 use Rattle.sender.specs.declared.epochs.Sender.{Sender}
 use Rattle.sender.specs.Epochs.{startedEpoch}
-use Rattle.sender.specs.Table.{sizeOf}
+use Rattle.sender.specs.Table.{slotCount}
 use Rattle.c_face.specs.Boards.{shownBytes}
 use Rattle.c_face.specs.Keeping.{senderOf}
 
@@ -14,7 +14,7 @@ settingsBytes = 5
 
 -- the kind of its packets, its slots, the number of the next epoch to start, whether a wait is open, and the RS-Ack that it remembers
 unfoldable pub senderSettings : (s : Sender) → Bytes
-senderSettings s = (s .table .kind) ∷ sizeOf (s .table .count) ∷ startedEpoch s ∷ oneIf (s .table .wait) ∷ (s .table .bit) ∷ []
+senderSettings s = (s .table .kind) ∷ slotCount (s .table .count) ∷ startedEpoch s ∷ oneIf (s .table .wait) ∷ (s .table .remembered) ∷ []
 
 abbrev pub settingsBytesC : (state : Bytes) (settings : Bytes) → Bytes
 settingsBytesC state settings = shownBytes settingsBytes state (senderSettings (senderOf state)) settings

@@ -109,7 +109,7 @@ fn table_in(state: &[u8]) -> Table
         slots: slots_in(state),
         count,
         wait: ground::is_set(wait),
-        bit,
+        remembered: bit,
         kind,
     }
 }
@@ -206,7 +206,7 @@ fn field_bytes(sender: Sender) -> [u8; 13]
     [
         table.count,
         ground::one_if(table.wait),
-        table.bit,
+        table.remembered,
         table.kind,
         outgoing.count,
         ground::one_if(outgoing.wait),

@@ -27,7 +27,7 @@ fn put_settings(sender: Sender, settings: &mut [u8])
     let count = ground::size_byte(table.count);
     let next = next_epoch(sender);
     let wait = ground::one_if(table.wait);
-    let image = [table.kind, count, next, wait, table.bit];
+    let image = [table.kind, count, next, wait, table.remembered];
     bytes::copy(&image, settings);
 }
 

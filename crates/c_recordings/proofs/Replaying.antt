@@ -7,12 +7,12 @@ use lib.ListN.{drop, getD, length}
 use borrow.Author.Tests.{eq-eqb, le-leb, lt-leb, ne-eqb}
 use Rattle.ground.specs.Drawn.{fillAt, fillAt-all}
 use Rattle.ground.specs.Flags.{oneIf}
-use Rattle.replaying.specs.declared.lengths.Lengths.{Lengths}
-use Rattle.replaying.specs.declared.replay.Replay.{Replay}
-use Rattle.replaying.specs.declared.turns.Replayed.{Replayed}
-use Rattle.replaying.specs.Lengths.{lengthsOf}
-use Rattle.replaying.specs.Replay.{beginning}
-use Rattle.replaying.specs.Turn.{placed, turnOf, turnOut, turnRows, turnSaid, turnStore}
+use Rattle.replay_lines.specs.declared.lengths.Lengths.{Lengths}
+use Rattle.replay_lines.specs.declared.replay.Replay.{Replay}
+use Rattle.replay_lines.specs.declared.turns.Replayed.{Replayed}
+use Rattle.replay_lines.specs.Lengths.{lengthsOf}
+use Rattle.replay_lines.specs.Replay.{beginning}
+use Rattle.replay_lines.specs.Turn.{placed, turnOf, turnOut, turnRows, turnSaid, turnStore}
 use Rattle.c_recordings.specs.Replays.{beginAnswerC, beginStateC, bytesOf, lastC, lengthsAnswerC, outLengthC, replayOf, storeLengthC, turnAnswerC, turnAtC, turnC, turnOutC, turnRowsC, turnSaidC, turnStateC, turnStoreC, turnWantsC, turnWrittenC}
 
 -- a state written whole

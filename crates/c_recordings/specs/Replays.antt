@@ -6,14 +6,14 @@ use Prim.Native.Nat.{ℕ, _+_, _*_, _/_, _%_}
 use lib.ListN.{drop, getD, length, take}
 use Rattle.ground.specs.Flags.{oneIf}
 use Rattle.ground.specs.Plain.{if_then_else_, _==_, _≤?_}
-use Rattle.replaying.specs.declared.replay.Phase.{Phase}
-use Rattle.replaying.specs.declared.replay.Phase.the-variants.{Settings, Reading, Fetching, Skipping, Ended}
-use Rattle.replaying.specs.declared.replay.Replay.{Replay}
-use Rattle.replaying.specs.declared.turns.Replayed.{Replayed}
-use Rattle.replaying.specs.Lengths.{lengthsOf}
-use Rattle.replaying.specs.Replay.{beginning}
-use Rattle.replaying.specs.Runs.{Host, answer, called}
-use Rattle.replaying.specs.Turn.{turnOf, turnOut, turnRows, turnSaid, turnStore}
+use Rattle.replay_lines.specs.declared.replay.Phase.{Phase}
+use Rattle.replay_lines.specs.declared.replay.Phase.the-variants.{Settings, Reading, Fetching, Skipping, Ended}
+use Rattle.replay_lines.specs.declared.replay.Replay.{Replay}
+use Rattle.replay_lines.specs.declared.turns.Replayed.{Replayed}
+use Rattle.replay_lines.specs.Lengths.{lengthsOf}
+use Rattle.replay_lines.specs.Replay.{beginning}
+use Rattle.replay_lines.specs.Runs.{Host, answer, called}
+use Rattle.replay_lines.specs.Turn.{turnOf, turnOut, turnRows, turnSaid, turnStore}
 
 -- The state of a replay is 17 bytes: the phase, the number of lines read in eight bytes, how many fetches may follow in two, the group's kind and ports, P and W in two each; the highest byte
 -- first. Any bytes are a replay: a phase byte other than 1 to 4 counts as 0.

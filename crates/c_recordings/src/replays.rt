@@ -1,8 +1,8 @@
 // A recording run again, for C. The replay itself is a lent buffer, and the receiver's rows, its store, its output and what is printed are
 // lent beside it.
 use crate::keeping;
-use replaying::Phase;
-use replaying::Replay;
+use replay_lines::Phase;
+use replay_lines::Replay;
 ghost use mathlib.Core.Path.{_≡_};
 ghost use Prim.Native.Nat.{_≤_};
 ghost use lib.ListN.{length};
@@ -127,7 +127,7 @@ pub extern "C" fn levelspruce_replay_lengths(
         × (now («store_length» .exit) ≡ storeLengthC (now (recording .entry)) (now («store_length» .entry)))
         × (now («out_length» .exit) ≡ outLengthC (now (recording .entry)) (now («out_length» .entry))) ⌝ }
 {
-    let told = replaying::replay_lengths(recording);
+    let told = replay_lines::replay_lengths(recording);
     if told.answer != 0 {
         return told.answer;
     }
@@ -143,7 +143,7 @@ pub extern "C" fn levelspruce_replay_begin(state: &mut [u8]) -> u8
     if state.len() != REPLAY_BYTES {
         return 9;
     }
-    let replay = replaying::begin();
+    let replay = replay_lines::begin();
     put_replay(replay, state);
     0
 }
@@ -186,7 +186,7 @@ pub extern "C" fn levelspruce_replay_turn(
     }
     let replay = replay_of(state);
     let ended = is_last(last);
-    let turn = replaying::turn(replay, text, from, ended, rows, store, out, said);
+    let turn = replay_lines::turn(replay, text, from, ended, rows, store, out, said);
     if turn.answer != 0 {
         return turn.answer;
     }

@@ -69,20 +69,20 @@ entries =
     ∷ row "sender::Sender::start_epoch" sender.startEpoch sender.startEpoch-copes
     ∷ row "sender::Sender::packet" sender.packet sender.packet-copes
     ∷ row "sender::Sender::payload" sender.payload sender.payload-copes
-    ∷ row "circuits::Card::start" card.start card.start-copes
-    ∷ row "circuits::Card::claim" card.claim card.claim-copes
-    ∷ row "circuits::Card::release" card.release card.release-copes
-    ∷ row "circuits::Card::add" card.add card.add-copes
-    ∷ row "circuits::Card::remove" card.remove card.remove-copes
-    ∷ row "circuits::Card::report" card.report card.report-copes
-    ∷ row "circuits::Card::lapse" card.lapse card.lapse-copes
-    ∷ row "circuits::Card::start_epoch" card.startEpoch card.startEpoch-copes
-    ∷ row "circuits::Card::packet" card.packet card.packet-copes
-    ∷ row "circuits::Card::payload" card.payload card.payload-copes
-    ∷ row "circuits::Card::board" card.board card.board-copes
-    ∷ row "circuits::Card::outgoing" card.outgoing card.outgoing-copes
-    ∷ row "circuits::Card::ranks" card.ranks card.ranks-copes
-    ∷ row "circuits::Card::owned" card.owned card.owned-copes
+    ∷ row "cards::Card::start" card.start card.start-copes
+    ∷ row "cards::Card::claim" card.claim card.claim-copes
+    ∷ row "cards::Card::release" card.release card.release-copes
+    ∷ row "cards::Card::add" card.add card.add-copes
+    ∷ row "cards::Card::remove" card.remove card.remove-copes
+    ∷ row "cards::Card::report" card.report card.report-copes
+    ∷ row "cards::Card::lapse" card.lapse card.lapse-copes
+    ∷ row "cards::Card::start_epoch" card.startEpoch card.startEpoch-copes
+    ∷ row "cards::Card::packet" card.packet card.packet-copes
+    ∷ row "cards::Card::payload" card.payload card.payload-copes
+    ∷ row "cards::Card::board" card.board card.board-copes
+    ∷ row "cards::Card::outgoing" card.outgoing card.outgoing-copes
+    ∷ row "cards::Card::ranks" card.ranks card.ranks-copes
+    ∷ row "cards::Card::owned" card.owned card.owned-copes
     ∷ row "orders::order" orders.order orders.order-copes
     ∷ row "orders::order_of" orders.orderOf orders.orderOf-copes
     ∷ row "spoken::changes_between" spoken.changes spoken.changes-copes
@@ -90,9 +90,9 @@ entries =
     ∷ row "spoken::speak" spoken.speak spoken.speak-copes
     ∷ row "spoken::speak_runs" spoken.speakRuns spoken.speakRuns-copes
     ∷ row "spoken::speak_whole" spoken.speakWhole spoken.speakWhole-copes
-    ∷ row "console::feed" console.feed console.feed-copes
-    ∷ row "console::finish" console.finish console.finish-copes
-    ∷ row "console::reply_to" console.reply console.reply-copes
+    ∷ row "session_lines::feed" console.feed console.feed-copes
+    ∷ row "session_lines::finish" console.finish console.finish-copes
+    ∷ row "session_lines::reply_to" console.reply console.reply-copes
     ∷ row "step::reading_of" packet.readingOf packet.readingOf-copes
     ∷ row "step::decide" receiver.decide receiver.decide-copes
     ∷ row "receiver::start" receiver.start receiver.start-copes
@@ -107,8 +107,8 @@ entries =
     ∷ row "receiver::behind" seeing.behind seeing.behind-copes
     ∷ row "receiver::anew" seeing.anew seeing.anew-copes
     ∷ row "receiver::settings" seeing.settings seeing.settings-copes
-    ∷ row "replaying::turn" replay.turn replay.turn-copes
-    ∷ row "replaying::replay_lengths" replay.lengths replay.lengths-copes
+    ∷ row "replay_lines::turn" replay.turn replay.turn-copes
+    ∷ row "replay_lines::replay_lengths" replay.lengths replay.lengths-copes
     ∷ row "mending::mend_lengths" mending.lengths mending.lengths-copes
     ∷ row "mending::mend" mending.mend mending.mend-copes
     ∷ row "levelspruce_packet_write" packet.writeC packet.writeC-copes

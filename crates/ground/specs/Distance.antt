@@ -8,7 +8,7 @@ use native.Mathlib.Omega.{arith}
 use lib.ListN.{length, take, length-append, length-replicate}
 use lib.Seq.{take-at}
 use Rattle.ground.specs.Catching.{Catches}
-use Rattle.ground.specs.Polynomial.{sum, zeros, remainder, check, sealed, weight, apart}
+use Rattle.ground.specs.Polynomial.{sum, zeros, remainder, check, sealed, weight, bitsApart}
 use Rattle.ground.specs.Division.{length-check, remainder-sum, sound}
 use Rattle.ground.specs.Sums.{length-sum, sum-apart, sum-self, sum-zeros}
 
@@ -20,7 +20,7 @@ weight-zeros (true ∷ l) e = absurd (omega arith)
 module _ (g : List Bool) (n d : ℕ) (catches : Catches g n d) where
   -- Two messages that leave nothing and differ in fewer than d bits are one.
   pub close : (a b : List Bool) → length a ≡ length b → length a ≤ n
-      → remainder g (zeros (length g)) a ≡ zeros (length g) → remainder g (zeros (length g)) b ≡ zeros (length g) → apart a b < d → a ≡ b
+      → remainder g (zeros (length g)) a ≡ zeros (length g) → remainder g (zeros (length g)) b ≡ zeros (length g) → bitsApart a b < d → a ≡ b
   close a b e h za zb w =
       sum-apart a b e (weight-zeros (sum a b) (catches (sum a b) (rw (length-sum a b e) h) none w) ∙ ap zeros (length-sum a b e))
     where
@@ -40,14 +40,14 @@ module _ (g : List Bool) (n d : ℕ) (catches : Catches g n d) where
   length-sealed m = length-append m (check g m) ∙ ap (λ k. length m + k) (length-check g m)
 
   -- Two different messages of one length, sealed, differ in at least d bits.
-  pub sealed-apart : (m e : List Bool) → length m ≡ length e → length m + length g ≤ n → (m ≡ e → ⊥) → d ≤ apart (sealed g m) (sealed g e)
-  sealed-apart m e h b differ = go (decLe d (apart (sealed g m) (sealed g e)))
+  pub sealed-apart : (m e : List Bool) → length m ≡ length e → length m + length g ≤ n → (m ≡ e → ⊥) → d ≤ bitsApart (sealed g m) (sealed g e)
+  sealed-apart m e h b differ = go (decLe d (bitsApart (sealed g m) (sealed g e)))
     where
       front : sealed g m ≡ sealed g e → m ≡ e
       front p =
           sym (take-at m (check g m) (length m) refl) ∙ ap (λ l. take (length m) l) p ∙ take-at e (check g e) (length m) (sym h)
 
-      go : Dec (d ≤ apart (sealed g m) (sealed g e)) → d ≤ apart (sealed g m) (sealed g e)
+      go : Dec (d ≤ bitsApart (sealed g m) (sealed g e)) → d ≤ bitsApart (sealed g m) (sealed g e)
       go (yes q) = q
       go (no q) =
           absurd (differ (front (close (sealed g m) (sealed g e)
@@ -55,7 +55,7 @@ module _ (g : List Bool) (n d : ℕ) (catches : Catches g n d) where
 
   -- A sealed message with at least one bit changed, and fewer than d, carries a tail that is not the check of what stands before it.
   pub caught : (m e t : List Bool) → length m ≡ length e → length t ≡ length g → length m + length g ≤ n
-      → 1 ≤ apart (sealed g m) (e ++ t) → apart (sealed g m) (e ++ t) < d → check g e ≡ t → ⊥
+      → 1 ≤ bitsApart (sealed g m) (e ++ t) → bitsApart (sealed g m) (e ++ t) < d → check g e ≡ t → ⊥
   caught m e t h ht b low high same = omega (arith, alike)
     where
       changed : e ++ t ≡ sealed g e
@@ -65,7 +65,7 @@ module _ (g : List Bool) (n d : ℕ) (catches : Catches g n d) where
       one = close (sealed g m) (e ++ t) (length-sealed m ∙ ap (λ k. k + length g) h ∙ sym (length-sealed e) ∙ ap length (sym changed)) (rw (length-sealed m) b) (sound g m)
           (ap (λ l. remainder g (zeros (length g)) l) changed ∙ sound g e) high
 
-      alike : apart (sealed g m) (e ++ t) ≡ 0
+      alike : bitsApart (sealed g m) (e ++ t) ≡ 0
       alike = ap (λ l. weight (sum l (e ++ t))) one ∙ ap weight (sum-self (e ++ t)) ∙ none (length (e ++ t))
         where
           none : (k : ℕ) → weight (zeros k) ≡ 0

@@ -2,6 +2,7 @@ pub mod Arcs
 pub mod Bits
 pub mod Catching
 pub mod Circle
+pub mod Counting
 pub mod Distance
 pub mod Division
 pub mod Drawn

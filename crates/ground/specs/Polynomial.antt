@@ -45,5 +45,5 @@ weight (false ∷ l) = weight l
 weight (true ∷ l) = suc (weight l)
 
 -- in how many bits two messages of one length differ
-abbrev pub apart : List Bool → List Bool → ℕ
-apart l m = weight (sum l m)
+abbrev pub bitsApart : List Bool → List Bool → ℕ
+bitsApart l m = weight (sum l m)

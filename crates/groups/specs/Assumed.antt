@@ -6,7 +6,7 @@ use Prim.Native.Nat.{ℕ, _≤_, _<_}
 use lib.ListN.{length}
 use Rattle.ground.specs.Plain.{_==_}
 use Rattle.packet.specs.Kinds.{epochs, fixedKind}
-use Rattle.circuits.specs.Parts.{owns}
+use Rattle.cards.specs.Parts.{owns}
 use Rattle.link.specs.History.{sendingOf}
 use Rattle.link.specs.Link.{Lines, Link}
 use Rattle.link.specs.Sending.{Pairing, Reached, epochStart}

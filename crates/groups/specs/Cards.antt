@@ -1,8 +1,8 @@
 -- A card from one start on: its calls one after the other without end, each with the group that makes it. Any list of calls is a beginning of some such history.
 use Prim.Native.Nat.{ℕ}
 use Rattle.ground.specs.Table.{tabulate}
-use Rattle.circuits.specs.Views.{Made, cardFrom}
-use Rattle.circuits.specs.declared.card.Card.{Card}
+use Rattle.cards.specs.Views.{Made, cardFrom}
+use Rattle.cards.specs.declared.card.Card.{Card}
 
 pub record CardHistory : Type 0 where
   pub kind : ℕ

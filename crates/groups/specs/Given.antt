@@ -7,9 +7,9 @@ use lib.ListN.{length}
 use Rattle.packet.specs.Kinds.{frames}
 use Rattle.sender.specs.Epochs.{rankIn}
 use Rattle.sender.specs.Ranks.{noRank}
-use Rattle.circuits.specs.declared.answers.Answer.the-variants.{Done}
-use Rattle.circuits.specs.Parts.{senderOf}
-use Rattle.circuits.specs.Readings.{packetAnswer, packetBytes, payloadAnswer, payloadBytes}
+use Rattle.cards.specs.declared.answers.Answer.the-variants.{Done}
+use Rattle.cards.specs.Parts.{senderOf}
+use Rattle.cards.specs.Readings.{packetAnswer, packetBytes, payloadAnswer, payloadBytes}
 use Rattle.link.specs.Link.{Link}
 use Rattle.link.specs.Sending.{epochAt}
 use Rattle.groups.specs.Cards.{CardHistory, cardAt}

@@ -6,11 +6,11 @@ use Prim.Native.Nat.{ℕ, zero, suc, _+_, _-_, _<_}
 use Rattle.ground.specs.Plain.{if_then_else_, _==_, _<?_}
 use Rattle.ground.specs.Table.{tabulate}
 use Rattle.sender.specs.Calls.{Call as T}
-use Rattle.circuits.specs.declared.card.Card.{Card}
-use Rattle.circuits.specs.Calls.Call.{Claim, Release, AddSlot, RemoveSlot, Report, Lapse, StartEpoch}
-use Rattle.circuits.specs.Parts.{isSlot, owns}
-use Rattle.circuits.specs.Views.{Asked, Made, cardAfter}
-use Rattle.circuits.specs.Views.Asked.{Do, Packet, Payload, Board, Outgoing, Ranks, Owned}
+use Rattle.cards.specs.declared.card.Card.{Card}
+use Rattle.cards.specs.Calls.Call.{Claim, Release, AddSlot, RemoveSlot, Report, Lapse, StartEpoch}
+use Rattle.cards.specs.Parts.{isSlot, owns}
+use Rattle.cards.specs.Views.{Asked, Made, cardAfter}
+use Rattle.cards.specs.Views.Asked.{Do, Packet, Payload, Board, Outgoing, Ranks, Owned}
 use Rattle.link.specs.History.{History}
 use Rattle.groups.specs.Cards.{CardHistory, cardAt}
 

@@ -2,7 +2,7 @@
 use mathlib.Core.Path.{_≡_}
 use mathlib.Core.Bool.{false}
 use Prim.Native.Nat.{ℕ, suc, _≤_, _<_}
-use Rattle.circuits.specs.Parts.{owns, senderOf}
+use Rattle.cards.specs.Parts.{owns, senderOf}
 use Rattle.link.specs.Demand3.{Demand3}
 use Rattle.link.specs.History.{senderAt}
 use Rattle.link.specs.Link.{Link}

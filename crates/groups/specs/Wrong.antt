@@ -9,7 +9,7 @@ use Rattle.ground.specs.Plain.{if_then_else_, _==_}
 use Rattle.ground.specs.Types.{Epoch}
 use Rattle.judge.specs.Verdict.{HELD}
 use Rattle.packet.specs.Words.{IDLE}
-use Rattle.circuits.specs.Parts.{owns}
+use Rattle.cards.specs.Parts.{owns}
 use Rattle.link.specs.History.{History, numberSent, packetSent, wordSent, xAt}
 use Rattle.link.specs.Link.{Link}
 use Rattle.link.specs.Samples.Computing.{outcome}

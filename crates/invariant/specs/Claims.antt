@@ -21,7 +21,7 @@ use Rattle.invariant.specs.Calls.{Fetch, Frame, Receiver, ReceiverCall, 
 -- of the epoch that a joined port is in the midst of: from its first frame, or the epoch joined at, up to the tag to come
 pub record Part (g : Group) (s : Step) (d : ℕ) : Type 0 where
   pub joined : flagOf (s .joined) ≡ true
-  pub later : frames (g .kind) * s .later ≤ d
+  pub «joined_at» : frames (g .kind) * s .«joined_at» ≤ d
   pub from : frames (g .kind) * (offset g s / frames (g .kind)) ≤ d
   pub upto : d < offset g s
 

@@ -20,7 +20,7 @@ use lib.ListN.{getD, length}
 use Rattle.phases.specs.Due.{silent}
 use Rattle.phases.specs.Passing.{passedGroup, passedOf}
 use Rattle.phases.specs.Sizes.{portsIn}
-use Rattle.receiver.specs.Fetch.{dueIn, fits, reportIfDue}
+use Rattle.receiver.specs.Fetch.{dueIn, lentFits, reportIfDue}
 use Rattle.receiver.specs.Frame.{frameRefusal, takenIn, frameOf}
 use Rattle.reply.specs.declared.members.Port.{Port as ReplyPort}
 use Rattle.reply.specs.Telling.{ackOf}
@@ -56,7 +56,7 @@ pub record Gathers (g h : Group) : Type 0 where
 
 -- A fetch that gives a report.
 pub record Given (s : Rows) (store out report : Bytes) : Type 0 where
-  pub fitting : fits s store out report ≡ true
+  pub fitting : lentFits s store out report ≡ true
   pub due : dueIn (groupAt s) (portsIn (groupAt s)) s ≡ true
 
 -- The output after a sure report of a fixed group (request 2026-12), X being the number of ports: the group frames of an epoch one after the other, of X x P bytes each, in the order of the numbers, and the rest of it as it was.
@@ -102,7 +102,7 @@ ackAfter s store = ackOf (reportPorts s store) (sizeOf (portsIn (groupAt s))) (g
 
 -- a fetch gives a report
 abbrev pub gives : (x : Receiver) (out report : Bytes) → Bool
-gives x out report = fits (x .rows) (x .store) out report && dueIn (groupAt (x .rows)) (portsIn (groupAt (x .rows))) (x .rows)
+gives x out report = lentFits (x .rows) (x .store) out report && dueIn (groupAt (x .rows)) (portsIn (groupAt (x .rows))) (x .rows)
 
 -- the epoch that it says
 abbrev pub epochGiven : Receiver → ℕ

@@ -22,7 +22,7 @@ use Rattle.phases.specs.Settling.{settledOf}
 use Rattle.phases.specs.Sizes.{knownKind, portsIn}
 use Rattle.receiver.specs.Anew.{anewAnswer, anewRows}
 use Rattle.receiver.specs.Cause.{causeOut}
-use Rattle.receiver.specs.Fetch.{dueIn, fetchOf, fits, reportIfDue}
+use Rattle.receiver.specs.Fetch.{dueIn, fetchOf, lentFits, reportIfDue}
 use Rattle.receiver.specs.Frame.{frameOf, settledBy, takenIn}
 use Rattle.receiver.specs.Behind.{Near, behindIn}
 use Rattle.receiver.specs.Heard.{heardOf as saidOf, silence}
@@ -177,7 +177,7 @@ lost-heard = Losing.lost-heard
 -- Reports, on every state.
 
 -- The minutes' item 1: the bytes of a report that is not held are the join under one order, sixteen group frames, and the output beyond them stays.
-pub report-bytes : (s : List (List ℕ)) (store out report : List ℕ) → fits s store out report ≡ true → dueIn (groupAt s) (portsIn (groupAt s)) s ≡ true
+pub report-bytes : (s : List (List ℕ)) (store out report : List ℕ) → lentFits s store out report ≡ true → dueIn (groupAt s) (portsIn (groupAt s)) s ≡ true
     → judgeOf (groupAt s .kind) (seenAll (groupAt s) s (portsIn (groupAt s))) (portsIn (groupAt s)) ≢ HELD
     → fetchOf s store out report .out
     ≡ fillAt 0 (frames (groupAt s .kind) * frameBytes (groupAt s) (seenAll (groupAt s) s (portsIn (groupAt s))) (portsIn (groupAt s)))
@@ -206,7 +206,7 @@ pub mark-cause : (s : List (List ℕ)) (store out report : List ℕ) → Given s
     → getD (fetchOf s store out report .report) 0 0 ≡ markOf (groupAt s .kind) (getD (fetchOf s store out report .report) 3 0)
 mark-cause = Cause.mark-cause
 
-pub none-cause : (s : List (List ℕ)) (store out report : List ℕ) → fits s store out report ≡ true → dueIn (groupAt s) (portsIn (groupAt s)) s ≡ false
+pub none-cause : (s : List (List ℕ)) (store out report : List ℕ) → lentFits s store out report ≡ true → dueIn (groupAt s) (portsIn (groupAt s)) s ≡ false
     → getD (fetchOf s store out report .report) 3 0 ≡ 0
 none-cause = Cause.none-cause
 
@@ -240,7 +240,7 @@ again = Again.again
 pub frame-ack : (s : List (List ℕ)) (i : ℕ) (failed : Bool) (h : ℕ) (payload store : List ℕ) → ackIn (frameOf s i failed h payload store .rows) ≡ ackIn s
 frame-ack = Ack.frame-ack
 
-pub none-ack : (s : List (List ℕ)) (store out report : List ℕ) → (fits s store out report && dueIn (groupAt s) (portsIn (groupAt s)) s) ≡ false
+pub none-ack : (s : List (List ℕ)) (store out report : List ℕ) → (lentFits s store out report && dueIn (groupAt s) (portsIn (groupAt s)) s) ≡ false
     → ackIn (fetchOf s store out report .rows) ≡ ackIn s
 none-ack = Ack.none-ack
 
@@ -285,7 +285,7 @@ times-refused = Times.times-refused
 pub frame-standing : (port : ℕ) (s : List (List ℕ)) (i : ℕ) (failed : Bool) (h : ℕ) (payload store : List ℕ) → standingIn (frameOf s i failed h payload store .rows) port ≡ standingIn s port
 frame-standing = Between.frame-standing
 
-pub none-standing : (port : ℕ) (s : List (List ℕ)) (store out report : List ℕ) → (fits s store out report && dueIn (groupAt s) (portsIn (groupAt s)) s) ≡ false
+pub none-standing : (port : ℕ) (s : List (List ℕ)) (store out report : List ℕ) → (lentFits s store out report && dueIn (groupAt s) (portsIn (groupAt s)) s) ≡ false
     → standingIn (fetchOf s store out report .rows) port ≡ standingIn s port
 none-standing = Between.none-standing
 
@@ -359,7 +359,7 @@ pub fixed-order : (s : List (List ℕ)) → groupAt s .kind ≡ fixedKind → du
 fixed-order = Fixed.fixed-order
 
 -- and those bytes, in one: sixteen group frames of all X ports in the order of the numbers that their ruling packets carry, and the output beyond them as it was
-pub fixed-bytes : (s : List (List ℕ)) → groupAt s .kind ≡ fixedKind → dueIn (groupAt s) (portsIn (groupAt s)) s ≡ true → (store out report : List ℕ) → fits s store out report ≡ true
+pub fixed-bytes : (s : List (List ℕ)) → groupAt s .kind ≡ fixedKind → dueIn (groupAt s) (portsIn (groupAt s)) s ≡ true → (store out report : List ℕ) → lentFits s store out report ≡ true
     → reportIfDue (groupAt s) (portsIn (groupAt s)) s .mark ≡ SURE → ByNumber s store out (fetchOf s store out report .out)
 fixed-bytes = Fixed.fixed-bytes
 

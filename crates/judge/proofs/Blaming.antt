@@ -4,8 +4,8 @@ use mathlib.Core.Bool.{Bool, true, false}
 use mathlib.Core.List.{List}
 use Prim.Native.Nat.{ℕ, _+_, _<_}
 use native.Mathlib.Numerals.{add-one}
-use Rattle.counting.specs.Laws.Tests.{some-at}
-use Rattle.counting.specs.Words.{some}
+use Rattle.ground.specs.Counting.Laws.Tests.{some-at}
+use Rattle.ground.specs.Counting.Words.{some}
 use Rattle.judge.specs.declared.seen.Seen.{Seen}
 use Rattle.judge.specs.Cause.{applies, blamedBy}
 use Rattle.judge.specs.Laws.Lowest.{lowest-first}

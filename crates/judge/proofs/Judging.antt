@@ -5,7 +5,7 @@ use mathlib.Core.List.{List}
 use Prim.Native.Nat.{ℕ, _≤_, _<_}
 use lib.Dec.{ltb}
 use borrow.Author.Tests.{le-ltb, lt-ltb}
-use Rattle.counting.specs.Laws.Numbers.{count-le}
+use Rattle.ground.specs.Counting.Laws.Numbers.{count-le}
 use Rattle.judge.specs.declared.seen.Seen.{Seen}
 use Rattle.judge.specs.declared.verdict.Tally.{Tally}
 use Rattle.judge.specs.Cause.{fixedCause, lcasCause}

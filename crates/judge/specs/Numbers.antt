@@ -3,7 +3,7 @@ use mathlib.Core.Path.{_≡_}
 use mathlib.Core.Bool.{Bool, true}
 use mathlib.Core.List.{List}
 use Prim.Native.Nat.{ℕ, _≤_, _<_}
-use Rattle.counting.specs.Words.{Apart, count}
+use Rattle.ground.specs.Counting.Words.{Apart, count}
 use Rattle.judge.specs.declared.seen.Seen.{Seen}
 use Rattle.judge.specs.Seen.{activeSeen, eosSeen, numberedSeen, seenAt}
 

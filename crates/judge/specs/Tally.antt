@@ -3,7 +3,7 @@ use mathlib.Core.Bool.{Bool, not, _&&_, _||_, Bool·beq}
 use mathlib.Core.List.{List}
 use Prim.Native.Nat.{ℕ, _+_}
 use Rattle.ground.specs.Plain.{if_then_else_, _==_, _<?_}
-use Rattle.counting.specs.Words.{some, every, count, greatest}
+use Rattle.ground.specs.Counting.Words.{some, every, count, greatest}
 use Rattle.judge.specs.declared.seen.Seen.{Seen}
 use Rattle.judge.specs.declared.verdict.Tally.{Tally}
 use Rattle.judge.specs.Seen.{activeSeen, eosSeen, lackingSeen, numberedSeen, refusedSeen, seenAt, unidleSeen}

@@ -3,7 +3,7 @@ use mathlib.Core.Path.{_≡_, refl}
 use mathlib.Core.Bool.{true, false, not, _&&_, _||_}
 use mathlib.Core.List.{List, [], _∷_}
 use Prim.Native.Nat.{ℕ}
-use Rattle.counting.specs.Words.{some, the}
+use Rattle.ground.specs.Counting.Words.{some, lastThat}
 use Rattle.ground.specs.Plain.{if_then_else_, _==_}
 use Rattle.ground.specs.Table.{tabulate}
 use Rattle.packet.specs.Kinds.{fixedKind}
@@ -21,7 +21,7 @@ sent word number = record { whole = true; good = true; word = word; number = num
 
 -- Slip 1: 'Ranking by number and not by place among active members, so a DNU member leaves a hole.' By DNU 0, NORM 1, EOS 2 no port is found for rank 0, so that port 0 stands there, which is DNU; and EOS 2 is not below X.
 wrong-port : List Seen → ℕ → ℕ → ℕ
-wrong-port ports n r = the n (λ i. activeSeen (seenAt ports i) && seenAt ports i .number == r)
+wrong-port ports n r = lastThat n (λ i. activeSeen (seenAt ports i) && seenAt ports i .number == r)
 
 abbrev hole : List Seen
 hole = sent DNU 0 ∷ sent NORM 1 ∷ sent EOS 2 ∷ []
@@ -95,7 +95,7 @@ wrong-first : List Seen → ℕ → ℕ
 wrong-first ports n = lowest n (λ i. numberedSeen (seenAt ports i) && takes ports n (seenAt ports i .number))
 
 wrong-last : List Seen → ℕ → ℕ
-wrong-last ports n = the n (applies ports (highest ports n) (causeOf 0 ports n))
+wrong-last ports n = lastThat n (applies ports (highest ports n) (causeOf 0 ports n))
 
 abbrev thrice : List Seen
 thrice = sent NORM 0 ∷ sent NORM 1 ∷ sent EOS 2 ∷ sent NORM 1 ∷ sent NORM 1 ∷ []

@@ -4,7 +4,7 @@ use mathlib.Core.Bool.{Bool}
 use mathlib.Core.List.{List}
 use Prim.Native.Nat.{ℕ, _<_}
 use lib.ListN.{length}
-use Rattle.counting.specs.Words.{some}
+use Rattle.ground.specs.Counting.Words.{some}
 use Rattle.ground.specs.Plain.{if_then_else_}
 use Rattle.packet.specs.Symbols.{packetRow}
 use Rattle.receiver.specs.declared.seeing.Carried.{Carried}

@@ -5,7 +5,7 @@ use mathlib.Core.Bool.{Bool, true}
 use mathlib.Core.List.{List, [], _∷_, _++_}
 use Prim.Native.Nat.{ℕ, zero, suc, _+_, _-_, _*_, _%_, _≤_, _<_}
 use lib.ListN.{drop, getD, length}
-use Rattle.counting.specs.Words.{every}
+use Rattle.ground.specs.Counting.Words.{every}
 pub use Rattle.ground.specs.Finite.{sameBytes}
 use Rattle.ground.specs.Plain.{if_then_else_}
 use Rattle.ground.specs.Types.{Bytes}

@@ -5,10 +5,10 @@ use Prim.Native.Nat.{_≤_}
 use lib.ListN.{length, take}
 use Rattle.ground.specs.Types.{Bytes, Rows}
 use Rattle.invariant.specs.Kept.Group.{Kept}
-use Rattle.replaying.specs.declared.replay.Phase.the-variants.{Reading}
-use Rattle.replaying.specs.Replay.{storeOf}
-use Rattle.replaying.specs.Runs.{Desk}
-use Rattle.replaying.specs.Turn.{isDue}
+use Rattle.replay_lines.specs.declared.replay.Phase.the-variants.{Reading}
+use Rattle.replay_lines.specs.Replay.{storeOf}
+use Rattle.replay_lines.specs.Runs.{Desk}
+use Rattle.replay_lines.specs.Turn.{isDue}
 use Rattle.rows.specs.Group.{groupAt}
 use Rattle.rows.specs.Rows.{rowsFor}
 

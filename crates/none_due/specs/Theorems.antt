@@ -11,9 +11,9 @@ use Rattle.none_due.specs.Proofs.Desks as D
 use Rattle.none_due.specs.Proofs.Fetched as F
 use Rattle.none_due.specs.Proofs.Started as S
 use Rattle.packet.specs.Kinds.{frames}
-use Rattle.replaying.specs.declared.replay.Phase.the-variants.{Reading}
-use Rattle.replaying.specs.Replay.{beginning}
-use Rattle.replaying.specs.Runs.{Desk, deskThrough}
+use Rattle.replay_lines.specs.declared.replay.Phase.the-variants.{Reading}
+use Rattle.replay_lines.specs.Replay.{beginning}
+use Rattle.replay_lines.specs.Runs.{Desk, deskThrough}
 use Rattle.rows.specs.Group.{groupAt}
 
 -- fetches that all give a report are at most as many as the window has epochs, whatever output and record each is lent

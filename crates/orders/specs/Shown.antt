@@ -2,8 +2,8 @@
 use mathlib.Core.List.{List, _∷_}
 use Prim.Native.Nat.{ℕ}
 use lib.ListN.{length}
-use Rattle.circuits.specs.declared.card.Card.{Card}
-use Rattle.circuits.specs.Answers.{answerNumber}
+use Rattle.cards.specs.declared.card.Card.{Card}
+use Rattle.cards.specs.Answers.{answerNumber}
 use Rattle.orders.specs.declared.commands.Command.{Command}
 use Rattle.orders.specs.declared.commands.Kind as K
 use Rattle.orders.specs.Orders.{answersOf, orderedOf}

@@ -5,11 +5,11 @@ use Prim.Native.Nat.{ℕ}
 use lib.ListN.{getD, length, take}
 use Rattle.ground.specs.Plain.{if_then_else_, _==_}
 use Rattle.ground.specs.Table.{tabulate}
-use Rattle.circuits.specs.Views.{Made, run, viewOf}
-use Rattle.circuits.specs.declared.card.Card.{Card}
-use Rattle.circuits.specs.Answers.{answerNumber}
-use Rattle.circuits.specs.Calls.{outcomeOf}
-use Rattle.circuits.specs.Views.Asked.{Do}
+use Rattle.cards.specs.Views.{Made, run, viewOf}
+use Rattle.cards.specs.declared.card.Card.{Card}
+use Rattle.cards.specs.Answers.{answerNumber}
+use Rattle.cards.specs.Calls.{outcomeOf}
+use Rattle.cards.specs.Views.Asked.{Do}
 use Rattle.orders.specs.Orders.{callBy, ordersOf}
 use Rattle.orders.specs.declared.commands.Command.{Command}
 use Rattle.orders.specs.declared.commands.Kind.the-variants.{Add}

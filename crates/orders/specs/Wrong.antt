@@ -4,9 +4,9 @@ use mathlib.Core.Bool.{Bool, true, false, _&&_}
 use mathlib.Core.List.{List, [], _∷_, _++_}
 use Prim.Native.Nat.{ℕ}
 use Rattle.ground.specs.Plain.{if_then_else_, _==_}
-use Rattle.circuits.specs.declared.card.Card.{Card}
-use Rattle.circuits.specs.Parts.{owns}
-use Rattle.circuits.specs.Shown.{after}
+use Rattle.cards.specs.declared.card.Card.{Card}
+use Rattle.cards.specs.Parts.{owns}
+use Rattle.cards.specs.Shown.{after}
 use Rattle.orders.specs.declared.commands.Command.{Command}
 use Rattle.orders.specs.declared.commands.Kind as K
 use Rattle.orders.specs.Folding.{Folded}

@@ -1,6 +1,6 @@
 // A command: 'a small record of kind, group and slot' (02, 2026-07). The kinds are the four calls of a card that take a group and a slot.
-use circuits::Card;
-use circuits::CardOutcome;
+use cards::Card;
+use cards::CardOutcome;
 ghost use mathlib.Core.Path.{_≡_};
 ghost use Prim.Native.Nat.{_<_};
 ghost use lib.ListN.{length};

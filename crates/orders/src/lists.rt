@@ -1,8 +1,8 @@
 // An order is a list of commands. `order` and `first_of` are proved by a walk of their own, since they have a slice of structs in them: they hold one loop and one call, and no test.
 use crate::commands;
 use crate::commands::Command;
-use circuits::Answer;
-use circuits::Card;
+use cards::Answer;
+use cards::Card;
 ghost use mathlib.Core.Path.{_≡_};
 ghost use Prim.Native.Nat.{_≤_};
 ghost use lib.ListN.{length, take};

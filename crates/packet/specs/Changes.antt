@@ -3,7 +3,7 @@ use mathlib.Core.Bool.{Bool, not, _&&_, _||_}
 use mathlib.Core.List.{List}
 use Prim.Native.Nat.{ℕ, _+_, _*_, _/_, _%_}
 use Rattle.ground.specs.Plain.{if_then_else_, _==_, _<?_}
-use Rattle.ground.specs.Polynomial.{apart}
+use Rattle.ground.specs.Polynomial.{bitsApart}
 use Rattle.packet.specs.Crc.{bitsOf}
 use Rattle.packet.specs.Kinds.{fixedKind, lead, vc12Kind}
 use Rattle.packet.specs.Layout.{highsOf}
@@ -19,11 +19,11 @@ bringsMfi2 kind place = not (kind == vc12Kind) && (place == lead kind || place =
 
 -- in how many of its 64 bits an H4 packet arrived otherwise than it was sent, both as H4 bytes
 abbrev pub changedBits : List ℕ → List ℕ → ℕ
-changedBits sent came = apart (bitsOf (highsOf sent)) (bitsOf (highsOf came))
+changedBits sent came = bitsApart (bitsOf (highsOf sent)) (bitsOf (highsOf came))
 
 -- in how many bits of its symbols a packet did, both as bytes, one a frame
 unfoldable pub changed : (kind : ℕ) (sent came : List ℕ) → ℕ
-changed kind sent came = if kind == vc12Kind then apart (lowestOf sent) (lowestOf came) else changedBits sent came
+changed kind sent came = if kind == vc12Kind then bitsApart (lowestOf sent) (lowestOf came) else changedBits sent came
 
 -- 'with one to three bits changed'; of VC-12 'with one changed bit at most'; of a fixed group 'no changed bit at all, since nothing detects one'
 unfoldable pub mostChanges : ℕ → ℕ

@@ -9,8 +9,8 @@ use lib.Dec.{ltb}
 use lib.ListN.{length, length-append, replicate, set}
 use lib.Seq.{append-snoc, set-append-seam}
 use borrow.Author.Tests.{lt-ltb}
-use Rattle.counting.specs.Laws.Numbers.{count-le}
-use Rattle.counting.specs.Words.{count}
+use Rattle.ground.specs.Counting.Laws.Numbers.{count-le}
+use Rattle.ground.specs.Counting.Words.{count}
 use Rattle.paths.specs.Laws.Listing.{length-listed}
 use Rattle.paths.specs.Planning.{listed, padded}
 

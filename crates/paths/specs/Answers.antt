@@ -4,7 +4,7 @@ use mathlib.Core.List.{List}
 use Prim.Native.Nat.{ℕ}
 use lib.ListN.{length}
 use Rattle.ground.specs.Plain.{if_then_else_, _≤?_}
-use Rattle.counting.specs.Words.{every}
+use Rattle.ground.specs.Counting.Words.{every}
 use Rattle.paths.specs.declared.answers.Answer.{Answer}
 use Rattle.paths.specs.declared.answers.Answer.the-variants.{Done, Range}
 use Rattle.paths.specs.Paths.{delayAt}

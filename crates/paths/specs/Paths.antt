@@ -5,7 +5,7 @@ use mathlib.Core.Bool.{true}
 use mathlib.Core.List.{List}
 use Prim.Native.Nat.{ℕ, _+_, _-_, _≤_, _<_}
 use lib.ListN.{length, getD}
-use Rattle.counting.specs.Words.{greatest}
+use Rattle.ground.specs.Counting.Words.{greatest}
 
 -- 'measured delays in frames, 0 to 4,095'; a number that names no candidate counts as 0
 abbrev pub delayAt : List ℕ → ℕ → ℕ
@@ -16,15 +16,15 @@ abbrev pub pathAt : List ℕ → ℕ → ℕ
 pathAt set a = getD set a 0
 
 -- any two entries differ in delay by at most s: 'plain differences, not counted round 4,096'
-abbrev pub Within : (delays : List ℕ) (spread : ℕ) (set : List ℕ) → Type 0
-Within delays s set = (a b : ℕ) → a < length set → b < length set → delayAt delays (pathAt set a) ≤ delayAt delays (pathAt set b) + s
+abbrev pub InSpread : (delays : List ℕ) (spread : ℕ) (set : List ℕ) → Type 0
+InSpread delays s set = (a b : ℕ) → a < length set → b < length set → delayAt delays (pathAt set a) ≤ delayAt delays (pathAt set b) + s
 
 -- 'it names k different candidates within that spread'
 pub record Good (delays : List ℕ) (k W : ℕ) (set : List ℕ) : Type 0 where
   pub many : length set ≡ k
   pub named : (a : ℕ) → a < length set → pathAt set a < length delays
   pub different : (a b : ℕ) → a < length set → b < length set → pathAt set a ≡ pathAt set b → a ≡ b
-  pub near : Within delays (W - 16) set
+  pub near : InSpread delays (W - 16) set
 
 -- what is not refused: 'k of 0 or above the number of candidates, more than 64 candidates, a delay above 4,095, or W outside 16 to 2,048 is 4'
 pub record Asked (delays : List ℕ) (k W : ℕ) : Type 0 where

@@ -4,10 +4,10 @@ use mathlib.Core.Bool.{Bool, true, false, not, _&&_, _||_}
 use mathlib.Core.List.{List, [], _∷_}
 use Prim.Native.Nat.{ℕ, _+_, _-_}
 use lib.ListN.{length}
-use Rattle.counting.specs.Words.{every}
+use Rattle.ground.specs.Counting.Words.{every}
 use Rattle.ground.specs.Circle.{after}
 use Rattle.ground.specs.Plain.{_==_, _<?_, _≤?_}
-use Rattle.paths.specs.Checking.{accepts, agree, apart}
+use Rattle.paths.specs.Checking.{accepts, agree, delaysApart}
 use Rattle.paths.specs.Order.{ranksOf, sortedBy}
 use Rattle.paths.specs.Paths.{delayAt, pathAt}
 use Rattle.paths.specs.Planning.{proposed, stretchFrom}
@@ -35,7 +35,7 @@ round-breaks = (refl, refl)
 -- A set with a candidate twice: k entries within the spread, and only one path.
 wrong-different : List ℕ → ℕ → ℕ → List ℕ → Bool
 wrong-different delays k s set =
-    length set == k && every (length set) (λ a. pathAt set a <? length delays && every a (λ b. apart (delayAt delays (pathAt set b)) (delayAt delays (pathAt set a)) ≤? s))
+    length set == k && every (length set) (λ a. pathAt set a <? length delays && every a (λ b. delaysApart (delayAt delays (pathAt set b)) (delayAt delays (pathAt set a)) ≤? s))
 
 twice-breaks : (wrong-different (5 ∷ 90 ∷ []) 2 0 (0 ∷ 0 ∷ []) ≡ true) × (accepts (5 ∷ 90 ∷ []) 2 0 (0 ∷ 0 ∷ []) ≡ false)
 unfolding pathsOpen wrong-different

@@ -6,7 +6,7 @@ ghost use mathlib.Core.Path.{_≡_};
 ghost use Prim.Native.Nat.{_<_};
 ghost use lib.ListN.{length};
 ghost use Rattle.ground.specs.Plain.{_<?_};
-ghost use Rattle.paths.specs.Checking.{accepts, agree, agreesWith, apart, checkedOf};
+ghost use Rattle.paths.specs.Checking.{accepts, agree, agreesWith, delaysApart, checkedOf};
 
 pub struct Checked {
     pub accepted: bool,
@@ -14,8 +14,8 @@ pub struct Checked {
 }
 
 // How far two delays lie apart, plainly.
-fn apart(x: u32, y: u32) -> u32
-    ensures { λ r. ⌜ r ≡ apart x y ⌝ }
+fn delays_apart(x: u32, y: u32) -> u32
+    ensures { λ r. ⌜ r ≡ delaysApart x y ⌝ }
 {
     if x < y { y - x } else { x - y }
 }
@@ -32,7 +32,7 @@ fn do_agree(delays: &[u32], one: u8, other: u8, room: u32) -> bool
 {
     let x = order::delay_at(delays, one as usize);
     let y = order::delay_at(delays, other as usize);
-    !(one == other) & (apart(x, y) <= room)
+    !(one == other) & (delays_apart(x, y) <= room)
 }
 
 // Entry a agrees with every entry before it.

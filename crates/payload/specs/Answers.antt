@@ -1,7 +1,8 @@
 -- What spreading and joining answer (01, 'Answer numbers'): 4, then 9.
 use mathlib.Core.Bool.{Bool, _&&_}
-use Prim.Native.Nat.{ℕ}
+use Prim.Native.Nat.{ℕ, _≤_}
 use Rattle.ground.specs.Plain.{if_then_else_, _≤?_}
+pub use Rattle.ground.specs.Sizes.{PAYLOAD-MOST}
 use Rattle.payload.specs.declared.answer.Answer.{Answer}
 use Rattle.payload.specs.declared.answer.Answer.the-variants.{Done, Range, Length}
 
@@ -18,10 +19,6 @@ module _ {A : Type 0} where
   underDone Range new old = old
   underDone Length new old = old
 
--- P goes 'from 1 to 2,340'.
-abbrev pub PAYLOAD-MOST : ℕ
-PAYLOAD-MOST = 2340
-
 -- 4 is for 'X above 64, or P'.
 abbrev pub sized : ℕ → ℕ → Bool
 sized X P = X ≤? 64 && 1 ≤? P && P ≤? PAYLOAD-MOST
@@ -29,3 +26,9 @@ sized X P = X ≤? 64 && 1 ≤? P && P ≤? PAYLOAD-MOST
 -- The order of 01's numbers: first the sizes, then the lengths.
 abbrev pub answerBy : Bool → Bool → Answer
 answerBy sizes lengths = if sizes then (if lengths then Done else Length) else Range
+
+-- what these bounds say of a group frame: at most 64 members, each with P bytes
+pub record Sizes (X P : ℕ) : Type 0 where
+  pub ranks : X ≤ 64
+  pub least : 1 ≤ P
+  pub most : P ≤ PAYLOAD-MOST

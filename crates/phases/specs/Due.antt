@@ -2,7 +2,7 @@
 use mathlib.Core.Bool.{Bool, not, _&&_, _||_}
 use Prim.Native.Nat.{ℕ}
 use Rattle.ground.specs.Types.{Bytes, Rows}
-use Rattle.counting.specs.Words.{every}
+use Rattle.ground.specs.Counting.Words.{every}
 use Rattle.rows.specs.declared.group.Group.{Group}
 use Rattle.rows.specs.declared.step.Step.{Step}
 use Rattle.rows.specs.Packets.{marksAt}
@@ -12,7 +12,7 @@ use Rattle.store.specs.Marks.{firstMark}
 
 -- of a port: it is not readable, or 'has brought its sixteen frames or joined at a later epoch'
 unfoldable pub owesNothing : (g : Group) (step : Step) (marks : Bytes) → Bool
-owesNothing g step marks = not (readable g step) || firstMark marks || flagOf (step .joined) && flagOf (step .later)
+owesNothing g step marks = not (readable g step) || firstMark marks || flagOf (step .joined) && flagOf (step .«joined_at»)
 
 -- 'It is due when every readable port has brought its sixteen frames or joined at a later epoch.'
 unfoldable pub brought : (g : Group) (s : Rows) (ports : ℕ) → Bool

@@ -27,13 +27,13 @@ unfoldable pub passedStep : Step → Bool → Step
 passedStep s whole =
     record {
       spare = s .spare;
-      had = s .had;
+      heard = s .heard;
       failed = s .failed;
       count = s .count;
       next = s .next;
       joined = s .joined;
-      since = s .since;
-      later = s .later - 1;
+      «ever_since» = s .«ever_since»;
+      «joined_at» = s .«joined_at» - 1;
       whole = if whole then 1 else 0;
       breaks = s .breaks;
       odd = s .odd;

@@ -21,13 +21,13 @@ unfoldable pub clearedStep : Step → Bool → Step
 clearedStep s since =
     record {
       spare = s .spare;
-      had = s .had;
+      heard = s .heard;
       failed = s .failed;
       count = s .count;
       next = s .next;
       joined = 0;
-      since = if since then 1 else 0;
-      later = 0;
+      «ever_since» = if since then 1 else 0;
+      «joined_at» = 0;
       whole = 0;
       breaks = s .breaks;
       odd = s .odd;

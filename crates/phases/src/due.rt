@@ -16,7 +16,7 @@ fn owes_nothing(group: Group, step: Step, row: [u8; 16]) -> bool
 {
     let readable = step::is_readable(group, step);
     let first = marks::first(row);
-    !readable | first | is_set(step.joined) & is_set(step.later)
+    !readable | first | is_set(step.joined) & is_set(step.joined_at)
 }
 
 fn port_owes_nothing(group: Group, state: &[[u8; 16]], port: u8) -> bool

@@ -37,13 +37,13 @@ fn passed_step(s: Step, whole: bool) -> Step
     let spare = s.spare;
     Step {
         spare,
-        had: s.had,
+        heard: s.heard,
         failed: s.failed,
         count: s.count,
         next: s.next,
         joined: s.joined,
-        since: s.since,
-        later: one_less(s.later),
+        ever_since: s.ever_since,
+        joined_at: one_less(s.joined_at),
         whole: flag_for(whole),
         breaks: s.breaks,
         odd: s.odd,

@@ -16,13 +16,13 @@ fn cleared_step(s: Step, since: bool) -> Step
     let spare = s.spare;
     Step {
         spare,
-        had: s.had,
+        heard: s.heard,
         failed: s.failed,
         count: s.count,
         next: s.next,
         joined: 0,
-        since: flag_for(since),
-        later: 0,
+        ever_since: flag_for(since),
+        joined_at: 0,
         whole: 0,
         breaks: s.breaks,
         odd: s.odd,

@@ -5,7 +5,7 @@ use rows::Group;
 ghost use mathlib.Core.Path.{_≡_};
 ghost use Rattle.phases.specs.Sizes.{portsIn, sized, sizedAs, startSized, storeFor};
 
-fn is_within(known: bool, kind: u8, count: u32, payload: u32, window: u32) -> bool
+fn is_sized_as(known: bool, kind: u8, count: u32, payload: u32, window: u32) -> bool
     ensures { λ r. ⌜ r ≡ sizedAs known kind count payload window ⌝ }
 {
     let frames = kinds::epoch_frames(kind);
@@ -24,10 +24,10 @@ fn is_sized(kind: u8, count: u32, payload: u32, window: u32) -> bool
     ensures { λ r. ⌜ r ≡ sized kind count payload window ⌝ }
 {
     let h4 = (kind == kinds::H4) | (kind == kinds::FIXED);
-    if is_within(h4, kinds::H4, count, payload, window) {
+    if is_sized_as(h4, kinds::H4, count, payload, window) {
         return true;
     }
-    is_within(kind == kinds::VC12, kinds::VC12, count, payload, window)
+    is_sized_as(kind == kinds::VC12, kinds::VC12, count, payload, window)
 }
 
 // Whether a start takes such a group.

@@ -7,17 +7,17 @@ ghost use mathlib.Core.Path.{_≡_};
 ghost use mathlib.Core.Bool.{_&&_, _||_};
 ghost use Prim.Native.Nat.{_/_};
 ghost use Rattle.ground.specs.Plain.{_==_, _<?_};
-ghost use Rattle.counting.specs.Words.{every};
+ghost use Rattle.ground.specs.Counting.Words.{every};
 ghost use Rattle.packet.specs.Kinds.{distanceOf, tags};
 ghost use Rattle.rows.specs.Step.{stepAt};
 ghost use Rattle.step.specs.Arrival.{inStep};
-ghost use Rattle.phases.specs.Beginning.{begins, foremost, further, latest, noTag, ready, within};
+ghost use Rattle.phases.specs.Beginning.{begins, foremost, further, latest, noTag, ready, inArc};
 
 fn is_ready(group: Group, step: Step) -> bool
     ensures { λ r. ⌜ r ≡ ready group step ⌝ }
 {
     let in_step = step::in_step(group, step);
-    is_set(step.had) & (in_step | is_set(step.failed))
+    is_set(step.heard) & (in_step | is_set(step.failed))
 }
 
 pub fn latest(group: Group, step: Step) -> u16
@@ -65,8 +65,8 @@ pub fn foremost(group: Group, state: &[[u8; 16]], ports: u8) -> u16
     fore
 }
 
-fn is_within(group: Group, fore: u16, step: Step) -> bool
-    ensures { λ r. ⌜ r ≡ within group fore step ⌝ }
+fn is_in_arc(group: Group, fore: u16, step: Step) -> bool
+    ensures { λ r. ⌜ r ≡ inArc group fore step ⌝ }
 {
     let in_step = step::in_step(group, step);
     let tag = latest(group, step);
@@ -90,13 +90,13 @@ fn all_ready(group: Group, state: &[[u8; 16]], ports: u8) -> bool
     true
 }
 
-fn all_within(group: Group, fore: u16, state: &[[u8; 16]], ports: u8) -> bool
-    ensures { λ r. ⌜ r ≡ every ports (λ i. within group fore (stepAt (now (state .entry)) i)) ⌝ }
+fn all_in_arc(group: Group, fore: u16, state: &[[u8; 16]], ports: u8) -> bool
+    ensures { λ r. ⌜ r ≡ every ports (λ i. inArc group fore (stepAt (now (state .entry)) i)) ⌝ }
 {
     let mut i = 0;
     while i < ports {
         let step = rows::step::get(state, i);
-        if !is_within(group, fore, step) {
+        if !is_in_arc(group, fore, step) {
             return false;
         }
         i += 1;
@@ -112,6 +112,6 @@ pub(crate) fn is_begun_by(group: Group, state: &[[u8; 16]], ports: u8) -> bool
     }
     let fore = foremost(group, state, ports);
     let none = no_tag(group);
-    let within = all_within(group, fore, state, ports);
+    let within = all_in_arc(group, fore, state, ports);
     !(fore == none) & within
 }

@@ -2,7 +2,7 @@
 use Prim.Native.Nat.{ℕ}
 use Rattle.c_cards.specs.Opened.{cCardsOpen}
 use Rattle.c_recordings.specs.Opened.{cRecordingsOpen}
-use Rattle.console.specs.Opened.{consoleOpen}
+use Rattle.session_lines.specs.Opened.{consoleOpen}
 
 unfoldable pub allOpen : ℕ
 unfolding cCardsOpen cRecordingsOpen consoleOpen

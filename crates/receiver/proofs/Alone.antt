@@ -7,7 +7,7 @@ use native.Mathlib.Omega.{arith}
 use lib.Dec.{leb}
 use lib.ListN.{getD, length, length-replicate, replicate, take, drop}
 use borrow.Author.Tests.{leb-true}
-use Rattle.counting.specs.Each.{getD-each}
+use Rattle.ground.specs.Counting.Each.{getD-each}
 use Rattle.ground.specs.Truth.{and-left, and-right}
 use Rattle.judge.specs.declared.order.Order.{Order}
 use Rattle.payload.specs.Answers.{PAYLOAD-MOST}

@@ -118,7 +118,7 @@ marks-stay : (kind : ℕ) (row : List ℕ) (t : Taken) → (t .joins || t .kept 
 unfolding marksBy
 marks-stay kind row t e = go (t .joins) (t .kept) (endsEpoch kind (t .at)) e
   where
-    go : (a b c : Bool) → (a || b && c) ≡ false → cond a (cutFrom row (t .step .later)) (cond b (cond c (markedAt row (epochsIn kind (t .at))) row) row) ≡ row
+    go : (a b c : Bool) → (a || b && c) ≡ false → cond a (cutFrom row (t .step .«joined_at»)) (cond b (cond c (markedAt row (epochsIn kind (t .at))) row) row) ≡ row
     go true b c e = absurd (true≢false e)
     go false true true e = absurd (true≢false e)
     go false true false e = refl

@@ -13,9 +13,9 @@ use Rattle.judge.specs.Theorems.Cause.{mark-by-cause}
 use Rattle.judge.specs.Verdict.{judgeOf}
 use Rattle.phases.specs.Sizes.{portsIn}
 use Rattle.receiver.specs.declared.report.Report.{Report}
-use Rattle.receiver.specs.Fetch.{dueIn, fetchOf, fits, outIfDue, reportIfDue, rowsIfDue, noneDue, recordOf}
+use Rattle.receiver.specs.Fetch.{dueIn, fetchOf, lentFits, outIfDue, reportIfDue, rowsIfDue, noneDue, recordOf}
 use Rattle.receiver.specs.Lengths.{fetchFits}
-use Rattle.receiver.specs.Report.{outputBy, outputOf, reportBy, reportOf, reportedOf, seenAll}
+use Rattle.receiver.specs.Report.{outputBy, outputOf, reportBy, epochReport, reportedOf, seenAll}
 use Rattle.rows.specs.declared.group.Group.{Group}
 use Rattle.rows.specs.Group.{groupAt}
 
@@ -23,15 +23,15 @@ module _ (g : Group) (n : ℕ) (s : List (List ℕ)) (store out : List ℕ) wher
   pub given-is : (seen : List Seen) (cause mark : ℕ) (order : Order) (left : List ℕ) (rows : List (List ℕ)) (report : Report)
       → seen ≡ seenAll g s n → cause ≡ causeOf (g .kind) seen (sizeOf n) → mark ≡ markOf (g .kind) cause → order ≡ orderOf seen (sizeOf n) → left ≡ outputBy g mark order store out
       → rows ≡ reportedOf g store n s → report ≡ reportBy g mark cause order
-      → (report ≡ reportOf g (seenAll g s n) n) × (rows ≡ reportedOf g store n s) × (left ≡ outputOf g (seenAll g s n) n store out)
-  unfolding reportOf outputOf
+      → (report ≡ epochReport g (seenAll g s n) n) × (rows ≡ reportedOf g store n s) × (left ≡ outputOf g (seenAll g s n) n store out)
+  unfolding epochReport outputOf
   given-is seen cause mark order left rows report es ec em eo el er ep =
       let e : mark ≡ judgeOf (g .kind) seen (sizeOf n) = em ∙ rw ec (sym (mark-by-cause (g .kind) seen (sizeOf n))) in
       rw (← es, ← e, ← ec, ← eo) (ep, er, el)
 
   module _ (due : Bool) (ed : due ≡ dueIn g n s) where
     pub given-due : (report : Report) (rows : List (List ℕ)) (left : List ℕ) → due ≡ true
-        → (report ≡ reportOf g (seenAll g s n) n) × (rows ≡ reportedOf g store n s) × (left ≡ outputOf g (seenAll g s n) n store out)
+        → (report ≡ epochReport g (seenAll g s n) n) × (rows ≡ reportedOf g store n s) × (left ≡ outputOf g (seenAll g s n) n store out)
         → (report ≡ reportIfDue g n s) × (rows ≡ rowsIfDue g n s store) × (left ≡ outIfDue g n s store out)
     unfolding reportIfDue rowsIfDue outIfDue
     given-due report rows left e h = rw (← ed, e) h
@@ -43,8 +43,8 @@ module _ (g : Group) (n : ℕ) (s : List (List ℕ)) (store out : List ℕ) wher
 
 module _ (s : List (List ℕ)) (store out lent : List ℕ) (g : Group) (n : ℕ) (fit : Bool) (eg : g ≡ groupAt s) (en : n ≡ portsIn g)
     (ef : fit ≡ fetchFits g n (length s) (length store) (length out) (length lent)) where
-  same-fits : fit ≡ fits s store out lent
-  unfolding fits
+  same-fits : fit ≡ lentFits s store out lent
+  unfolding lentFits
   same-fits = ef ∙ rw (en, eg) refl
 
   pub fetch-unfit : fit ≡ false

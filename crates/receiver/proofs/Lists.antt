@@ -5,7 +5,7 @@ use Prim.Native.Nat.{ℕ}
 use native.Mathlib.Omega.{arith}
 use lib.ListN.{length, replicate, set, take, drop, drop-of-length-le}
 use lib.Seq.{take-length}
-use Rattle.counting.specs.Each.{each}
+use Rattle.ground.specs.Counting.Each.{each}
 
 module _ {A : Type 0} where
   pub each-both : (n m : ℕ) (f : ℕ → A) (a b : A) → n ≡ m → a ≡ b → each n f (replicate 64 a) ≡ each m f (replicate 64 b)

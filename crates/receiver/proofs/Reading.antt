@@ -8,8 +8,8 @@ use native.Mathlib.Omega.{arith}
 use lib.Dec.{eqb}
 use lib.ListN.{length, set}
 use borrow.Author.Tests.{eq-eqb, eqb-true, ne-eqb}
-use Rattle.counting.specs.Each.{each}
-use Rattle.counting.specs.Words.{some}
+use Rattle.ground.specs.Counting.Each.{each}
+use Rattle.ground.specs.Counting.Words.{some}
 use Rattle.ground.specs.Truth.{and-right}
 use Rattle.phases.specs.Beginning.{foremost}
 use Rattle.phases.specs.Settling.{settledOf}

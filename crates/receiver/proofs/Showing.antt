@@ -4,7 +4,7 @@ use mathlib.Core.Bool.{Bool, true, false}
 use mathlib.Core.List.{List, [], _∷_}
 use Prim.Native.Nat.{ℕ}
 use lib.ListN.{length}
-use Rattle.counting.specs.Each.{each}
+use Rattle.ground.specs.Counting.Each.{each}
 use Rattle.ground.specs.Flags.{oneIf}
 use Rattle.judge.specs.Seen.{sizeOf}
 use Rattle.phases.specs.Sizes.{portsIn}

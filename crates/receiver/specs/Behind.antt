@@ -4,7 +4,7 @@ use mathlib.Core.Bool.{true}
 use mathlib.Core.List.{List}
 use Prim.Native.Nat.{ℕ, _+_, _≤_, _<_}
 use lib.ListN.{length}
-use Rattle.counting.specs.Each.{each}
+use Rattle.ground.specs.Counting.Each.{each}
 use Rattle.ground.specs.Plain.{if_then_else_}
 use Rattle.ground.specs.Types.{Rows}
 use Rattle.packet.specs.Kinds.{distanceOf, frames}

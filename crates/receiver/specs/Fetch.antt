@@ -9,7 +9,7 @@ use Rattle.phases.specs.Due.{brought}
 use Rattle.phases.specs.Sizes.{portsIn}
 use Rattle.receiver.specs.declared.report.Report.{Report}
 use Rattle.receiver.specs.Lengths.{fetchFits}
-use Rattle.receiver.specs.Report.{outputOf, reportOf, reportedOf, seenAll}
+use Rattle.receiver.specs.Report.{outputOf, epochReport, reportedOf, seenAll}
 use Rattle.rows.specs.declared.group.Group.{Group}
 use Rattle.rows.specs.Group.{groupAt}
 use Rattle.step.specs.Arrival.{flagOf}
@@ -37,7 +37,7 @@ recordOf r =
 -- 'A fetch with none due answers 0, says so, and changes nothing.'
 
 unfoldable pub reportIfDue : (g : Group) (ports : ℕ) (s : Rows) → Report
-reportIfDue g n s = if dueIn g n s then reportOf g (seenAll g s n) n else noneDue
+reportIfDue g n s = if dueIn g n s then epochReport g (seenAll g s n) n else noneDue
 
 unfoldable pub rowsIfDue : (g : Group) (ports : ℕ) (s : Rows) (store : Bytes) → Rows
 rowsIfDue g n s store = if dueIn g n s then reportedOf g store n s else s
@@ -53,12 +53,12 @@ pub record FetchOutcome : Type 0 where
   pub report : Bytes
 
 module _ (s : List (List ℕ)) (store out report : List ℕ) where
-  unfoldable pub fits : Bool
-  fits = fetchFits (groupAt s) (portsIn (groupAt s)) (length s) (length store) (length out) (length report)
+  unfoldable pub lentFits : Bool
+  lentFits = fetchFits (groupAt s) (portsIn (groupAt s)) (length s) (length store) (length out) (length report)
 
   unfoldable pub fetchOf : FetchOutcome
   fetchOf =
-      if fits
+      if lentFits
       then (record {
         answer = 0;
         rows = rowsIfDue (groupAt s) (portsIn (groupAt s)) s store;

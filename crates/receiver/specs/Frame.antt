@@ -31,7 +31,7 @@ gatheredBy kind pair counted tag h = if counted then set pair 0 (withSymbol kind
 -- joining at an epoch drops what the port had stored from that epoch on; the last frame of an epoch marks it
 unfoldable pub marksBy : (kind : ℕ) (marks : Bytes) (t : Taken) → Bytes
 marksBy kind marks t =
-    if t .joins then cutFrom marks (t .step .later) else if t .kept then (if endsEpoch kind (t .at) then markedAt marks (epochsIn kind (t .at)) else marks) else marks
+    if t .joins then cutFrom marks (t .step .«joined_at») else if t .kept then (if endsEpoch kind (t .at) then markedAt marks (epochsIn kind (t .at)) else marks) else marks
 
 -- the port's rows after a frame
 unfoldable pub portRows : (kind : ℕ) (s : Rows) (port : ℕ) (t : Taken) (h4 : ℕ) → Rows

@@ -5,7 +5,7 @@ use Prim.Native.Nat.{ℕ, zero, suc, _+_, _*_, _/_, _%_}
 use lib.ListN.{getD, replicate}
 use Rattle.ground.specs.Plain.{if_then_else_, _==_}
 use Rattle.ground.specs.Types.{Bytes, Epoch, Rows}
-use Rattle.counting.specs.Each.{each}
+use Rattle.ground.specs.Counting.Each.{each}
 use Rattle.judge.specs.declared.order.Order.{Order}
 use Rattle.judge.specs.declared.seen.Seen.{Seen}
 use Rattle.judge.specs.Cause.{causeOf}
@@ -86,8 +86,8 @@ reportBy g mark cause o =
     let x = if mark == HELD then 0 else o .x in
     record { mark = mark; epoch = g .oldest; x = x; cause = cause; bytes = x * frames (g .kind) * g .payload }
 
-unfoldable pub reportOf : (g : Group) (seen : List Seen) (ports : ℕ) → Report
-reportOf g seen n = reportBy g (judgeOf (g .kind) seen (sizeOf n)) (causeOf (g .kind) seen (sizeOf n)) (orderOf seen (sizeOf n))
+unfoldable pub epochReport : (g : Group) (seen : List Seen) (ports : ℕ) → Report
+epochReport g seen n = reportBy g (judgeOf (g .kind) seen (sizeOf n)) (causeOf (g .kind) seen (sizeOf n)) (orderOf seen (sizeOf n))
 
 -- held: 'No bytes.' Otherwise 'Sixteen group frames from the active ports seen.' 'Output beyond those bytes stays.'
 unfoldable pub outputBy : (g : Group) (mark : ℕ) (o : Order) (store out : Bytes) → Bytes

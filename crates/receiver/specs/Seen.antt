@@ -3,7 +3,7 @@ use mathlib.Core.Bool.{Bool}
 use mathlib.Core.List.{List, [], _∷_}
 use Prim.Native.Nat.{ℕ}
 use lib.ListN.{getD, length}
-use Rattle.counting.specs.Each.{each}
+use Rattle.ground.specs.Counting.Each.{each}
 use Rattle.ground.specs.Flags.{oneIf}
 use Rattle.ground.specs.Plain.{if_then_else_}
 use Rattle.ground.specs.Types.{Bytes, Rows}

@@ -4,8 +4,9 @@ use mathlib.Core.List.{List, [], _∷_}
 use Prim.Native.Nat.{ℕ, zero, suc, _+_, _*_}
 use lib.ListN.{getD, length, replicate}
 use Rattle.ground.specs.Plain.{if_then_else_, _==_, _<?_, _≤?_}
+pub use Rattle.ground.specs.Sizes.{timerMost}
 use Rattle.ground.specs.Types.{Rows}
-use Rattle.counting.specs.Words.{every}
+use Rattle.ground.specs.Counting.Words.{every}
 use Rattle.packet.specs.Kinds.{idleNumber}
 use Rattle.phases.specs.Sizes.{startSized}
 use Rattle.rows.specs.declared.group.Group.{Group}
@@ -42,22 +43,18 @@ abbrev pub freshStep : Step
 freshStep =
     record {
       spare = replicate 4 0;
-      had = 0;
+      heard = 0;
       failed = 0;
       count = 0;
       next = 0;
       joined = 0;
-      since = 0;
-      later = 0;
+      «ever_since» = 0;
+      «joined_at» = 0;
       whole = 0;
       breaks = 0;
       odd = 0;
       bits = 0;
     }
-
--- 'each 0 to 5,000 epochs' (02, 2026-03)
-abbrev pub timerMost : ℕ
-timerMost = 5000
 
 -- the count of port i; an empty list is zero for every port
 abbrev pub timeOf : List ℕ → ℕ → ℕ

@@ -40,7 +40,7 @@ fn marks_by(kind: u8, row: [u8; 16], taken: Taken) -> [u8; 16]
 {
     if taken.joins {
         let step = taken.step;
-        return marks::cut(row, step.later);
+        return marks::cut(row, step.joined_at);
     }
     if taken.kept {
         if kinds::ends_epoch(kind, taken.at) {

@@ -11,7 +11,7 @@ use step::answers;
 ghost use mathlib.Core.Path.{_≡_};
 ghost use lib.ListN.{length};
 ghost use Rattle.receiver.specs.Fetch.{dueIn, fetchOf, outIfDue, reportIfDue, rowsIfDue, noneDue, recordOf};
-ghost use Rattle.receiver.specs.Report.{outputOf, reportOf, reportedOf, seenAll};
+ghost use Rattle.receiver.specs.Report.{outputOf, epochReport, reportedOf, seenAll};
 
 // A host fetches after every frame: the two flags come first, and the ports end at the first one that still owes a frame.
 fn is_due(group: Group, ports: u8, state: &[[u8; 16]]) -> bool
@@ -54,7 +54,7 @@ fn report_oldest(
     store: &[u8],
     out: &mut [u8],
 ) -> Report
-    ensures { λ r. ⌜ (r ≡ reportOf group (seenAll group (now (state .entry)) ports) ports)
+    ensures { λ r. ⌜ (r ≡ epochReport group (seenAll group (now (state .entry)) ports) ports)
         × (now (state .exit) ≡ reportedOf group (now (store .entry)) ports (now (state .entry)))
         × (now (out .exit) ≡ outputOf group (seenAll group (now (state .entry)) ports) ports (now (store .entry)) (now (out .entry))) ⌝ }
 {

@@ -7,7 +7,7 @@ use step::answers;
 ghost use mathlib.Core.Path.{_≡_};
 ghost use Prim.Native.Nat.{_≤_};
 ghost use lib.ListN.{length};
-ghost use Rattle.counting.specs.Each.{each};
+ghost use Rattle.ground.specs.Counting.Each.{each};
 ghost use Rattle.receiver.specs.Behind.{behindAnswer, behindBy, behindOut};
 ghost use Rattle.rows.specs.Step.{stepAt};
 

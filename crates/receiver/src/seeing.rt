@@ -10,7 +10,7 @@ ghost use mathlib.Core.Path.{_≡_};
 ghost use mathlib.Core.List.{[]};
 ghost use Prim.Native.Nat.{_≤_};
 ghost use lib.ListN.{getD, length};
-ghost use Rattle.counting.specs.Each.{each};
+ghost use Rattle.ground.specs.Counting.Each.{each};
 ghost use Rattle.receiver.specs.Report.{rulingEpoch};
 ghost use Rattle.receiver.specs.Seen.{carriedAt, carriedBy, nothingCarried, seenAnswer, seenIn, seenOut, seenRow};
 ghost use Rattle.rows.specs.Packets.{packetsAt};

@@ -12,7 +12,7 @@ ghost use mathlib.Core.Path.{_≡_};
 ghost use mathlib.Core.List.{[], _∷_};
 ghost use Prim.Native.Nat.{_≤_};
 ghost use lib.ListN.{length};
-ghost use Rattle.counting.specs.Each.{each};
+ghost use Rattle.ground.specs.Counting.Each.{each};
 ghost use Rattle.receiver.specs.Shown.{portIn, portShown, portsAnswer, portsOut, replyAnswer, replyByte, replyFit, replyOut, shownFit, shownNumber, waitingByte};
 
 fn shown_number(kind: u8, member: Member) -> u8

@@ -36,13 +36,13 @@ fn fresh_step() -> Step
 {
     Step {
         spare: [0; 4],
-        had: 0,
+        heard: 0,
         failed: 0,
         count: 0,
         next: 0,
         joined: 0,
-        since: 0,
-        later: 0,
+        ever_since: 0,
+        joined_at: 0,
         whole: 0,
         breaks: 0,
         odd: 0,

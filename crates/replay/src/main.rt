@@ -2,12 +2,12 @@
 // standard input, or standard input where none is named.
 use libc::STDIN_FILENO;
 use libc::STDOUT_FILENO;
-use replaying::Replay;
+use replay_lines::Replay;
 ghost use mathlib.Core.Path.{_≡_};
 ghost use Prim.Native.Nat.{_≤_};
 ghost use lib.ListN.{length};
-ghost use Rattle.replaying.specs.Deeds.{Carried, deskWith};
-ghost use Rattle.replaying.specs.Replay.{STORE};
+ghost use Rattle.replay_lines.specs.Deeds.{Carried, deskWith};
+ghost use Rattle.replay_lines.specs.Replay.{STORE};
 
 // Rows for 64 ports, the most that a recording can name: the group's own, and five to a port.
 const ROWS_MOST: usize = 321;
@@ -42,7 +42,7 @@ fn take_turn(
 ) -> Done
     ensures { λ r. ⌜ (r .at ≤ length (now (text .entry))) × Carried (deskWith replay (now (rows .entry)) (now (store .entry))) (deskWith (r .replay) (now (rows .exit)) (now (store .exit))) ⌝ }
 {
-    let turn = replaying::turn(replay, text, at, last, rows, store, out, said);
+    let turn = replay_lines::turn(replay, text, at, last, rows, store, out, said);
     let after = turn.replay;
     let written = at_most(turn.written, said.len());
     let wrote = io::write_all(STDOUT_FILENO, &said[..written]);
@@ -235,7 +235,7 @@ fn main() {
     let count = os::arg_count();
     if count < 2 {
         run_file(
-            replaying::begin(),
+            replay_lines::begin(),
             STDIN_FILENO,
             &mut rows,
             &mut store,
@@ -243,5 +243,11 @@ fn main() {
         );
         return;
     }
-    run_all(replaying::begin(), count, &mut rows, &mut store, &mut out);
+    run_all(
+        replay_lines::begin(),
+        count,
+        &mut rows,
+        &mut store,
+        &mut out,
+    );
 }

@@ -4,7 +4,7 @@ use mathlib.Core.List.{List}
 use Prim.Native.Nat.{ℕ, _+_, _*_}
 use Rattle.ground.specs.Plain.{if_then_else_, _==_}
 use Rattle.ground.specs.Types.{Epoch}
-use Rattle.counting.specs.Words.{some}
+use Rattle.ground.specs.Counting.Words.{some}
 use Rattle.packet.specs.Kinds.{mstFirst}
 use Rattle.packet.specs.Words.{ADD, DNU, EOS, IDLE, NORM}
 use Rattle.reply.specs.declared.members.Port.{Port}
@@ -47,9 +47,9 @@ hasChanged p =
 abbrev pub hasLeft : Port → Bool
 hasLeft p = p .«told_word» == ADD && p .word == IDLE
 
-unfoldable pub turns : List Port → ℕ → Bool
-turns ports n = some n (λ i. hasChanged (portAt ports i) || hasLeft (portAt ports i))
+unfoldable pub turnsOver : List Port → ℕ → Bool
+turnsOver ports n = some n (λ i. hasChanged (portAt ports i) || hasLeft (portAt ports i))
 
 -- 'RS-Ack, 0 at first, turns over'
 unfoldable pub ackOf : (ports : List Port) (count bit : ℕ) → ℕ
-ackOf ports n bit = if turns ports n then (if bit == 0 then 1 else 0) else bit
+ackOf ports n bit = if turnsOver ports n then (if bit == 0 then 1 else 0) else bit

@@ -4,8 +4,8 @@ use mathlib.Core.List.{List}
 use Prim.Native.Nat.{ℕ, zero, suc, _+_}
 use lib.ListN.{getD, replicate}
 use Rattle.ground.specs.Plain.{if_then_else_, _==_, _<?_}
-use Rattle.counting.specs.Each.{each}
-use Rattle.counting.specs.Words.{some}
+use Rattle.ground.specs.Counting.Each.{each}
+use Rattle.ground.specs.Counting.Words.{some}
 use Rattle.reply.specs.declared.members.Port.{Port}
 use Rattle.reply.specs.declared.waiting.Standing.{Standing}
 use Rattle.reply.specs.Choosing.{FREE, granted, holderOf, holders, allFree}

@@ -4,7 +4,7 @@ use mathlib.Core.Bool.{Bool, true, false, not, _&&_}
 use mathlib.Core.List.{List, [], _∷_}
 use Prim.Native.Nat.{ℕ, zero, suc, _+_, _-_, _%_}
 use lib.ListN.{set}
-use Rattle.counting.specs.Words.{some}
+use Rattle.ground.specs.Counting.Words.{some}
 use Rattle.ground.specs.Plain.{if_then_else_, _==_, _<?_, _≤?_}
 use Rattle.ground.specs.Table.{tabulate}
 use Rattle.packet.specs.Words.{ADD, IDLE, NORM}

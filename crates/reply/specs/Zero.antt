@@ -4,7 +4,7 @@ use mathlib.Core.List.{List}
 use Prim.Native.Nat.{ℕ}
 use lib.ListN.{replicate}
 use Rattle.ground.specs.Plain.{if_then_else_, _==_}
-use Rattle.counting.specs.Each.{each}
+use Rattle.ground.specs.Counting.Each.{each}
 use Rattle.reply.specs.declared.members.Port.{Port}
 use Rattle.reply.specs.Choosing.{granted, holderOf, allFree}
 use Rattle.reply.specs.Members.{failState, idleState, isCandidate, isIdle, okState, portAt, wasOk}

@@ -8,7 +8,7 @@ ghost use mathlib.Core.List.{[], _∷_};
 ghost use Prim.Native.Nat.{_+_, _*_, _≤_};
 ghost use Rattle.ground.specs.Plain.{if_then_else_, _==_};
 ghost use Rattle.reply.specs.Members.{sizeOf};
-ghost use Rattle.reply.specs.Telling.{ackOf, failBit, hasChanged, hasLeft, isListed, mstFrom, mstOf, okHolds, turns};
+ghost use Rattle.reply.specs.Telling.{ackOf, failBit, hasChanged, hasLeft, isListed, mstFrom, mstOf, okHolds, turnsOver};
 
 // Whether an OK port holds a number.
 fn ok_holds(ports: [Port; 64], n: usize, number: u8) -> bool
@@ -86,7 +86,7 @@ fn has_left(port: Port) -> bool
 
 fn is_turning(ports: [Port; 64], n: usize) -> bool
     requires { ⌜ n ≤ 64 ⌝ }
-    ensures { λ r. ⌜ r ≡ turns ports n ⌝ }
+    ensures { λ r. ⌜ r ≡ turnsOver ports n ⌝ }
 {
     let mut turning = false;
     let mut i = 0;

@@ -7,7 +7,7 @@ ghost use mathlib.Core.List.{[], _∷_};
 ghost use Prim.Native.Nat.{_+_, _≤_};
 ghost use lib.ListN.{getD, replicate};
 ghost use Rattle.ground.specs.Plain.{if_then_else_};
-ghost use Rattle.counting.specs.Each.{each};
+ghost use Rattle.ground.specs.Counting.Each.{each};
 ghost use Rattle.reply.specs.Choosing.{grant};
 ghost use Rattle.reply.specs.Members.{failState, hasHoldOff, okState, portAt, sizeOf};
 ghost use Rattle.reply.specs.Waiting.{chosenOf, hasClaim, joinsKept, keepsNumber, moreKept, mustKeep, noStanding, someJoin, standing, standingBy, standingsOf, withClaim, withoutClaim};

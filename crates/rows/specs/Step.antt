@@ -10,13 +10,13 @@ unfoldable pub stepOf : Bytes → Step
 stepOf row =
     record {
       spare = drop 12 row;
-      had = getD row 0 0;
+      heard = getD row 0 0;
       failed = getD row 1 0;
       count = getD row 2 0;
       next = getD row 3 0 * 256 + getD row 4 0;
       joined = getD row 5 0;
-      since = getD row 6 0;
-      later = getD row 7 0;
+      «ever_since» = getD row 6 0;
+      «joined_at» = getD row 7 0;
       whole = getD row 8 0;
       breaks = getD row 9 0;
       odd = getD row 10 0;
@@ -25,14 +25,14 @@ stepOf row =
 
 unfoldable pub stepRow : Step → Bytes
 stepRow s =
-    (s .had)
+    (s .heard)
     ∷ (s .failed)
     ∷ (s .count)
     ∷ (s .next / 256)
     ∷ (s .next % 256)
     ∷ (s .joined)
-    ∷ (s .since)
-    ∷ (s .later)
+    ∷ (s .«ever_since»)
+    ∷ (s .«joined_at»)
     ∷ (s .whole)
     ∷ (s .breaks)
     ∷ (s .odd)
@@ -47,13 +47,13 @@ unfoldable pub withNext : Step → ℕ → Step
 withNext q n =
     record {
       spare = q .spare;
-      had = q .had;
+      heard = q .heard;
       failed = q .failed;
       count = q .count;
       next = n;
       joined = q .joined;
-      since = q .since;
-      later = q .later;
+      «ever_since» = q .«ever_since»;
+      «joined_at» = q .«joined_at»;
       whole = q .whole;
       breaks = q .breaks;
       odd = q .odd;

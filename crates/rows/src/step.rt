@@ -7,7 +7,7 @@ pub struct Step {
     // bytes of the row that nothing is in yet
     pub spare: [u8; 4],
     // 0 until the port has had a frame
-    pub had: u8,
+    pub heard: u8,
     // not 0 where its latest frame came flagged
     pub failed: u8,
     // the frames counted rightly in a row, as far as the step rule asks
@@ -16,9 +16,9 @@ pub struct Step {
     pub next: u16,
     pub joined: u8,
     // not 0 where the port was in step at the beginning, and ever since
-    pub since: u8,
+    pub ever_since: u8,
     // the epochs from the oldest to the one joined at
-    pub later: u8,
+    pub joined_at: u8,
     // not 0 where the ruling packet arrived whole
     pub whole: u8,
     // the frames in a row, up to the latest, that broke the count
@@ -34,13 +34,13 @@ fn step_of(row: [u8; 16]) -> Step
 {
     Step {
         spare: [row[12], row[13], row[14], row[15]],
-        had: row[0],
+        heard: row[0],
         failed: row[1],
         count: row[2],
         next: group::pair(row[3], row[4]),
         joined: row[5],
-        since: row[6],
-        later: row[7],
+        ever_since: row[6],
+        joined_at: row[7],
         whole: row[8],
         breaks: row[9],
         odd: row[10],
@@ -52,14 +52,14 @@ fn step_row(s: Step) -> [u8; 16]
     ensures { λ r. ⌜ r ≡ stepRow s ⌝ }
 {
     [
-        s.had,
+        s.heard,
         s.failed,
         s.count,
         (s.next / 256) as u8,
         (s.next % 256) as u8,
         s.joined,
-        s.since,
-        s.later,
+        s.ever_since,
+        s.joined_at,
         s.whole,
         s.breaks,
         s.odd,

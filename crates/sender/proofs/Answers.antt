@@ -19,7 +19,7 @@ use Rattle.sender.specs.declared.table.Outcome.{Outcome}
 use Rattle.sender.specs.declared.table.Table.{Table}
 use Rattle.sender.specs.Commands.{addOf, addedTo, answered, fallen, freshOf, inOrder, removeOf, removedFrom, startOf}
 use Rattle.sender.specs.Reports.{actedOn, mstApplied, numberAfter, opensWait, renumbered, reportOf, slotAfter, becomes, numberApplied, turnOf, waited}
-use Rattle.sender.specs.Table.{holderOf, isAdd, isMember, sizeOf, slotAt}
+use Rattle.sender.specs.Table.{holderOf, isAdd, isMember, slotCount, slotAt}
 
 module _ (kind count : ℕ) (t : Table) where
   pub start-none : count ≡ 0 → t ≡ freshOf kind 0 → answered t OutOfRange ≡ startOf kind count
@@ -47,7 +47,7 @@ module _ (q : ℕ) (s : Slot) (member : Bool) (e : member ≡ isMember (s .state
   fall-stays t = rw (← e, t)
 
 -- where no refusal holds
-in-order : (t next : Table) (i : ℕ) (allowed : Bool) → ltb i (sizeOf (t .count)) ≡ true → t .wait ≡ false → allowed ≡ true → answered next Done ≡ inOrder t i allowed next
+in-order : (t next : Table) (i : ℕ) (allowed : Bool) → ltb i (slotCount (t .count)) ≡ true → t .wait ≡ false → allowed ≡ true → answered next Done ≡ inOrder t i allowed next
 in-order t next i allowed h w a =
     let last : Outcome = cond allowed (answered next Done) (answered t NotAllowed) in
     sym (
@@ -56,7 +56,7 @@ in-order t next i allowed h w a =
     ∙ ap (λ (b : Bool). cond b (answered next Done) (answered t NotAllowed)) a
     )
 
-module _ (t : Table) (i : ℕ) {n : ℕ} (e : n ≡ sizeOf (t .count)) where
+module _ (t : Table) (i : ℕ) {n : ℕ} (e : n ≡ slotCount (t .count)) where
   pub add-no-slot : n ≤ i → answered t NoSlot ≡ addOf t i
   unfolding addOf
   add-no-slot h = rw (← e, le-ltb i n h)
@@ -113,9 +113,9 @@ module _ (was is : List Slot) (n i : ℕ) where
   unfolding slotAfter
   after-other a = rw a
 
-pub acted-is : (t : Table) (e mst ack : ℕ) {n first numbers : ℕ} {is next : List Slot} {wait : Bool} → n ≡ sizeOf (t .count) → first ≡ mstFirst (t .kind) e → numbers ≡ mstNumbers (t .kind)
+pub acted-is : (t : Table) (e mst ack : ℕ) {n first numbers : ℕ} {is next : List Slot} {wait : Bool} → n ≡ slotCount (t .count) → first ≡ mstFirst (t .kind) e → numbers ≡ mstNumbers (t .kind)
     → is ≡ mstApplied (t .slots) n first mst numbers → next ≡ renumbered (t .slots) is n → wait ≡ opensWait (t .slots) is n
-    → record { slots = next; count = t .count; wait = wait; bit = ack; kind = t .kind } ≡ actedOn t e mst ack
+    → record { slots = next; count = t .count; wait = wait; remembered = ack; kind = t .kind } ≡ actedOn t e mst ack
 unfolding actedOn
 acted-is t e mst ack size first numbers is next wait = rw (next, wait, is, first, numbers, size)
 

@@ -23,7 +23,7 @@ use Rattle.sender.specs.Commands.{startOf}
 use Rattle.sender.specs.Epochs.{beginOf, freshSender, packetAnswer, packetBytes, packetFields, payloadAnswer, payloadBytes, rankIn, startEpochOf, startedEpoch, startedSender, withOutcome, xOf}
 use Rattle.sender.specs.Outcomes.{spreadEarly, spreadTold, written}
 use Rattle.sender.specs.Ranks.{carriersIn, rankAt}
-use Rattle.sender.specs.Table.{sizeOf}
+use Rattle.sender.specs.Table.{slotCount}
 
 module _ {A : Type 0} where
   second : (x y : Bool) (a b c : A) → x ≡ true → y ≡ true → cond x (cond y a b) c ≡ a
@@ -63,8 +63,8 @@ module _ (s : Sender) (gid mst ack : ℕ) where
   unfolding startEpochOf startedSender
   start-kept h g e = rw (h, g, e)
 
-module _ (s : Sender) (i : ℕ) {n : ℕ} (e : n ≡ sizeOf (s .table .count)) where
-  there : i < n → ltb i (sizeOf (s .table .count)) ≡ true
+module _ (s : Sender) (i : ℕ) {n : ℕ} (e : n ≡ slotCount (s .table .count)) where
+  there : i < n → ltb i (slotCount (s .table .count)) ≡ true
   there h = rw (← e) (lt-ltb i n h)
 
   module _ (h4 : List ℕ) where
@@ -119,8 +119,8 @@ module _ (s : Sender) (i : ℕ) {n : ℕ} (e : n ≡ sizeOf (s .table .count)) w
         eo ∙ rw (ex, k) refl ∙ sym (three _ _ _ (spreadOne (xOf s) p (rankIn s i) frame member) member (there h) own b),
       )
 
-pub x-is : (s : Sender) {n x : ℕ} → n ≡ sizeOf (s .ruling .count) → x ≡ carriersIn (s .ruling .rows) n → x ≡ xOf s
+pub x-is : (s : Sender) {n x : ℕ} → n ≡ slotCount (s .ruling .count) → x ≡ carriersIn (s .ruling .rows) n → x ≡ xOf s
 x-is s e h = h ∙ rw e refl
 
-pub rank-is : (s : Sender) (i : ℕ) {n r : ℕ} → n ≡ sizeOf (s .ruling .count) → r ≡ rankAt (s .ruling .rows) n i → r ≡ rankIn s i
+pub rank-is : (s : Sender) (i : ℕ) {n r : ℕ} → n ≡ slotCount (s .ruling .count) → r ≡ rankAt (s .ruling .rows) n i → r ≡ rankIn s i
 rank-is s i e h = h ∙ rw e refl

@@ -4,8 +4,8 @@ use mathlib.Core.List.{List}
 use Prim.Native.Nat.{ℕ}
 use lib.ListN.{replicate}
 use Rattle.ground.specs.Plain.{if_then_else_, _<?_}
-use Rattle.counting.specs.Each.{each}
-use Rattle.counting.specs.Words.{some}
+use Rattle.ground.specs.Counting.Each.{each}
+use Rattle.ground.specs.Counting.Words.{some}
 use Rattle.packet.specs.declared.words.Word.{Word}
 use Rattle.packet.specs.Kinds.{idleNumber}
 use Rattle.packet.specs.Words.{ADD, DNU, EOS, IDLE, NORM}
@@ -15,7 +15,7 @@ use Rattle.sender.specs.declared.table.Slot.{Slot}
 use Rattle.sender.specs.declared.table.State.{State}
 use Rattle.sender.specs.declared.table.State.the-variants.{Idle, Add, Active, Dnu}
 use Rattle.sender.specs.declared.table.Table.{Table}
-use Rattle.sender.specs.Table.{isActive, sizeOf, slotAt}
+use Rattle.sender.specs.Table.{isActive, slotCount, slotAt}
 
 -- no active slot has a number above q
 unfoldable pub highest : (slots : List Slot) (count number : ℕ) → Bool
@@ -42,4 +42,4 @@ unfoldable pub rowsOf : (slots : List Slot) (count kind : ℕ) → List Row
 rowsOf slots n kind = each n (λ i. rowOf slots n i) (replicate 64 (noRow kind))
 
 unfoldable pub boardOf : Table → Board
-boardOf t = record { rows = rowsOf (t .slots) (sizeOf (t .count)) (t .kind); count = sizeOf (t .count); wait = t .wait }
+boardOf t = record { rows = rowsOf (t .slots) (slotCount (t .count)) (t .kind); count = slotCount (t .count); wait = t .wait }

@@ -4,7 +4,7 @@ use mathlib.Core.List.{List}
 use Prim.Native.Nat.{ℕ, _-_}
 use lib.ListN.{replicate, set}
 use Rattle.ground.specs.Plain.{if_then_else_, _==_, _<?_}
-use Rattle.counting.specs.Each.{each}
+use Rattle.ground.specs.Counting.Each.{each}
 use Rattle.packet.specs.Kinds.{idleNumber}
 use Rattle.sender.specs.declared.table.Answer.{Answer}
 use Rattle.sender.specs.declared.table.Answer.the-variants.{Done, NoSlot, NotAllowed, WaitOpen, OutOfRange}
@@ -12,14 +12,14 @@ use Rattle.sender.specs.declared.table.Slot.{Slot}
 use Rattle.sender.specs.declared.table.State.the-variants.{Idle, Add}
 use Rattle.sender.specs.declared.table.Outcome.{Outcome}
 use Rattle.sender.specs.declared.table.Table.{Table}
-use Rattle.sender.specs.Table.{isMember, membersOf, sizeOf, slotAt}
+use Rattle.sender.specs.Table.{isMember, membersOf, slotCount, slotAt}
 
 abbrev pub answered : Table → Answer → Outcome
 answered t a = record { table = t; answer = a }
 
 -- the table with other slots and another wait
 abbrev pub withSlots : (t : Table) (slots : List Slot) (wait : Bool) → Table
-withSlots t slots wait = record { slots = slots; count = t .count; wait = wait; bit = t .bit; kind = t .kind }
+withSlots t slots wait = record { slots = slots; count = t .count; wait = wait; remembered = t .remembered; kind = t .kind }
 
 -- 'IDLE (number 255)'
 unfoldable pub idleSlot : ℕ → Slot
@@ -27,7 +27,7 @@ idleSlot kind = record { state = Idle; number = idleNumber kind }
 
 -- all slots IDLE, no wait open, the remembered bit '0 at first'
 unfoldable pub freshOf : ℕ → ℕ → Table
-freshOf kind count = record { slots = replicate 64 (idleSlot kind); count = count; wait = false; bit = 0; kind = kind }
+freshOf kind count = record { slots = replicate 64 (idleSlot kind); count = count; wait = false; remembered = 0; kind = kind }
 
 -- 4: 'group count .. out of range', 'an empty group'
 unfoldable pub startOf : ℕ → ℕ → Outcome
@@ -36,13 +36,13 @@ startOf kind count = if count == 0 || 64 <? count then answered (freshOf kind 0)
 -- 'For commands: 1, 3, 2.' What a command allowed makes of the table is given.
 abbrev pub inOrder : (t : Table) (slot : ℕ) (allowed : Bool) (next : Table) → Outcome
 inOrder t i allowed next =
-    if i <? sizeOf (t .count)
+    if i <? slotCount (t .count)
     then (if t .wait then answered t WaitOpen else if allowed then answered next Done else answered t NotAllowed)
     else answered t NoSlot
 
 -- 'state ADD, next free number. No wait opens.'
 unfoldable pub addedTo : Table → ℕ → Table
-addedTo t i = withSlots t (set (t .slots) i (record { state = Add; number = membersOf (t .slots) (sizeOf (t .count)) })) (t .wait)
+addedTo t i = withSlots t (set (t .slots) i (record { state = Add; number = membersOf (t .slots) (slotCount (t .count)) })) (t .wait)
 
 -- 'Add, from IDLE'
 unfoldable pub addOf : Table → ℕ → Outcome
@@ -57,7 +57,7 @@ fallenIn slots n q = each n (λ j. fallen q (slotAt slots j)) slots
 
 -- 'IDLE with 255. Higher numbers fall by one. A wait opens.'
 unfoldable pub removedFrom : Table → ℕ → Table
-removedFrom t i = withSlots t (set (fallenIn (t .slots) (sizeOf (t .count)) (slotAt (t .slots) i .number)) i (idleSlot (t .kind))) true
+removedFrom t i = withSlots t (set (fallenIn (t .slots) (slotCount (t .count)) (slotAt (t .slots) i .number)) i (idleSlot (t .kind))) true
 
 -- 'Remove, from ADD, active or DNU'
 unfoldable pub removeOf : Table → ℕ → Outcome

@@ -21,7 +21,7 @@ use Rattle.sender.specs.Calls.{Call, outcomeOf}
 use Rattle.sender.specs.Commands.{startOf}
 use Rattle.sender.specs.Outcomes.{spreadEarly, spreadTold, written}
 use Rattle.sender.specs.Ranks.{carriersIn, rankAt, ranksIn, rowAt}
-use Rattle.sender.specs.Table.{sizeOf}
+use Rattle.sender.specs.Table.{slotCount}
 
 -- no epoch has started: nothing has gone out, so 'a sender's first epoch has X = 0'
 unfoldable pub freshSender : Table → Epoch → Sender
@@ -82,25 +82,25 @@ packetFields s i =
 -- The packet of a slot: 1, 9, 2.
 unfoldable pub packetAnswer : (s : Sender) (slot : ℕ) (h4 : Bytes) → Answer
 packetAnswer s i h4 =
-    if i <? sizeOf (s .table .count)
+    if i <? slotCount (s .table .count)
     then (if length h4 == frames (s .table .kind) then (if s .begun then written (sentAnswer (s .table .kind) (packetFields s i) h4) else NotAllowed) else Length)
     else NoSlot
 
 unfoldable pub packetBytes : (s : Sender) (slot : ℕ) (h4 : Bytes) → Bytes
 packetBytes s i h4 =
-    if i <? sizeOf (s .table .count) && length h4 == frames (s .table .kind) && s .begun then sentBytes (s .table .kind) (packetFields s i) h4 else h4
+    if i <? slotCount (s .table .count) && length h4 == frames (s .table .kind) && s .begun then sentBytes (s .table .kind) (packetFields s i) h4 else h4
 
 -- X of this epoch, and the rank of a slot in it
 abbrev pub xOf : Sender → ℕ
-xOf s = carriersIn (s .ruling .rows) (sizeOf (s .ruling .count))
+xOf s = carriersIn (s .ruling .rows) (slotCount (s .ruling .count))
 
 abbrev pub rankIn : Sender → ℕ → ℕ
-rankIn s i = rankAt (s .ruling .rows) (sizeOf (s .ruling .count)) i
+rankIn s i = rankAt (s .ruling .rows) (slotCount (s .ruling .count)) i
 
 -- The payload of a slot: 1, 4, 9, 2. A P that is not the kind's own (02, 2026-01: 'P is 136') is 4.
 unfoldable pub payloadAnswer : (s : Sender) (slot P frame member : ℕ) → Answer
 payloadAnswer s i P frame member =
-    if i <? sizeOf (s .table .count)
+    if i <? slotCount (s .table .count)
     then (if payloadRight (s .table .kind) P
     then (if s .begun then spreadTold (oneAnswer (xOf s) P frame member) else spreadEarly (oneAnswer (xOf s) P frame member))
     else OutOfRange)
@@ -108,10 +108,10 @@ payloadAnswer s i P frame member =
 
 unfoldable pub payloadBytes : (s : Sender) (slot P : ℕ) (frame member : Bytes) → Bytes
 payloadBytes s i P frame member =
-    if i <? sizeOf (s .table .count) && payloadRight (s .table .kind) P && s .begun then spreadOne (xOf s) P (rankIn s i) frame member else member
+    if i <? slotCount (s .table .count) && payloadRight (s .table .kind) P && s .begun then spreadOne (xOf s) P (rankIn s i) frame member else member
 
 -- this epoch's number, X and each slot's rank
 unfoldable pub ranksOf : Sender → Ranks
 ranksOf s =
-    let n = sizeOf (s .ruling .count) in
+    let n = slotCount (s .ruling .count) in
     record { ranks = ranksIn (s .ruling .rows) n; count = n; epoch = s .epoch; x = xOf s; begun = s .begun }

@@ -5,12 +5,12 @@ use Prim.Native.Nat.{ℕ, _≤_, _<_}
 use Rattle.ground.specs.Plain.{_==_}
 use Rattle.packet.specs.Kinds.{idleNumber}
 use Rattle.packet.specs.Words.{EOS}
-use Rattle.counting.specs.Words.{Apart, One, count, some}
+use Rattle.ground.specs.Counting.Words.{Apart, One, count, some}
 use Rattle.sender.specs.declared.table.State.{State}
 use Rattle.sender.specs.declared.table.State.the-variants.{Idle, Add, Active, Dnu}
 use Rattle.sender.specs.declared.table.Table.{Table}
 use Rattle.sender.specs.Board.{rowOf}
-use Rattle.sender.specs.Table.{isActive, isAdd, isMember, sizeOf, slotAt}
+use Rattle.sender.specs.Table.{isActive, isAdd, isMember, slotCount, slotAt}
 
 -- active or DNU
 abbrev pub isPlaced : State → Bool
@@ -28,7 +28,7 @@ members st n = count n (λ i. isMember (st i))
 
 -- the word of the slot i
 abbrev pub sends : Table → ℕ → ℕ
-sends t i = rowOf (t .slots) (sizeOf (t .count)) i .word .0
+sends t i = rowOf (t .slots) (slotCount (t .count)) i .word .0
 
 -- the table's states and numbers, and how many slots there are
 abbrev pub stateIn : Table → ℕ → State
@@ -38,7 +38,7 @@ abbrev pub numberIn : Table → ℕ → ℕ
 numberIn t i = slotAt (t .slots) i .number
 
 abbrev pub slotsIn : Table → ℕ
-slotsIn t = sizeOf (t .count)
+slotsIn t = slotCount (t .count)
 
 pub record Demand2 (t : Table) : Type 0 where
   -- no two members hold one number

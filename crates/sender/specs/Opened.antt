@@ -6,11 +6,11 @@ use Rattle.sender.specs.Commands.{addOf, addedTo, fallen, fallenIn, fres
 use Rattle.sender.specs.Epochs.{beginOf, freshSender, packetAnswer, packetBytes, packetFields, payloadAnswer, payloadBytes, ranksOf, startEpochOf, startedEpoch, startedSender}
 use Rattle.sender.specs.Ranks.{carriersIn, rankAt, rankOf, ranksIn}
 use Rattle.sender.specs.Reports.{actedOn, comesBefore, mstApplied, numberAfter, numberApplied, opensWait, renumbered, reportOf, slotAfter, turnOf, waited}
-use Rattle.sender.specs.Table.{holderOf, membersOf, sizeOf}
+use Rattle.sender.specs.Table.{holderOf, membersOf, slotCount}
 
 unfoldable pub senderOpen : ℕ
 unfolding packetOpen boardOf highest noRow rowOf rowsOf addOf addedTo fallen fallenIn freshOf idleSlot lapseOf removeOf removedFrom startOf beginOf
     freshSender packetAnswer packetBytes packetFields payloadAnswer payloadBytes ranksOf startEpochOf startedEpoch startedSender carriersIn rankAt
     rankOf ranksIn actedOn comesBefore mstApplied numberAfter numberApplied opensWait renumbered reportOf slotAfter turnOf waited holderOf membersOf
-    sizeOf
+    slotCount
 senderOpen = 0

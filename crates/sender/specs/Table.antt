@@ -3,8 +3,9 @@ use mathlib.Core.Bool.{Bool, true, false, _&&_}
 use mathlib.Core.List.{List}
 use Prim.Native.Nat.{ℕ, zero, suc}
 use lib.ListN.{getD}
-use Rattle.ground.specs.Plain.{if_then_else_, _==_, _<?_}
-use Rattle.counting.specs.Words.{count}
+use Rattle.ground.specs.Plain.{if_then_else_, _==_}
+use Rattle.ground.specs.Sizes.{sizeOf}
+use Rattle.ground.specs.Counting.Words.{count}
 use Rattle.sender.specs.declared.finding.Found.{Found}
 use Rattle.sender.specs.declared.finding.Found.the-variants.{At, Nothing}
 use Rattle.sender.specs.declared.table.Answer.{Answer}
@@ -43,8 +44,8 @@ isActive Active = true
 isActive Dnu = false
 
 -- how many slots there are; a count above 64, which no call returns, is taken as 64
-unfoldable pub sizeOf : ℕ → ℕ
-sizeOf c = if c <? 64 then c else 64
+unfoldable pub slotCount : ℕ → ℕ
+slotCount c = sizeOf c
 
 abbrev pub slotAt : List Slot → ℕ → Slot
 slotAt slots i = getD slots i (record { state = Idle; number = 0 })

@@ -20,12 +20,12 @@ use Rattle.sender.specs.Commands.{withSlots}
 use Rattle.sender.specs.Ranks.{carries, noRank, rankAt, rowAt}
 use Rattle.sender.specs.Reports.{mstApplied, renumbered, becomes}
 use Rattle.sender.specs.Shown.{after, shown}
-use Rattle.sender.specs.Table.{sizeOf, slotAt}
+use Rattle.sender.specs.Table.{slotCount, slotAt}
 use Rattle.sender.specs.Opened.{senderOpen}
 
 -- Slip 3: 'Giving the two members of P8 their asked numbers, so EOS lands on 1 and 0 is unused.' Nothing is numbered anew.
 wrong-numbers : Table → ℕ → ℕ → Table
-wrong-numbers t e mst = withSlots t (mstApplied (t .slots) (sizeOf (t .count)) (mstFirst (t .kind) e) mst (mstNumbers (t .kind))) true
+wrong-numbers t e mst = withSlots t (mstApplied (t .slots) (slotCount (t .count)) (mstFirst (t .kind) e) mst (mstNumbers (t .kind))) true
 
 numbers-break :
     (shown (wrong-numbers (after 2 (AddSlot 0 ∷ AddSlot 1 ∷ [])) 0 0xBF) ≡ ADD ∷ 0 ∷ EOS ∷ 1 ∷ 1 ∷ [])
@@ -73,7 +73,7 @@ rank-breaks = (refl, refl)
 
 -- Slip 2: 'Using a new packet's numbers for its own epoch.' Three members carry by packets of the epoch before; the middle one is removed, which shows in this epoch's packets and rules the next.
 wrong-epoch : Sender → ℕ → ℕ
-wrong-epoch s i = rankAt (s .outgoing .rows) (sizeOf (s .outgoing .count)) i
+wrong-epoch s i = rankAt (s .outgoing .rows) (slotCount (s .outgoing .count)) i
 
 epoch-breaks :
     (told wrong-epoch 3 (twice (joined 0 (joined 1 (joined 2 []))) (RemoveSlot 1 ∷ [])) ≡ 3 ∷ 0 ∷ 255 ∷ 1 ∷ [])

@@ -29,7 +29,7 @@ fn fresh(kind: u8, count: u8) -> Table
         slots: [idle; 64],
         count,
         wait: false,
-        bit: 0,
+        remembered: 0,
         kind,
     }
 }
@@ -70,7 +70,7 @@ fn added_to(table: Table, at: usize) -> Table
         slots,
         count: table.count,
         wait: table.wait,
-        bit: table.bit,
+        remembered: table.remembered,
         kind: table.kind,
     }
 }
@@ -152,7 +152,7 @@ fn removed_from(table: Table, at: usize) -> Table
         slots,
         count: table.count,
         wait: true,
-        bit: table.bit,
+        remembered: table.remembered,
         kind: table.kind,
     }
 }
@@ -198,7 +198,7 @@ pub fn lapse(table: Table) -> Outcome
                 slots,
                 count: table.count,
                 wait: false,
-                bit: table.bit,
+                remembered: table.remembered,
                 kind: table.kind,
             },
             answer: Answer::Done,

@@ -1,7 +1,7 @@
 // The table of slots by value, and what each call gives back.
 ghost use mathlib.Core.Path.{_≡_};
 ghost use Prim.Native.Nat.{_≤_};
-ghost use Rattle.sender.specs.Table.{answerNumber, isAdd, isActive, isMember, membersOf, sizeOf};
+ghost use Rattle.sender.specs.Table.{answerNumber, isAdd, isActive, isMember, membersOf, slotCount};
 
 pub enum State {
     Idle,
@@ -15,12 +15,12 @@ pub struct Slot {
     pub number: u8,
 }
 
-// wait: a wait is open. bit: the remembered RS-Ack. kind: the kind of packet.
+// wait: a wait is open. remembered: the RS-Ack that is remembered. kind: the kind of packet.
 pub struct Table {
     pub slots: [Slot; 64],
     pub count: u8,
     pub wait: bool,
-    pub bit: u8,
+    pub remembered: u8,
     pub kind: u8,
 }
 
@@ -90,9 +90,9 @@ pub(crate) fn is_active(state: State) -> bool
 
 // How many slots there are: a count above 64, which no call returns, is taken as 64.
 pub(crate) fn size(count: u8) -> usize
-    ensures { λ r. ⌜ r ≡ sizeOf count ⌝ }
+    ensures { λ r. ⌜ r ≡ slotCount count ⌝ }
 {
-    if count < 64 { count as usize } else { 64 }
+    ground::size_of(count)
 }
 
 // How many slots are not IDLE.

@@ -1,9 +1,9 @@
 // Reads lines of commands from standard input to its end and writes what each is answered (01, 'Session').
-use console::Session;
 use libc::STDIN_FILENO;
 use libc::STDOUT_FILENO;
+use session_lines::Session;
 ghost use mathlib.Core.Path.{_≡_};
-ghost use Rattle.console.specs.Session.{usedOf};
+ghost use Rattle.session_lines.specs.Session.{usedOf};
 
 struct Turn {
     session: Session,
@@ -22,7 +22,7 @@ fn feed_some(session: Session, input: &[u8]) -> Turn
     ensures { λ r. ⌜ r .used ≡ usedOf (now (input .entry)) ⌝ }
 {
     let mut out = [0u8; 1095];
-    let fed = console::feed(session, input, &mut out);
+    let fed = session_lines::feed(session, input, &mut out);
     let after = fed.session;
     let written = fed.written;
     let wrote = io::write_all(STDOUT_FILENO, &out[..written]);
@@ -82,12 +82,12 @@ fn read_all(session: Session) -> Session {
 // The last line may lack its end.
 fn finish(session: Session) {
     let mut out = [0u8; 1095];
-    let fed = console::finish(session, &mut out);
+    let fed = session_lines::finish(session, &mut out);
     let written = fed.written;
     io::write_all(STDOUT_FILENO, &out[..written]);
 }
 
 fn main() {
-    let s = read_all(console::begin());
+    let s = read_all(session_lines::begin());
     finish(s);
 }

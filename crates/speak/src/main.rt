@@ -1,9 +1,9 @@
 // Reads lines of commands from standard input to its end and tells a listener what changes: slots in runs, or with --each each slot by itself.
 use libc::STDIN_FILENO;
 use libc::STDOUT_FILENO;
-use listener::Listener;
+use speak_lines::Listener;
 ghost use mathlib.Core.Path.{_≡_};
-ghost use Rattle.console.specs.Session.{usedOf};
+ghost use Rattle.session_lines.specs.Session.{usedOf};
 
 struct Turn {
     listener: Listener,
@@ -22,7 +22,7 @@ fn feed_some(listener: Listener, input: &[u8]) -> Turn
     ensures { λ r. ⌜ r .used ≡ usedOf (now (input .entry)) ⌝ }
 {
     let mut out = [0u8; 2188];
-    let fed = listener::feed(listener, input, &mut out);
+    let fed = speak_lines::feed(listener, input, &mut out);
     let after = fed.listener;
     let written = fed.written;
     let wrote = io::write_all(STDOUT_FILENO, &out[..written]);
@@ -82,7 +82,7 @@ fn read_all(listener: Listener) -> Listener {
 // The last line may lack its end.
 fn finish(listener: Listener) {
     let mut out = [0u8; 2188];
-    let fed = listener::finish(listener, &mut out);
+    let fed = speak_lines::finish(listener, &mut out);
     let written = fed.written;
     io::write_all(STDOUT_FILENO, &out[..written]);
 }
@@ -96,6 +96,6 @@ fn tells_each() -> bool {
 
 fn main() {
     let each = tells_each();
-    let l = read_all(listener::begin(!each));
+    let l = read_all(speak_lines::begin(!each));
     finish(l);
 }

@@ -10,7 +10,7 @@ use lib.ListN.{drop, length, length-append}
 use lib.Seq.{sets-eq}
 use borrow.Author.Tests.{le-leb, le-ltb, leb-true, lt-leb, lt-ltb, ltb-true}
 use Rattle.ground.specs.Truth.{and-left}
-use Rattle.counting.specs.Laws.Tests.{every-at}
+use Rattle.ground.specs.Counting.Laws.Tests.{every-at}
 use Rattle.sender.specs.declared.board.Row.{Row}
 use Rattle.text.specs.Ascii.{ascii}
 use Rattle.text.specs.Laws.Lengths.{decimal-le, small-le, word-le}

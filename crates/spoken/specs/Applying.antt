@@ -4,7 +4,7 @@ use mathlib.Core.List.{List}
 use Prim.Native.Nat.{ℕ, zero, suc}
 use lib.ListN.{getD, set}
 use Rattle.ground.specs.Plain.{if_then_else_, _<?_, _≤?_}
-use Rattle.counting.specs.Words.{every}
+use Rattle.ground.specs.Counting.Words.{every}
 use Rattle.sender.specs.declared.board.Board.{Board}
 use Rattle.sender.specs.declared.board.Row.{Row}
 use Rattle.sender.specs.Ranks.{rowAt}

@@ -5,7 +5,7 @@ use mathlib.Core.List.{List, [], _∷_, _++_}
 use Prim.Native.Nat.{ℕ, _+_, _<_}
 use lib.ListN.{take}
 use Rattle.ground.specs.Plain.{if_then_else_, _==_, _≤?_}
-use Rattle.counting.specs.Words.{count}
+use Rattle.ground.specs.Counting.Words.{count}
 use Rattle.sender.specs.Board.{boardOf}
 use Rattle.sender.specs.Numbering.{Demand2}
 use Rattle.sender.specs.Ranks.{rowAt}

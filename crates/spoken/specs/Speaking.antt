@@ -5,7 +5,7 @@ use Prim.Native.Nat.{ℕ, zero, suc}
 use lib.ListN.{drop, length}
 use Rattle.ground.specs.Plain.{if_then_else_, _==_, _<?_, _≤?_}
 use Rattle.ground.specs.Types.{Bytes}
-use Rattle.counting.specs.Words.{every}
+use Rattle.ground.specs.Counting.Words.{every}
 use Rattle.packet.specs.declared.words.Word.{Word}
 use Rattle.packet.specs.Words.{ADD, DNU, EOS, IDLE, NORM}
 use Rattle.sender.specs.declared.board.Row.{Row}

@@ -6,7 +6,7 @@ use lib.ListN.{drop, length, take}
 use Rattle.ground.specs.Flags.{oneIf}
 use Rattle.ground.specs.Plain.{if_then_else_, _==_, _<?_, _≤?_}
 use Rattle.ground.specs.Table.{tabulate}
-use Rattle.counting.specs.Words.{every}
+use Rattle.ground.specs.Counting.Words.{every}
 use Rattle.packet.specs.Words.{IDLE}
 use Rattle.sender.specs.declared.board.Board.{Board}
 use Rattle.sender.specs.declared.board.Row.{Row}

@@ -29,12 +29,12 @@ none true true true true true f true t = t
 none false true true true true f true t = refl
 
 module _ (g : Group) (s : Step) (flag : Bool) (h : ℕ) (left : flag ≡ false) where
-  pub tests-hold : (flagOf (g .begun) && eqb (s .had) 1 && eqb (s .failed) 0 && eqb (s .breaks) 0 && inStep g s && flagOf (s .joined)) ≡ true
+  pub tests-hold : (flagOf (g .begun) && eqb (s .heard) 1 && eqb (s .failed) 0 && eqb (s .breaks) 0 && inStep g s && flagOf (s .joined)) ≡ true
       → h4Counts (s .next) h ≡ steady g s flag h
   unfolding steady
-  tests-hold t = rw left (all (flagOf (g .begun)) (eqb (s .had) 1) (eqb (s .failed) 0) (eqb (s .breaks) 0) (inStep g s) (flagOf (s .joined)) (h4Counts (s .next) h) t)
+  tests-hold t = rw left (all (flagOf (g .begun)) (eqb (s .heard) 1) (eqb (s .failed) 0) (eqb (s .breaks) 0) (inStep g s) (flagOf (s .joined)) (h4Counts (s .next) h) t)
 
-  pub tests-fail : (flagOf (g .begun) && eqb (s .had) 1 && eqb (s .failed) 0 && eqb (s .breaks) 0 && inStep g s && flagOf (s .joined)) ≡ false
+  pub tests-fail : (flagOf (g .begun) && eqb (s .heard) 1 && eqb (s .failed) 0 && eqb (s .breaks) 0 && inStep g s && flagOf (s .joined)) ≡ false
       → steady g s flag h ≡ false
   unfolding steady
-  tests-fail t = rw left (none (flagOf (g .begun)) (eqb (s .had) 1) (eqb (s .failed) 0) (eqb (s .breaks) 0) (inStep g s) (flagOf (s .joined)) (h4Counts (s .next) h) t)
+  tests-fail t = rw left (none (flagOf (g .begun)) (eqb (s .heard) 1) (eqb (s .failed) 0) (eqb (s .breaks) 0) (inStep g s) (flagOf (s .joined)) (h4Counts (s .next) h) t)

@@ -19,7 +19,7 @@ inStep g s = inStepAt (g .kind) (s .count)
 
 -- 'It is readable while in step, if joined or in step ever since the beginning.'
 unfoldable pub readable : Group → Step → Bool
-readable g s = flagOf (g .begun) && inStep g s && (flagOf (s .joined) || flagOf (s .since))
+readable g s = flagOf (g .begun) && inStep g s && (flagOf (s .joined) || flagOf (s .«ever_since»))
 
 -- how far a tag lies after the first frame of the oldest epoch not yet reported or gathered
 unfoldable pub distanceIn : Group → Tag → ℕ
@@ -31,13 +31,13 @@ abbrev pub stepTo : (s : Step) (failed : ℕ) (run : Run) (joined since later : 
 stepTo s failed run joined since later =
     record {
       spare = s .spare;
-      had = 1;
+      heard = 1;
       failed = failed;
       count = run .count;
       next = run .next;
       joined = joined;
-      since = since;
-      later = later;
+      «ever_since» = since;
+      «joined_at» = later;
       whole = s .whole;
       breaks = run .breaks;
       odd = run .odd;
@@ -48,10 +48,10 @@ abbrev pub lost : (s : Step) (failed : ℕ) (run : Run) → Step
 lost s failed run = stepTo s failed run 0 0 0
 
 abbrev pub advanced : Step → Run → Step
-advanced s run = stepTo s 0 run (s .joined) (s .since) (s .later)
+advanced s run = stepTo s 0 run (s .joined) (s .«ever_since») (s .«joined_at»)
 
 abbrev pub joinedAt : (s : Step) (run : Run) (later : ℕ) → Step
-joinedAt s run later = stepTo s 0 run 1 (s .since) later
+joinedAt s run later = stepTo s 0 run 1 (s .«ever_since») later
 
 -- Stopping, beginning and gathering can follow only before the beginning, where a port that was in step no longer is, and where the last frame of the epoch that is gathered comes.
 abbrev pub settlesAt : (g : Group) (before now : Step) → Bool

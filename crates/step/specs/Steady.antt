@@ -14,7 +14,7 @@ use Rattle.step.specs.declared.arrival.Taken.{Taken}
 unfoldable pub steady : (g : Group) (s : Step) (flag : Bool) (h4 : ℕ) → Bool
 steady g s flag h =
     not flag
-    && s .had == 1
+    && s .heard == 1
     && s .failed == 0
     && s .breaks == 0
     && inStep g s

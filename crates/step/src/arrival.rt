@@ -2,11 +2,12 @@
 use crate::answers;
 use crate::run;
 use crate::run::Run;
+pub(crate) use ground::is_set;
 use packet::kinds;
 use rows::Group;
 use rows::Step;
 ghost use mathlib.Core.Path.{_≡_};
-ghost use Rattle.step.specs.Arrival.{arrives, frameDropped, byStart, byWindow, countsOn, distanceIn, flagged, flagOf, inStep, joining, keeps, outside, readable, settlesAt, stepTo, takenOf};
+ghost use Rattle.step.specs.Arrival.{arrives, frameDropped, byStart, byWindow, countsOn, distanceIn, flagged, inStep, joining, keeps, outside, readable, settlesAt, stepTo, takenOf};
 
 pub struct Taken {
     // the port's step afterwards
@@ -17,16 +18,10 @@ pub struct Taken {
     // whether the frame is stored, and how far it lies after the window's first
     pub kept: bool,
     pub at: u16,
-    // whether the port joins with this frame, at the epoch step.later
+    // whether the port joins with this frame, at the epoch step.joined_at
     pub joins: bool,
     // whether something follows for all ports: stopping, beginning or gathering
     pub settles: bool,
-}
-
-pub(crate) fn is_set(flag: u8) -> bool
-    ensures { λ r. ⌜ r ≡ flagOf flag ⌝ }
-{
-    !(flag == 0)
 }
 
 pub fn in_step(group: Group, step: Step) -> bool
@@ -39,7 +34,7 @@ pub fn is_readable(group: Group, step: Step) -> bool
     ensures { λ r. ⌜ r ≡ readable group step ⌝ }
 {
     let in_step = in_step(group, step);
-    is_set(group.begun) & in_step & (is_set(step.joined) | is_set(step.since))
+    is_set(group.begun) & in_step & (is_set(step.joined) | is_set(step.ever_since))
 }
 
 // How far a tag lies after the window's first.
@@ -56,13 +51,13 @@ fn step_to(step: Step, failed: u8, run: Run, joined: u8, since: u8, later: u8) -
     let spare = step.spare;
     Step {
         spare,
-        had: 1,
+        heard: 1,
         failed,
         count: run.count,
         next: run.next,
         joined,
-        since,
-        later,
+        ever_since: since,
+        joined_at: later,
         whole: step.whole,
         breaks: run.breaks,
         odd: run.odd,
@@ -120,7 +115,7 @@ fn counts_on(group: Group, step: Step, run: Run) -> Taken
 fn frame_dropped(group: Group, step: Step, run: Run) -> Taken
     ensures { λ r. ⌜ r ≡ frameDropped group step run ⌝ }
 {
-    let now = step_to(step, 0, run, step.joined, step.since, step.later);
+    let now = step_to(step, 0, run, step.joined, step.ever_since, step.joined_at);
     let settles = !is_set(group.begun);
     Taken {
         step: now,
@@ -150,7 +145,7 @@ fn outside(step: Step) -> Taken
 fn keeps(group: Group, step: Step, run: Run, at: u16) -> Taken
     ensures { λ r. ⌜ r ≡ keeps group step run at ⌝ }
 {
-    let now = step_to(step, 0, run, step.joined, step.since, step.later);
+    let now = step_to(step, 0, run, step.joined, step.ever_since, step.joined_at);
     let ends = kinds::ends_epoch(group.kind, at);
     let epoch = kinds::epochs_in(group.kind, at);
     let settles = !is_set(group.gathered) & ends & (epoch == 0);
@@ -169,7 +164,7 @@ fn joining(group: Group, step: Step, run: Run, at: u16) -> Taken
     ensures { λ r. ⌜ r ≡ joining group step run at ⌝ }
 {
     let later = kinds::epochs_in(group.kind, at);
-    let now = step_to(step, 0, run, 1, step.since, later);
+    let now = step_to(step, 0, run, 1, step.ever_since, later);
     Taken {
         step: now,
         answer: answers::DONE,

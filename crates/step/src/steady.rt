@@ -14,11 +14,11 @@ ghost use Rattle.step.specs.Steady.{midEpoch, steady};
 // A joined port in step. Had, failed and breaks stand as the rule writes them, so that nothing else changes. What is of the group comes first: then
 // the compiler tests byte after byte of the port's row where it stands, and none is kept for later.
 fn is_undisturbed(group: Group, step: Step) -> bool
-    ensures { λ r. ⌜ r ≡ (flagOf (group .begun) && step .had == 1 && step .failed == 0 && step .breaks == 0 && inStep group step && flagOf (step .joined)) ⌝ }
+    ensures { λ r. ⌜ r ≡ (flagOf (group .begun) && step .heard == 1 && step .failed == 0 && step .breaks == 0 && inStep group step && flagOf (step .joined)) ⌝ }
 {
     let in_step = arrival::in_step(group, step);
     arrival::is_set(group.begun)
-        & (step.had == 1)
+        & (step.heard == 1)
         & (step.failed == 0)
         & (step.breaks == 0)
         & in_step

@@ -3,7 +3,7 @@ use mathlib.Core.Path.{_≡_}
 use mathlib.Core.Bool.{Bool, _&&_}
 use Prim.Native.Nat.{ℕ, _<_}
 use Rattle.ground.specs.Plain.{_==_}
-use Rattle.counting.specs.Words.{some}
+use Rattle.ground.specs.Counting.Words.{some}
 use Rattle.sender.specs.Numbering.{numberIn, stateIn}
 use Rattle.sender.specs.Table.{isMember}
 use Rattle.link.specs.History.{History, senderAt}

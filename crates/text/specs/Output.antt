@@ -47,11 +47,11 @@ pub record Put (text : List ℕ) (at : ℕ) (out : List ℕ) (next : ℕ) (new :
   pub kept : length new ≡ length out
 
 -- the same for any place and any buffer: a text that does not fit is left out
-abbrev pub fits : (text : Bytes) (at : ℕ) (out : Bytes) → Bool
-fits text at out = at + length text ≤? length out
+abbrev pub textFits : (text : Bytes) (at : ℕ) (out : Bytes) → Bool
+textFits text at out = at + length text ≤? length out
 
 unfoldable pub putNext : (text : Bytes) (at : ℕ) (out : Bytes) → ℕ
-putNext text at out = if fits text at out then at + length text else at
+putNext text at out = if textFits text at out then at + length text else at
 
 unfoldable pub putBytes : (text : Bytes) (at : ℕ) (out : Bytes) → Bytes
-putBytes text at out = if fits text at out then sets out at text else out
+putBytes text at out = if textFits text at out then sets out at text else out

@@ -49,7 +49,7 @@ TEXTS = [
     ("VC-12's name in a recording", "crates/recording/specs/Pairs.antt", CASED, ""),
     ("whose lines have a count", "crates/mending/specs/Following.antt", CASED, ""),
     ("a case in a law of mending", "crates/mending/specs/Laws/Swept.antt", CASED, "names vc12Kind"),
-    ("a case in a replay", "crates/replaying/specs/Replay.antt", CASED, "names vc12Kind"),
+    ("a case in a replay", "crates/replay_lines/specs/Replay.antt", CASED, "names vc12Kind"),
     ("a definition of receiver's named arrive", "crates/receiver/specs/arrive.antt", CASED, "names vc12Kind"),
     ("no file at all", "docs/words.md", "words\n", "no clause was found"),
 ]

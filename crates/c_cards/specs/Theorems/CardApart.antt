@@ -12,19 +12,19 @@ use Rattle.ground.specs.Table.{length-tabulate, tabulate}
 use Rattle.ground.specs.Truth.{cond-by}
 use Rattle.sender.specs.declared.board.Board.{Board as SenderBoard}
 use Rattle.sender.specs.Epochs.{senderOutcomeOf}
-use Rattle.circuits.specs.declared.card.Card.{Card}
-use Rattle.circuits.specs.Alone.{outcomeSeen, replySeen}
-use Rattle.circuits.specs.Answers.{answerNumber}
-use Rattle.circuits.specs.Calls.{Call, outcomeOf}
-use Rattle.circuits.specs.Calls.Call.{Claim, Release, AddSlot, RemoveSlot, Report, Lapse, StartEpoch}
-use Rattle.circuits.specs.Laws.Seeing.{owners-outcome, view-is}
-use Rattle.circuits.specs.Laws.Ways.{by-ways}
-use Rattle.circuits.specs.Owners.{ownerIn, withOwner}
-use Rattle.circuits.specs.Parts as P
-use Rattle.circuits.specs.Theorems.Apart.{others-keep, own-reply, own-view}
-use Rattle.circuits.specs.Views as L
-use Rattle.circuits.specs.Views.{Asked as Q, Reply, View, replyTo, viewOf}
-use Rattle.circuits.specs.Views.Reply.{Answered, Wrote, Showed, Ranked, Owns}
+use Rattle.cards.specs.declared.card.Card.{Card}
+use Rattle.cards.specs.Alone.{outcomeSeen, replySeen}
+use Rattle.cards.specs.Answers.{answerNumber}
+use Rattle.cards.specs.Calls.{Call, outcomeOf}
+use Rattle.cards.specs.Calls.Call.{Claim, Release, AddSlot, RemoveSlot, Report, Lapse, StartEpoch}
+use Rattle.cards.specs.Laws.Seeing.{owners-outcome, view-is}
+use Rattle.cards.specs.Laws.Ways.{by-ways}
+use Rattle.cards.specs.Owners.{ownerIn, withOwner}
+use Rattle.cards.specs.Parts as P
+use Rattle.cards.specs.Theorems.Apart.{others-keep, own-reply, own-view}
+use Rattle.cards.specs.Views as L
+use Rattle.cards.specs.Views.{Asked as Q, Reply, View, replyTo, viewOf}
+use Rattle.cards.specs.Views.Reply.{Answered, Wrote, Showed, Ranked, Owns}
 use Rattle.orders.specs.Orders.{callBy}
 use Rattle.c_face.specs.Boards.{boardBytesOf, ranksBytesOf}
 use Rattle.c_cards.specs.CardCalls.{Back, CardCall, Made, Same, Single, answered, backOf, backTo, bitOf, bitsOf, callsOf, claimBit, fitting, leftAfter, leftBy, ownAnswers, rowCall, rowsMade, singles, slotsOf}

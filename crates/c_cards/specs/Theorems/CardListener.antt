@@ -10,19 +10,19 @@ use lib.Dec.{eqb, ltb}
 use lib.ListN.{getD, length}
 use borrow.Author.Tests.{eq-eqb, eqb-false, eqb-true, lt-ltb}
 use Rattle.ground.specs.Truth.{cond-by, eq-or-ne}
-use Rattle.circuits.specs.Answers.{answerNumber, fromSender}
-use Rattle.circuits.specs.Calls.{Call, outcomeOf}
-use Rattle.circuits.specs.Calls.Call.{Claim, Release, AddSlot, RemoveSlot, Report, Lapse, StartEpoch}
-use Rattle.circuits.specs.Commands.{claimOf, commandOf, groupCallOf, ofOwn, releaseOf, sentOf, startOf}
-use Rattle.circuits.specs.declared.answers.Answer.the-variants as A
-use Rattle.circuits.specs.declared.card.Card.{Card}
-use Rattle.circuits.specs.declared.card.CardOutcome.{CardOutcome}
-use Rattle.circuits.specs.Laws.Seeing.{sender-marked, sender-outcome}
-use Rattle.circuits.specs.Owners.{hasOwner, markOf}
-use Rattle.circuits.specs.Parts as P
-use Rattle.circuits.specs.Readings.{outgoingShown}
-use Rattle.circuits.specs.Theorems.Apart.{others-keep}
-use Rattle.circuits.specs.Views.{Asked as Q, View, viewOf}
+use Rattle.cards.specs.Answers.{answerNumber, fromSender}
+use Rattle.cards.specs.Calls.{Call, outcomeOf}
+use Rattle.cards.specs.Calls.Call.{Claim, Release, AddSlot, RemoveSlot, Report, Lapse, StartEpoch}
+use Rattle.cards.specs.Commands.{claimOf, commandOf, groupCallOf, ofOwn, releaseOf, sentOf, startOf}
+use Rattle.cards.specs.declared.answers.Answer.the-variants as A
+use Rattle.cards.specs.declared.card.Card.{Card}
+use Rattle.cards.specs.declared.card.CardOutcome.{CardOutcome}
+use Rattle.cards.specs.Laws.Seeing.{sender-marked, sender-outcome}
+use Rattle.cards.specs.Owners.{hasOwner, markOf}
+use Rattle.cards.specs.Parts as P
+use Rattle.cards.specs.Readings.{outgoingShown}
+use Rattle.cards.specs.Theorems.Apart.{others-keep}
+use Rattle.cards.specs.Views.{Asked as Q, View, viewOf}
 use Rattle.orders.specs.declared.commands.Kind as K
 use Rattle.orders.specs.Orders.{callBy}
 use Rattle.sender.specs.Board.{boardOf}

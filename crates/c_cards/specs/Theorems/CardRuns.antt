@@ -12,28 +12,28 @@ use borrow.Author.Tests.{eq-eqb, ne-eqb, eqb-true, lt-ltb, ltb-true}
 use Rattle.ground.specs.Drawn.{fillAt, getD-after, getD-before, getD-fillAt, length-fillAt}
 use Rattle.ground.specs.Table.{tabulate, length-tabulate, tabulate-ext, tabulate-is}
 use Rattle.ground.specs.Truth.{clash, cond-by, eq-or-ne}
-use Rattle.circuits.specs.declared.answers.Answer.{Answer}
-use Rattle.circuits.specs.declared.card.Card.{Card}
-use Rattle.circuits.specs.declared.card.CardOutcome.{CardOutcome}
-use Rattle.circuits.specs.Answers.{answerNumber}
-use Rattle.circuits.specs.Calls.{Call, outcomeOf}
-use Rattle.circuits.specs.Commands.{sentOf, startOf}
-use Rattle.circuits.specs.Laws.Alike.{Alike, AlikeAfter, alike-call}
-use Rattle.circuits.specs.Laws.GroupSender.{put-back, sender-number}
-use Rattle.circuits.specs.Laws.Seeing.{owners-outcome, sender-marked, sender-other, sender-outcome}
-use Rattle.circuits.specs.Laws.Ways.{by-ways}
-use Rattle.circuits.specs.Owners.{ownerIn, withOwner}
-use Rattle.circuits.specs.Parts as P
-use Rattle.circuits.specs.Parts.{groupOutcome, marked, withSender}
-use Rattle.circuits.specs.Theorems.Owned.{demand2-each}
-use Rattle.circuits.specs.Views.{Asked, Made, cardAfter, run}
-use Rattle.circuits.specs.Views.Asked.{Do, Packet, Payload, Board, Outgoing, Ranks, Owned}
+use Rattle.cards.specs.declared.answers.Answer.{Answer}
+use Rattle.cards.specs.declared.card.Card.{Card}
+use Rattle.cards.specs.declared.card.CardOutcome.{CardOutcome}
+use Rattle.cards.specs.Answers.{answerNumber}
+use Rattle.cards.specs.Calls.{Call, outcomeOf}
+use Rattle.cards.specs.Commands.{sentOf, startOf}
+use Rattle.cards.specs.Laws.Alike.{Alike, AlikeAfter, alike-call}
+use Rattle.cards.specs.Laws.GroupSender.{put-back, sender-number}
+use Rattle.cards.specs.Laws.Seeing.{owners-outcome, sender-marked, sender-other, sender-outcome}
+use Rattle.cards.specs.Laws.Ways.{by-ways}
+use Rattle.cards.specs.Owners.{ownerIn, withOwner}
+use Rattle.cards.specs.Parts as P
+use Rattle.cards.specs.Parts.{groupOutcome, marked, withSender}
+use Rattle.cards.specs.Theorems.Owned.{demand2-each}
+use Rattle.cards.specs.Views.{Asked, Made, cardAfter, run}
+use Rattle.cards.specs.Views.Asked.{Do, Packet, Payload, Board, Outgoing, Ranks, Owned}
 use Rattle.sender.specs.SenderRuns.{Demand2Kept}
 use Rattle.sender.specs.declared.epochs.Sender.{Sender}
 use Rattle.sender.specs.Epochs.{SenderCall, senderOutcomeOf}
 use Rattle.sender.specs.Table.{answerNumber as senderNumber}
 use Rattle.c_cards.specs.CardCalls.{fitting}
-use Rattle.c_cards.specs.CardRuns.{fits, meant, stateAfter, stateAfterAll}
+use Rattle.c_cards.specs.CardRuns.{numbersFit, meant, stateAfter, stateAfterAll}
 use Rattle.c_cards.specs.Cards.{areEpochs, callAnswerOn, callStateOn, cardOf, isCard, keptCard, ownersIn, partAt, partIn, putCard, putOwn, startAnswerOn, startStateOn}
 use Rattle.c_face.specs.Keeping.{byteAt, bytesOf, senderOf}
 use Rattle.c_face.specs.Senders.{noStart}
@@ -89,24 +89,24 @@ unfolding partIn
 put-apart c state g h hg hh n = tabulate-ext 397 _ _ (beside c state g h hg hh n)
 
 -- A call of one group, and of no group, changes no byte of the other's part.
-pub others-part : (fits : Bool) (g h : ℕ) (k : Call) (state : List ℕ) → g < 2 → h ≢ g → partIn g (callStateOn fits h k state) ≡ partIn g state
+pub others-part : (numbersFit : Bool) (g h : ℕ) (k : Call) (state : List ℕ) → g < 2 → h ≢ g → partIn g (callStateOn numbersFit h k state) ≡ partIn g state
 unfolding callStateOn
-others-part fits g h k state hg n =
+others-part numbersFit g h k state hg n =
     let Q : List ℕ → Type 0 = λ t. partIn g t ≡ partIn g state in
     cond-by Q (isCard state) _ state
     (λ l.
     cond-by Q (ltb h 2) _ state
     (λ t.
-    cond-by Q fits _ state
+    cond-by Q numbersFit _ state
     (λ f. cond-by Q (eqb (answerNumber (outcomeOf (cardOf state) h k .answer)) 0) _ state (λ d. put-apart (outcomeOf (cardOf state) h k .card) state g h hg (ltb-true h 2 t) n) (λ d. refl))
     (λ f. refl))
     (λ t. refl))
     (λ l. refl)
 
 -- A refusal changes no byte; a refused start none but under 4.
-pub refused-stands : (fits : Bool) (g : ℕ) (k : Call) (state : List ℕ) → (callAnswerOn fits g k state ≡ 0 → ⊥) → callStateOn fits g k state ≡ state
+pub refused-stands : (numbersFit : Bool) (g : ℕ) (k : Call) (state : List ℕ) → (callAnswerOn numbersFit g k state ≡ 0 → ⊥) → callStateOn numbersFit g k state ≡ state
 unfolding callAnswerOn callStateOn
-refused-stands fits g k state = go (isCard state) (ltb g 2) fits (answerNumber (outcomeOf (cardOf state) g k .answer)) (putOwn g (outcomeOf (cardOf state) g k .card) state)
+refused-stands numbersFit g k state = go (isCard state) (ltb g 2) numbersFit (answerNumber (outcomeOf (cardOf state) g k .answer)) (putOwn g (outcomeOf (cardOf state) g k .card) state)
   where
     go : (b t f : Bool) (n : ℕ) (new : List ℕ) → (_≡_ {A = ℕ} (cond b (cond t (cond f n 8) 1) 9) 0 → ⊥) → cond b (cond t (cond f (cond (eqb n 0) new state) state) state) state ≡ state
     go true true true n new d = rw (ne-eqb n 0 d)
@@ -145,15 +145,15 @@ module _ (g : ℕ) (s t : List ℕ) (sized : length s ≡ length t) (row : owner
   alike : Alike g (cardOf s) (cardOf t)
   alike = record { owners = owners-of s ∙ row ∙ sym (owners-of t); sender = part-of g s ∙ ap senderOf part ∙ sym (part-of g t) }
 
-  pub same-answer : (fits : Bool) (k : Call) → callAnswerOn fits g k s ≡ callAnswerOn fits g k t
+  pub same-answer : (numbersFit : Bool) (k : Call) → callAnswerOn numbersFit g k s ≡ callAnswerOn numbersFit g k t
   unfolding callAnswerOn
-  same-answer fits k =
-      ap (λ (n : ℕ). cond (eqb n 858) (cond (ltb g 2) (cond fits (answerNumber (outcomeOf (cardOf s) g k .answer)) 8) 1) 9) sized
-      ∙ ap (λ (a : Answer). cond (isCard t) (cond (ltb g 2) (cond fits (answerNumber a) 8) 1) 9) (alike-call g (cardOf s) (cardOf t) alike k .answer)
+  same-answer numbersFit k =
+      ap (λ (n : ℕ). cond (eqb n 858) (cond (ltb g 2) (cond numbersFit (answerNumber (outcomeOf (cardOf s) g k .answer)) 8) 1) 9) sized
+      ∙ ap (λ (a : Answer). cond (isCard t) (cond (ltb g 2) (cond numbersFit (answerNumber a) 8) 1) 9) (alike-call g (cardOf s) (cardOf t) alike k .answer)
 
-  pub same-part : (fits : Bool) (k : Call) → partIn g (callStateOn fits g k s) ≡ partIn g (callStateOn fits g k t)
+  pub same-part : (numbersFit : Bool) (k : Call) → partIn g (callStateOn numbersFit g k s) ≡ partIn g (callStateOn numbersFit g k t)
   unfolding callStateOn
-  same-part fits k = go (isCard s) (isCard t) refl (ap (λ (n : ℕ). eqb n 858) sized) (ltb g 2) fits (eqb (answerNumber (outcomeOf (cardOf s) g k .answer)) 0) (eqb (answerNumber (outcomeOf (cardOf t) g k .answer)) 0) tests
+  same-part numbersFit k = go (isCard s) (isCard t) refl (ap (λ (n : ℕ). eqb n 858) sized) (ltb g 2) numbersFit (eqb (answerNumber (outcomeOf (cardOf s) g k .answer)) 0) (eqb (answerNumber (outcomeOf (cardOf t) g k .answer)) 0) tests
     where
       after : AlikeAfter g (outcomeOf (cardOf s) g k) (outcomeOf (cardOf t) g k)
       after = alike-call g (cardOf s) (cardOf t) alike k
@@ -288,7 +288,7 @@ pub call-keeps : (state : List ℕ) (c : Card) (g : ℕ) (k : Call) (b : Bool) �
 call-keeps state c g k true o = fit-keeps state c g k o
 call-keeps state c g k false o = unfit-keeps state c g k o
 
-asked-keeps : (state : List ℕ) (c : Card) (g : ℕ) (k : Asked) → KeepsCard state c → KeepsCard (stateAfter state g k) (cond (fits k) (cardAfter c g k) c)
+asked-keeps : (state : List ℕ) (c : Card) (g : ℕ) (k : Asked) → KeepsCard state c → KeepsCard (stateAfter state g k) (cond (numbersFit k) (cardAfter c g k) c)
 asked-keeps state c g (Do k) o = call-keeps state c g k (fitting k) o
 asked-keeps state c g (Packet i h4) o = o
 asked-keeps state c g (Payload i p frame member) o = o
@@ -300,7 +300,7 @@ asked-keeps state c g Owned o = o
 run-keeps : (state : List ℕ) (c : Card) (ms : List Made) → KeepsCard state c → KeepsCard (stateAfterAll state ms) (run c (meant ms))
 run-keeps state c [] o = o
 run-keeps state c (m ∷ ms) o =
-    rw (← chosen (fits (m .asked))) (run-keeps (stateAfter state (m .group) (m .asked)) (cond (fits (m .asked)) (cardAfter c (m .group) (m .asked)) c) ms (asked-keeps state c (m .group) (m .asked) o))
+    rw (← chosen (numbersFit (m .asked))) (run-keeps (stateAfter state (m .group) (m .asked)) (cond (numbersFit (m .asked)) (cardAfter c (m .group) (m .asked)) c) ms (asked-keeps state c (m .group) (m .asked) o))
   where
     chosen : (b : Bool) → run (cond b (cardAfter c (m .group) (m .asked)) c) (meant ms) ≡ run c (cond b (m ∷ meant ms) (meant ms))
     chosen true = refl

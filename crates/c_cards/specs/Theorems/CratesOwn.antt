@@ -7,10 +7,10 @@ use lib.Dec.{eqb, ltb}
 use lib.ListN.{length}
 use borrow.Author.Tests.{eq-eqb, eqb-true, lt-ltb}
 use Rattle.ground.specs.Flags.{oneIf}
-use Rattle.circuits.specs.Answers.{answerNumber as cardNumber, fromSender}
-use Rattle.circuits.specs.Calls.{Call, outcomeOf}
-use Rattle.circuits.specs.Commands.{startOf as cardStart}
-use Rattle.circuits.specs.Readings as card
+use Rattle.cards.specs.Answers.{answerNumber as cardNumber, fromSender}
+use Rattle.cards.specs.Calls.{Call, outcomeOf}
+use Rattle.cards.specs.Commands.{startOf as cardStart}
+use Rattle.cards.specs.Readings as card
 use Rattle.paths.specs.Answers.{answerOf}
 use Rattle.paths.specs.Answers.{numberOf as planNumber}
 use Rattle.paths.specs.Checking.{checkedOf}

@@ -25,7 +25,7 @@ use Rattle.c_cards.specs.Going.{changesAnswerC, changesBytesC, changesTo
 use Rattle.c_face.specs.Keeping.{senderOf}
 use Rattle.c_cards.specs.Listening.{Heard, Holds, Host, Roomy, Said, answersTo, heardAfter, heardOf, senderHost, toldTable}
 use Rattle.c_cards.specs.Listening.Said.{Make, Tell}
-use Rattle.c_face.specs.Runs.{fits}
+use Rattle.c_face.specs.Runs.{numbersFit}
 use Rattle.c_face.specs.Senders.{areBytes, callAnswerC, callStateC, startAnswerC, startStateC}
 use Rattle.c_face.specs.Theorems.Runs.{Keeps, call-keeps, start-keeps, unfit-keeps}
 use Rattle.c_cards.specs.Theorems.Told.{applied-answer, applied-bytes, back, board-long}
@@ -164,7 +164,7 @@ module _ (kind count : ℕ) where
           rw (number-is false start) (record { sender = s; keeps = unfit-keeps state s start (q .keeps); going = q .going; now = q .now; fine = q .fine })
 
     next-call : (c : SenderCall) → Taken (senderHost .left state c) (cond (senderHost .starts state c) (senderHost .table state) last)
-    next-call (OnTable c) = next-table (fits (OnTable c)) c
+    next-call (OnTable c) = next-table (numbersFit (OnTable c)) c
     next-call (StartEpoch gid mst ack) = next-start gid mst ack (areBytes gid mst ack) (ltb gid 2 && ltb ack 2) refl
 
 module _ (kind count first : ℕ) (state : List ℕ) (done : startAnswerC kind count first state ≡ 0) where

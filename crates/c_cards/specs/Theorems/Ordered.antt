@@ -9,13 +9,13 @@ use lib.ListN.{getD, length, take}
 use borrow.Author.Tests.{eq-eqb}
 use Rattle.ground.specs.Drawn.{fillAt, length-fillAt}
 use Rattle.ground.specs.Table.{tabulate-ext}
-use Rattle.circuits.specs.declared.card.Card.{Card}
-use Rattle.circuits.specs.declared.card.CardOutcome.{CardOutcome}
-use Rattle.circuits.specs.Answers.{answerNumber}
-use Rattle.circuits.specs.Calls.{Call, outcomeOf}
-use Rattle.circuits.specs.Owners.{ownerIn}
-use Rattle.circuits.specs.Parts as P
-use Rattle.circuits.specs.Views.Asked.{Do}
+use Rattle.cards.specs.declared.card.Card.{Card}
+use Rattle.cards.specs.declared.card.CardOutcome.{CardOutcome}
+use Rattle.cards.specs.Answers.{answerNumber}
+use Rattle.cards.specs.Calls.{Call, outcomeOf}
+use Rattle.cards.specs.Owners.{ownerIn}
+use Rattle.cards.specs.Parts as P
+use Rattle.cards.specs.Views.Asked.{Do}
 use Rattle.orders.specs.declared.commands.Kind as K
 use Rattle.orders.specs.Laws.Folding.{cut-numbers, cut-state, stateAt}
 use Rattle.orders.specs.Orders.{callBy}

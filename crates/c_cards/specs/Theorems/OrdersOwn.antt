@@ -8,7 +8,7 @@ use native.Mathlib.Omega.{arith}
 use lib.Dec.{eqb, ltb}
 use lib.ListN.{drop, getD, length, length-set}
 use borrow.Author.Tests.{eq-eqb, eqb-false, ltb-true}
-use Rattle.counting.specs.Each.{length-each}
+use Rattle.ground.specs.Counting.Each.{length-each}
 use Rattle.ground.specs.Table.{length-tabulate}
 use Rattle.ground.specs.Truth.{cond-by, eq-or-ne}
 use Rattle.sender.specs.declared.epochs.Sender.{Sender}
@@ -17,18 +17,18 @@ use Rattle.sender.specs.declared.table.Table.{Table}
 use Rattle.sender.specs.Calls.{Call as T}
 use Rattle.sender.specs.Commands.{addOf, addedTo, fallen, fallenIn, idleSlot, removeOf, removedFrom}
 use Rattle.sender.specs.Epochs.{SenderCall as S, senderOutcomeOf}
-use Rattle.sender.specs.Table.{isMember, sizeOf, slotAt}
-use Rattle.circuits.specs.declared.answers.Answer.{Answer}
-use Rattle.circuits.specs.declared.answers.Answer.the-variants as A
-use Rattle.circuits.specs.declared.card.Card.{Card}
-use Rattle.circuits.specs.declared.card.CardOutcome.{CardOutcome}
-use Rattle.circuits.specs.Answers.{answerNumber}
-use Rattle.circuits.specs.Calls.{outcomeOf}
-use Rattle.circuits.specs.Commands.{claimOf, commandOf, releaseOf, sentOf}
-use Rattle.circuits.specs.Laws.Seeing.{owners-outcome, sender-marked, sender-other, sender-outcome}
-use Rattle.circuits.specs.Owners.{hasOwner, markOf, ownerIn, withOwner}
-use Rattle.circuits.specs.Parts as P
-use Rattle.circuits.specs.Parts.{isSlot, isUsed, marked, owns, refused}
+use Rattle.sender.specs.Table.{isMember, slotCount, slotAt}
+use Rattle.cards.specs.declared.answers.Answer.{Answer}
+use Rattle.cards.specs.declared.answers.Answer.the-variants as A
+use Rattle.cards.specs.declared.card.Card.{Card}
+use Rattle.cards.specs.declared.card.CardOutcome.{CardOutcome}
+use Rattle.cards.specs.Answers.{answerNumber}
+use Rattle.cards.specs.Calls.{outcomeOf}
+use Rattle.cards.specs.Commands.{claimOf, commandOf, releaseOf, sentOf}
+use Rattle.cards.specs.Laws.Seeing.{owners-outcome, sender-marked, sender-other, sender-outcome}
+use Rattle.cards.specs.Owners.{hasOwner, markOf, ownerIn, withOwner}
+use Rattle.cards.specs.Parts as P
+use Rattle.cards.specs.Parts.{isSlot, isUsed, marked, owns, refused}
 use Rattle.orders.specs.declared.commands.Kind as K
 use Rattle.orders.specs.Orders.{callBy, ordersOf, outcomeBy}
 use Rattle.c_cards.specs.Cards.{callAnswerOn, callStateOn, cardOf, keptCard, ownersIn, partIn, putOwn}
@@ -59,7 +59,7 @@ slots-add : (t : Table) (i : ℕ) → length (addOf t i .table .slots) ≡ lengt
 unfolding addOf addedTo
 slots-add t i =
     let Q : Outcome → Type 0 = λ o. length (o .table .slots) ≡ length (t .slots) in
-    cond-by Q (ltb i (sizeOf (t .count))) _ _
+    cond-by Q (ltb i (slotCount (t .count))) _ _
     (λ l. cond-by Q (t .wait) _ _ (λ w. refl) (λ w. cond-by Q (not (isMember (slotAt (t .slots) i .state))) _ _ (λ a. length-set (t .slots) i _) (λ a. refl)))
     (λ l. refl)
 
@@ -68,10 +68,10 @@ unfolding removeOf removedFrom fallenIn
 slots-remove t i =
     let Q : Outcome → Type 0 = λ o. length (o .table .slots) ≡ length (t .slots) in
     let q : ℕ = slotAt (t .slots) i .number in
-    cond-by Q (ltb i (sizeOf (t .count))) _ _
+    cond-by Q (ltb i (slotCount (t .count))) _ _
     (λ l.
     cond-by Q (t .wait) _ _ (λ w. refl)
-    (λ w. cond-by Q (isMember (slotAt (t .slots) i .state)) _ _ (λ a. length-set (fallenIn (t .slots) (sizeOf (t .count)) q) i (idleSlot (t .kind)) ∙ length-each (sizeOf (t .count)) (λ j. fallen q (slotAt (t .slots) j)) (t .slots)) (λ a. refl)))
+    (λ w. cond-by Q (isMember (slotAt (t .slots) i .state)) _ _ (λ a. length-set (fallenIn (t .slots) (slotCount (t .count)) q) i (idleSlot (t .kind)) ∙ length-each (slotCount (t .count)) (λ j. fallen q (slotAt (t .slots) j)) (t .slots)) (λ a. refl)))
     (λ l. refl)
 
 whole-add : (s : Sender) (i : ℕ) → Whole s → Whole (senderOutcomeOf s (S.OnTable (T.AddSlot i)) .sender)

@@ -13,7 +13,7 @@ use Rattle.sender.specs.declared.board.Board.{Board}
 use Rattle.sender.specs.declared.table.Table.{Table}
 use Rattle.sender.specs.Laws.Carrying.{size-size}
 use Rattle.sender.specs.Ranks.{rowAt}
-use Rattle.sender.specs.Table.{sizeOf}
+use Rattle.sender.specs.Table.{slotCount}
 use Rattle.spoken.specs.Applying.{appliedOf, changeIn}
 use Rattle.spoken.specs.Changes.{answerNumber, comparedOf, noChange}
 use Rattle.spoken.specs.declared.applying.Applied.{Applied}
@@ -60,7 +60,7 @@ module _ (b : Board) where
       sym (tabulate-is (b .rows) 64 (rowIn (boardBytesOf b) 2) (record { word = record { 0 = 0 }; number = 0 }) e
       (λ i h. sym (rw (word-back i h, number-back i h) refl)))
 
-  count-back : getD (boardBytesOf b) 0 0 ≡ sizeOf (b .count)
+  count-back : getD (boardBytesOf b) 0 0 ≡ slotCount (b .count)
   unfolding boardByte
   count-back = read 0 (omega arith)
 
@@ -69,7 +69,7 @@ module _ (b : Board) where
   wait-back = read 1 (omega arith)
 
   -- a board of 64 rows whose count is not above them
-  pub board-back : length (b .rows) ≡ 64 → sizeOf (b .count) ≡ b .count → boardFrom (boardBytesOf b) ≡ b
+  pub board-back : length (b .rows) ≡ 64 → slotCount (b .count) ≡ b .count → boardFrom (boardBytesOf b) ≡ b
   board-back e n = rw (rows-back e, count-back, wait-back, n, flag-back (b .wait)) refl
 
 wait-code-back : (w : WaitChange) → waitFrom (waitCode w) ≡ w
@@ -129,7 +129,7 @@ module _ (cs : Changes) where
   changes-wait = rw second-back (wait-code-known (cs .wait))
 
 -- the board of a table is read back as it was
-size-own : (v : Table) → sizeOf (boardOf v .count) ≡ boardOf v .count
+size-own : (v : Table) → slotCount (boardOf v .count) ≡ boardOf v .count
 unfolding boardOf
 size-own v = size-size (v .count)
 

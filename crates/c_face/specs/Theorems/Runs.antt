@@ -7,7 +7,7 @@ use lib.Dec.{eqb, ltb}
 use lib.ListN.{length, length-replicate, replicate}
 use native.Mathlib.Omega.{arith}
 use borrow.Author.Tests.{eq-eqb}
-use Rattle.counting.specs.Each.{length-each}
+use Rattle.ground.specs.Counting.Each.{length-each}
 use Rattle.ground.specs.Table.{length-tabulate}
 use Rattle.sender.specs.Board.{boardOf, noRow, rowOf, rowsOf}
 use Rattle.sender.specs.SenderRuns.{Demand2Kept}
@@ -25,10 +25,10 @@ use Rattle.sender.specs.Epochs.SenderCall.{OnTable, StartEpoch}
 use Rattle.sender.specs.Laws.Kept.{Sound, sound-call, sound-start}
 use Rattle.sender.specs.Numbering.{Demand2}
 use Rattle.sender.specs.Reports.{reportOf}
-use Rattle.sender.specs.Table.{answerNumber, isMember, sizeOf, slotAt}
+use Rattle.sender.specs.Table.{answerNumber, isMember, slotCount, slotAt}
 use Rattle.sender.specs.Theorems.Demand2.{sound-demand2}
 use Rattle.c_face.specs.Keeping.{Whole, bytesOf, byteAt, senderOf}
-use Rattle.c_face.specs.Runs.{fits, meant, runC}
+use Rattle.c_face.specs.Runs.{numbersFit, meant, runC}
 use Rattle.c_face.specs.Senders.{callStateC, isEpoch, isState, keptBytes, noStart, startAnswerC, startStateC}
 use Rattle.c_face.specs.Theorems.Round.{round}
 
@@ -44,7 +44,7 @@ keepable-whole s h = record { slots = h .table .whole; outgoing = h .outgoing; r
 board-whole : (t : Table) → length (boardOf t .rows) ≡ 64
 unfolding boardOf rowsOf
 board-whole t =
-    length-each (sizeOf (t .count)) (λ i. rowOf (t .slots) (sizeOf (t .count)) i) (replicate 64 (noRow (t .kind))) ∙ length-replicate 64 (noRow (t .kind))
+    length-each (slotCount (t .count)) (λ i. rowOf (t .slots) (slotCount (t .count)) i) (replicate 64 (noRow (t .kind))) ∙ length-replicate 64 (noRow (t .kind))
 
 pub keepable-begin : (kind count first : ℕ) → Keepable (beginOf kind count first .sender)
 unfolding beginOf freshSender
@@ -69,9 +69,9 @@ refuses a = eqb (answerNumber a) 0
 
 order-given : (t next : Table) (i : ℕ) (allowed : Bool) → refuses (inOrder t i allowed next .answer) ≡ false → inOrder t i allowed next .table ≡ t
 unfolding refuses
-order-given t next i allowed k = go (ltb i (sizeOf (t .count))) (t .wait) allowed refl refl k
+order-given t next i allowed k = go (ltb i (slotCount (t .count))) (t .wait) allowed refl refl k
   where
-    go : (b w a : Bool) → ltb i (sizeOf (t .count)) ≡ b → t .wait ≡ w → eqb (answerNumber (inOrder t i a next .answer)) 0 ≡ false → inOrder t i a next .table ≡ t
+    go : (b w a : Bool) → ltb i (slotCount (t .count)) ≡ b → t .wait ≡ w → eqb (answerNumber (inOrder t i a next .answer)) 0 ≡ false → inOrder t i a next .table ≡ t
     go true true a eb ew k = rw (eb, ew) refl
     go true false true eb ew k = absurd (true≢false (rw (eb, ew) at k))
     go true false false eb ew k = rw (eb, ew) refl
@@ -131,7 +131,7 @@ unfit-keeps state s c k = rw (eq-eqb (length state) 397 (k .sized)) k
 
 run-keeps : (state : List ℕ) (s : Sender) (cs : List SenderCall) → Keeps state s → Keeps (runC state cs) (senderRun s (meant cs))
 run-keeps state s [] k = k
-run-keeps state s (c ∷ cs) k = go (λ t u w. run-keeps t u cs w) (fits c)
+run-keeps state s (c ∷ cs) k = go (λ t u w. run-keeps t u cs w) (numbersFit c)
   where
     go : ((t : List ℕ) (u : Sender) → Keeps t u → Keeps (runC t cs) (senderRun u (meant cs))) → (b : Bool)
         → Keeps (runC (callStateC b c state) cs) (senderRun s (cond b (c ∷ meant cs) (meant cs)))

@@ -1,5 +1,5 @@
 -- A replay for C is the crate's own (2026-05): what is kept in the 17 bytes is read back as it was, so a host in C that makes turn after turn has the replay, the rows, the store, the output
--- and the printed lines of a host that calls the crate itself. What is proved of that one (crates/replaying/specs/Theorems) holds of it.
+-- and the printed lines of a host that calls the crate itself. What is proved of that one (crates/replay_lines/specs/Theorems) holds of it.
 use mathlib.Core.Path.{_≡_, refl, sym}
 use mathlib.Core.List.{List}
 use Prim.Native.Nat.{ℕ, _+_, _*_, _/_, _%_, _≤_}
@@ -7,10 +7,10 @@ use native.Mathlib.Omega.{arith}
 use lib.ListN.{drop, length}
 use lib.Seq.{drop-drop}
 use borrow.Author.Tests.{eq-eqb, le-leb}
-use Rattle.replaying.specs.declared.replay.Phase.{Phase}
-use Rattle.replaying.specs.declared.replay.Phase.the-variants.{Settings, Reading, Fetching, Skipping, Ended}
-use Rattle.replaying.specs.declared.replay.Replay.{Replay}
-use Rattle.replaying.specs.Runs.{Host, answer, called}
+use Rattle.replay_lines.specs.declared.replay.Phase.{Phase}
+use Rattle.replay_lines.specs.declared.replay.Phase.the-variants.{Settings, Reading, Fetching, Skipping, Ended}
+use Rattle.replay_lines.specs.declared.replay.Replay.{Replay}
+use Rattle.replay_lines.specs.Runs.{Host, answer, called}
 use Rattle.c_recordings.specs.Replays.{SameDone, SameLeft, bytesOf, fourOf, lastC, lineIn, phaseCode, phaseOf, replayOf, turnAnswerC, turnAtC, turnOutC, turnRowsC, turnSaidC, turnStateC, turnStoreC, turnWrittenC, twoOf}
 
 phase-back : (p : Phase) → phaseOf (phaseCode p) ≡ p

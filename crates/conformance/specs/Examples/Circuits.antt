@@ -3,10 +3,10 @@ use mathlib.Core.List.{List, [], _∷_, _++_}
 use Prim.Native.Nat.{ℕ}
 use lib.ListN.{getD, replicate, take}
 use Rattle.c_cards.specs.Cards.{putOwn}
-use Rattle.circuits.specs.Calls.Call.{AddSlot, Claim, Lapse, Release, RemoveSlot, Report}
-use Rattle.circuits.specs.Readings.{ownedShown}
-use Rattle.circuits.specs.Shown.{after, board, by, told}
-use Rattle.circuits.specs.Views.{Made}
+use Rattle.cards.specs.Calls.Call.{AddSlot, Claim, Lapse, Release, RemoveSlot, Report}
+use Rattle.cards.specs.Readings.{ownedShown}
+use Rattle.cards.specs.Shown.{after, board, by, told}
+use Rattle.cards.specs.Views.{Made}
 use Rattle.tables.specs.Rows.{Equal, Row, equal-rows, row, same}
 use Rattle.conformance.specs.Opened.{allOpen}
 

@@ -3,9 +3,9 @@ use mathlib.Core.Path.{_≡_, refl}
 use mathlib.Core.List.{List, [], _∷_, _++_}
 use Prim.Native.Nat.{ℕ}
 use Rattle.c_cards.specs.Orders.{kindOf}
-use Rattle.circuits.specs.declared.card.Card.{Card}
-use Rattle.circuits.specs.Calls.Call.{AddSlot, Claim}
-use Rattle.circuits.specs.Shown.{after, board, by}
+use Rattle.cards.specs.declared.card.Card.{Card}
+use Rattle.cards.specs.Calls.Call.{AddSlot, Claim}
+use Rattle.cards.specs.Shown.{after, board, by}
 use Rattle.tables.specs.Rows.{Equal, Row, equal-rows, row, same}
 use Rattle.orders.specs.declared.commands.Command.{Command}
 use Rattle.orders.specs.declared.commands.Kind as K

@@ -11,7 +11,7 @@ use Rattle.packet.specs.Shares.{joinedTo, shareOf}
 use Rattle.packet.specs.Words.{FIXED, ADD, NORM, EOS, IDLE, DNU}
 use Rattle.packet.specs.Writing.{writeAnswer, writeBytes, writingNumber}
 use Rattle.text.specs.Ascii.{ascii}
-use Rattle.console.specs.Runs.{wholeOutput}
+use Rattle.session_lines.specs.Runs.{wholeOutput}
 use Rattle.paths.specs.Answers.{answerOf}
 use Rattle.paths.specs.Answers.{numberOf as planNumber}
 use Rattle.paths.specs.Checking.{checkedOf}

@@ -7,12 +7,12 @@ use lib.ListN.{drop, replicate, take}
 use Rattle.ground.specs.Plain.{if_then_else_}
 use Rattle.recording.specs.declared.record.Record.{Record}
 use Rattle.recording.specs.declared.record.Record.the-variants as R
-use Rattle.replaying.specs.declared.replay.Phase.{Phase}
-use Rattle.replaying.specs.declared.replay.Phase.the-variants as P
-use Rattle.replaying.specs.Output.{reportText, statesIn}
-use Rattle.replaying.specs.Replay.{beginning}
-use Rattle.replaying.specs.Runs.{Desk, deskAfter, framed, lineIn, reported, saidTo, standing}
-use Rattle.replaying.specs.Turn.{blamedIn, fetchRecordBy, fetchRowsBy, isDue}
+use Rattle.replay_lines.specs.declared.replay.Phase.{Phase}
+use Rattle.replay_lines.specs.declared.replay.Phase.the-variants as P
+use Rattle.replay_lines.specs.Output.{reportText, statesIn}
+use Rattle.replay_lines.specs.Replay.{beginning}
+use Rattle.replay_lines.specs.Runs.{Desk, deskAfter, framed, lineIn, reported, saidTo, standing}
+use Rattle.replay_lines.specs.Turn.{blamedIn, fetchRecordBy, fetchRowsBy, isDue}
 use Rattle.rows.specs.Rows.{rowsFor}
 use Rattle.text.specs.Ascii.{ascii}
 use Rattle.text.specs.Text.{linesOf}

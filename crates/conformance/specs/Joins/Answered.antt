@@ -133,7 +133,7 @@ module _ (s : List (List ℕ)) (i : ℕ) (failed : Bool) (h : ℕ) (payload stor
       let o : inStepAt (groupAt r .kind) (stepAt r i .count) ≡ false = rw (k, c .count) (w .0) in
       record {
         not-in-step = o;
-        unreadable = unread (flagOf (groupAt r .begun)) (inStepAt (groupAt r .kind) (stepAt r i .count)) (flagOf (stepAt r i .joined) || flagOf (stepAt r i .since)) o;
+        unreadable = unread (flagOf (groupAt r .begun)) (inStepAt (groupAt r .kind) (stepAt r i .count)) (flagOf (stepAt r i .joined) || flagOf (stepAt r i .«ever_since»)) o;
         flag-is = c .failed ∙ w .1;
       }
 

@@ -21,11 +21,11 @@ use Rattle.recording.specs.declared.record.Record.{Record}
 use Rattle.recording.specs.declared.record.Record.the-variants.{Frame, Malformed, Long, Unfinished, End}
 use Rattle.recording.specs.Opening.{Opening, lineOpening}
 use Rattle.recording.specs.Opening.{Opening as O}
-use Rattle.replaying.specs.declared.replay.Phase.{Phase}
-use Rattle.replaying.specs.declared.replay.Phase.the-variants.{Settings, Reading, Fetching, Skipping, Ended}
-use Rattle.replaying.specs.Replay.{beginning}
-use Rattle.replaying.specs.Runs.{Desk, deskAfter, deskBy, deskThrough, fetched, framed, lineIn, outputFrom, readBy, readText, refusal, reported, reports, saidTo, textBy, wholeOutput}
-use Rattle.replaying.specs.Turn.{answeredTurn, isDue, openWithTurn, startable, startedTurn, storeIn, timesFit}
+use Rattle.replay_lines.specs.declared.replay.Phase.{Phase}
+use Rattle.replay_lines.specs.declared.replay.Phase.the-variants.{Settings, Reading, Fetching, Skipping, Ended}
+use Rattle.replay_lines.specs.Replay.{beginning}
+use Rattle.replay_lines.specs.Runs.{Desk, deskAfter, deskBy, deskThrough, fetched, framed, lineIn, outputFrom, readBy, readText, refusal, reported, reports, saidTo, textBy, wholeOutput}
+use Rattle.replay_lines.specs.Turn.{answeredTurn, isDue, openWithTurn, startable, startedTurn, storeIn, timesFit}
 use Rattle.text.specs.Text.{linesOf}
 
 -- the answers agree: a replay starts where mending answers 0 and the store that is lent is large enough

@@ -7,7 +7,7 @@ use native.Mathlib.Omega.{arith}
 use lib.ListN.{length, length-replicate, replicate}
 use borrow.Author.Tests.{lt-ltb}
 use Rattle.c_face.specs.Keeping.{senderOf}
-use Rattle.c_face.specs.Runs.{fits, meant, runC}
+use Rattle.c_face.specs.Runs.{numbersFit, meant, runC}
 use Rattle.c_face.specs.Senders.{packetBytesC, payloadBytesC, startAnswerC, startStateC}
 use Rattle.c_face.specs.Theorems.CratesOwn.{packet-own, payload-own}
 use Rattle.c_face.specs.Theorems.Runs.{runs-own, runs-sized}
@@ -19,7 +19,8 @@ use Rattle.link.specs.Sending.{Client, epochAt}
 use Rattle.link.specs.Proofs.Histories.Packets.{packet-any}
 use Rattle.link.specs.Proofs.Histories.Ruling.{x-le}
 use Rattle.packet.specs.Kinds.{frames, payloadRight}
-use Rattle.payload.specs.Laws.Fits.{Sizes, spread-one-done}
+use Rattle.payload.specs.Answers.{Sizes}
+use Rattle.payload.specs.Laws.Fits.{spread-one-done}
 use Rattle.payload.specs.Order.{memberFrame}
 use Rattle.payload.specs.Spreading.{spreadOne}
 use Rattle.sender.specs.Epochs.{SenderCall, beginOf, onTable, packetBytes, payloadBytes, rankIn, senderRun, xOf}
@@ -28,16 +29,16 @@ use Rattle.sender.specs.declared.epochs.Sender.{Sender}
 use Rattle.sender.specs.Calls.{Call}
 use Rattle.sender.specs.Epochs.SenderCall.{OnTable, StartEpoch}
 use Rattle.sender.specs.Laws.Runs.{sender-append}
-use Rattle.sender.specs.Table.{sizeOf}
+use Rattle.sender.specs.Table.{slotCount}
 
 -- calls on the table that a C host can make: each number of a report is a byte
 abbrev pub Bytes : List Call → Type 0
 Bytes [] = Unit {0}
-Bytes (c ∷ cs) = (fits (OnTable c) ≡ true) × Bytes cs
+Bytes (c ∷ cs) = (numbersFit (OnTable c) ≡ true) × Bytes cs
 
 abbrev AllFit : List SenderCall → Type 0
 AllFit [] = Unit {0}
-AllFit (c ∷ cs) = (fits c ≡ true) × AllFit cs
+AllFit (c ∷ cs) = (numbersFit c ≡ true) × AllFit cs
 
 fit-append : (a b : List SenderCall) → AllFit a → AllFit b → AllFit (a ++ b)
 fit-append [] b fa fb = fb
@@ -109,9 +110,9 @@ module _ (h : History) (a : Allowed h) (bytes : (i : ℕ) → Bytes (h .before i
     unfolding payloadBytes
     payload-written x slot b member l =
         let s : Sender = senderAt h (epochAt (h .kind) x) in
-        picks-payload (slot <? sizeOf (senderAt h (epochAt (h .kind) x) .table .count)) (payloadRight (senderAt h (epochAt (h .kind) x) .table .kind) P) (senderAt h (epochAt (h .kind) x) .begun)
+        picks-payload (slot <? slotCount (senderAt h (epochAt (h .kind) x) .table .count)) (payloadRight (senderAt h (epochAt (h .kind) x) .table .kind) P) (senderAt h (epochAt (h .kind) x) .begun)
         (spreadOne (xOf (senderAt h (epochAt (h .kind) x))) P (rankIn (senderAt h (epochAt (h .kind) x)) slot) (client x) member) member
-        (lt-ltb slot (sizeOf (senderAt h (epochAt (h .kind) x) .table .count)) (rw (size-at h a (epochAt (h .kind) x)) b)) (rw (sender-in h a (epochAt (h .kind) x) .kind) (c .payload-right)) (sender-in h a (epochAt (h .kind) x) .begun)
+        (lt-ltb slot (slotCount (senderAt h (epochAt (h .kind) x) .table .count)) (rw (size-at h a (epochAt (h .kind) x)) b)) (rw (sender-in h a (epochAt (h .kind) x) .kind) (c .payload-right)) (sender-in h a (epochAt (h .kind) x) .begun)
         ∙ spread-one-done (xOf s) P (rankIn s slot) (client x) member (sizes x) (c .whole x) l
 
     -- and levelspruce_sender_payload, frame by frame

@@ -5,17 +5,17 @@ use mathlib.Core.Bool.{Bool, true}
 use mathlib.Core.List.{List, _∷_}
 use Prim.Native.Nat.{ℕ, zero, suc, _≤_, _<_}
 use lib.ListN.{length}
-use Rattle.c_cards.specs.CardRuns.{fits, meant, stateAfterAll}
+use Rattle.c_cards.specs.CardRuns.{numbersFit, meant, stateAfterAll}
 use Rattle.c_cards.specs.Cards.{cardOf, packetAnswerOn, packetBytesOn, partIn, payloadAnswerOn, payloadBytesOn, startAnswerOn, startStateOn}
 use Rattle.c_face.specs.Keeping.{senderOf}
 use Rattle.c_cards.specs.Theorems.CardRuns.{card-runs-own, card-runs-sized, part-of}
 use Rattle.c_cards.specs.Theorems.CratesOwn.{card-packet-own, card-payload-own}
-use Rattle.circuits.specs.Answers.{answerNumber}
-use Rattle.circuits.specs.Commands.{startOf}
-use Rattle.circuits.specs.declared.card.Card.{Card}
-use Rattle.circuits.specs.Readings.{packetAnswer, packetBytes, payloadAnswer, payloadBytes}
-use Rattle.circuits.specs.Parts as P
-use Rattle.circuits.specs.Views.{Made, run}
+use Rattle.cards.specs.Answers.{answerNumber}
+use Rattle.cards.specs.Commands.{startOf}
+use Rattle.cards.specs.declared.card.Card.{Card}
+use Rattle.cards.specs.Readings.{packetAnswer, packetBytes, payloadAnswer, payloadBytes}
+use Rattle.cards.specs.Parts as P
+use Rattle.cards.specs.Views.{Made, run}
 use Rattle.ground.specs.Plain.{if_then_else_}
 use Rattle.ground.specs.Table.{tabulate}
 use Rattle.groups.specs.Assumed.{AssumedEach}
@@ -41,14 +41,14 @@ pub record GivesC (kind g : ℕ) (k : Link) (state : List ℕ) (i slot : ℕ) : 
       → payloadBytesOn state g slot (k .payload) (k .client x) member ≡ k .sending .payload x slot
 
 -- calls without a number that is no byte are all meant
-all-meant : (n : ℕ) (f : ℕ → Made) → ((j : ℕ) → fits (f j .asked) ≡ true) → meant (tabulate n f) ≡ tabulate n f
+all-meant : (n : ℕ) (f : ℕ → Made) → ((j : ℕ) → numbersFit (f j .asked) ≡ true) → meant (tabulate n f) ≡ tabulate n f
 all-meant zero f fit = refl
 all-meant (suc n) f fit =
     ap (λ (b : Bool). if b then f zero ∷ meant (tabulate n (λ j. f (suc j))) else meant (tabulate n (λ j. f (suc j)))) (fit zero)
     ∙ ap (λ (l : List Made). f zero ∷ l) (all-meant n (λ j. f (suc j)) (λ j. fit (suc j)))
 
 -- A card's history, with numbers that are bytes, and a C start of its kind, slots and first epochs that was done.
-module _ (h : CardHistory) (bytes : (n : ℕ) → fits (h .made n .asked) ≡ true) (state : List ℕ) (done : startAnswerOn (h .kind) (h .slots) (h .first 0) (h .first 1) state ≡ 0) where
+module _ (h : CardHistory) (bytes : (n : ℕ) → numbersFit (h .made n .asked) ≡ true) (state : List ℕ) (done : startAnswerOn (h .kind) (h .slots) (h .first 0) (h .first 1) state ≡ 0) where
   -- the state after its first n calls, each made in C
   abbrev pub stateAt : (n : ℕ) → List ℕ
   stateAt n = stateAfterAll (startStateOn (h .kind) (h .slots) (h .first 0) (h .first 1) state) (tabulate n (h .made))

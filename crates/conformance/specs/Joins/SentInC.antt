@@ -9,7 +9,7 @@ use native.Mathlib.Omega.{arith}
 use lib.ListN.{getD, length}
 use borrow.Author.Tests.{eq-eqb, lt-ltb, ltb-false, ltb-true}
 use Rattle.c_face.specs.Keeping.{senderOf}
-use Rattle.c_face.specs.Runs.{fits, meant, runC}
+use Rattle.c_face.specs.Runs.{numbersFit, meant, runC}
 use Rattle.c_face.specs.Senders.{areBytes, isEpoch, isState, outside, packetAnswerC, packetBytesC, sends, startAnswerC, startStateC}
 use Rattle.c_face.specs.Theorems.CratesOwn.{packet-own}
 use Rattle.c_face.specs.Theorems.Runs.{runs-own, runs-sized}
@@ -34,7 +34,7 @@ use Rattle.sender.specs.Epochs.SenderCall.{OnTable, StartEpoch}
 use Rattle.sender.specs.declared.table.Answer.the-variants.{Done, Field}
 use Rattle.sender.specs.Laws.Kept.{group-call, start-kind}
 use Rattle.sender.specs.Laws.Sizes.{size-large, size-small}
-use Rattle.sender.specs.Table.{answerNumber, sizeOf}
+use Rattle.sender.specs.Table.{answerNumber, slotCount}
 
 pub record WrittenC (kind : ℕ) (state : List ℕ) (slot : ℕ) (bytes : List ℕ) : Type 0 where
   pub answer : packetAnswerC state slot bytes ≡ 0
@@ -46,7 +46,7 @@ pub record WrittenC (kind : ℕ) (state : List ℕ) (slot : ℕ) (bytes : List �
 -- the calls of an epoch that are not refused for a number that is no byte are given bytes
 meant-given : (cs : List SenderCall) → AllGiven (meant cs)
 meant-given [] = tt
-meant-given (OnTable c ∷ cs) = go (fits (OnTable c)) (meant-given cs)
+meant-given (OnTable c ∷ cs) = go (numbersFit (OnTable c)) (meant-given cs)
   where
     go : (b : Bool) → AllGiven (meant cs) → AllGiven (if b then OnTable c ∷ meant cs else meant cs)
     go true rest = (tt, rest)
@@ -96,16 +96,16 @@ module _ {A : Type 0} (a b c : Bool) (ea : a ≡ true) (eb : b ≡ true) (ec : c
   three x y = rw (ea, eb, ec) refl
 
 -- a slot's packet, once it is answered 0
-module _ (s : Sender) (slot : ℕ) (bytes : List ℕ) (below : slot < sizeOf (s .table .count)) (room : length bytes ≡ frames (s .table .kind)) (begun : s .begun ≡ true) where
+module _ (s : Sender) (slot : ℕ) (bytes : List ℕ) (below : slot < slotCount (s .table .count)) (room : length bytes ≡ frames (s .table .kind)) (begun : s .begun ≡ true) where
   sent-done : packetAnswer s slot bytes ≡ Done → sentAnswer (s .table .kind) (packetFields s slot) bytes ≡ W.Done
   unfolding packetAnswer
   sent-done e =
       written-done (sentAnswer (s .table .kind) (packetFields s slot) bytes)
-      (third _ _ _ (lt-ltb slot (sizeOf (s .table .count)) below) (eq-eqb (length bytes) (frames (s .table .kind)) room) begun _ _ _ _ Done e)
+      (third _ _ _ (lt-ltb slot (slotCount (s .table .count)) below) (eq-eqb (length bytes) (frames (s .table .kind)) room) begun _ _ _ _ Done e)
 
   sent-bytes : packetBytes s slot bytes ≡ sentBytes (s .table .kind) (packetFields s slot) bytes
   unfolding packetBytes
-  sent-bytes = three _ _ _ (lt-ltb slot (sizeOf (s .table .count)) below) (eq-eqb (length bytes) (frames (s .table .kind)) room) begun _ bytes
+  sent-bytes = three _ _ _ (lt-ltb slot (slotCount (s .table .count)) below) (eq-eqb (length bytes) (frames (s .table .kind)) room) begun _ bytes
 
 module _ (kind count first : ℕ) (state : List ℕ) (done : startAnswerC kind count first state ≡ 0) where
   abbrev after : List SenderCall → List ℕ
@@ -135,7 +135,7 @@ module _ (kind count first : ℕ) (state : List ℕ) (done : startAnswerC kind c
   unfolding beginOf freshSender startOf freshOf
   table-count = rw (asked .inside) refl
 
-  size-is : sizeOf count ≡ count
+  size-is : slotCount count ≡ count
   size-is =
       let n = neither (count == 0) (64 <? count) (asked .inside) in
       let most : count ≤ 64 = ltb-false 64 count (n .1) in
@@ -160,19 +160,19 @@ module _ (kind count first : ℕ) (state : List ℕ) (done : startAnswerC kind c
       run-kind : run .table .kind ≡ kind
       run-kind = same .kind ∙ table-kind
 
-      run-size : sizeOf (run .table .count) ≡ count
-      run-size = ap sizeOf (same .count ∙ table-count) ∙ size-is
+      run-size : slotCount (run .table .count) ≡ count
+      run-size = ap slotCount (same .count ∙ table-count) ∙ size-is
 
       kind-is : s .table .kind ≡ kind
       kind-is = ap (λ (r : Sender). r .table .kind) is ∙ run-kind
 
-      size : sizeOf (s .table .count) ≡ count
-      size = ap (λ (r : Sender). sizeOf (r .table .count)) is ∙ run-size
+      size : slotCount (s .table .count) ≡ count
+      size = ap (λ (r : Sender). slotCount (r .table .count)) is ∙ run-size
 
       begun-run : run .begun ≡ true
       begun-run = sym (ap (λ (r : Sender). r .begun) is) ∙ begun
 
-      below-run : slot < sizeOf (run .table .count)
+      below-run : slot < slotCount (run .table .count)
       below-run = rw run-size below
 
       own : (packetAnswerC (after calls) slot bytes ≡ answerNumber (packetAnswer s slot bytes)) × (packetBytesC (after calls) slot bytes ≡ packetBytes s slot bytes)
@@ -183,7 +183,7 @@ module _ (kind count first : ℕ) (state : List ℕ) (done : startAnswerC kind c
           ap (λ (r : Sender). packetAnswer r slot bytes) is
           ∙ packet-done kind count first (meant calls) (asked .epoch) (meant-given calls) begun-run slot below-run bytes (room ∙ ap frames (sym run-kind))
 
-      there : slot < sizeOf (s .table .count)
+      there : slot < slotCount (s .table .count)
       there = rw size below
 
       room-is : length bytes ≡ frames (s .table .kind)

@@ -8,11 +8,11 @@ use Rattle.ground.specs.Plain.{if_then_else_, _==_, _<?_}
 use Rattle.ground.specs.Types.{Bytes}
 use Rattle.c_cards.specs.Cards.{boardBytesOn, callAnswerOn, callStateOn, cardOf, outgoingBytesOn, ownedBytesOn, packetAnswerOn, packetBytesOn, payloadAnswerOn, payloadBytesOn, putCard, ranksBytesOn, shownAnswerOn, shownBytesOn, startAnswerOn, startStateOn}
 use Rattle.c_face.specs.Senders.{areBytes, sends}
-use Rattle.circuits.specs.Answers.{answerNumber}
-use Rattle.circuits.specs.Calls.{Call as CardCall, outcomeOf}
-use Rattle.circuits.specs.Calls.Call.{AddSlot, Claim, Lapse, Release, RemoveSlot, Report, StartEpoch}
-use Rattle.circuits.specs.Commands as card
-use Rattle.circuits.specs.Readings.{packetBytes, payloadBytes}
+use Rattle.cards.specs.Answers.{answerNumber}
+use Rattle.cards.specs.Calls.{Call as CardCall, outcomeOf}
+use Rattle.cards.specs.Calls.Call.{AddSlot, Claim, Lapse, Release, RemoveSlot, Report, StartEpoch}
+use Rattle.cards.specs.Commands as card
+use Rattle.cards.specs.Readings.{packetBytes, payloadBytes}
 use Rattle.conformance.specs.Refusals.Entries.{Call, Copes, If, Refusal, Unless, behind, copes, first, put-anew, stateful, stateless, tested}
 use Rattle.conformance.specs.Refusals.Cards as own
 use Rattle.conformance.specs.Refusals.Cards.{emptyCard}

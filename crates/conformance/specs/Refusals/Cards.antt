@@ -5,18 +5,18 @@ use mathlib.Core.List.{List, [], _∷_}
 use Prim.Native.Nat.{ℕ}
 use lib.ListN.{getD, length, replicate}
 use Rattle.ground.specs.Plain.{if_then_else_, _==_, _<?_}
-use Rattle.circuits.specs.declared.answers.Answer.{Answer}
-use Rattle.circuits.specs.declared.answers.Answer.the-variants as A
-use Rattle.circuits.specs.declared.card.Card.{Card}
-use Rattle.circuits.specs.declared.card.CardOutcome.{CardOutcome}
-use Rattle.circuits.specs.Answers.{answerNumber, fromSender}
-use Rattle.circuits.specs.Calls.{Call as CardCall, outcomeOf}
-use Rattle.circuits.specs.Calls.Call.{AddSlot, Claim, Lapse, Release, RemoveSlot, Report, StartEpoch}
-use Rattle.circuits.specs.Commands.{claimOf, commandOf, groupCallOf, releaseOf, startOf}
-use Rattle.circuits.specs.Laws.GroupSender.{put-back, sender-number}
-use Rattle.circuits.specs.Owners.{ownedBytes}
-use Rattle.circuits.specs.Parts.{emptySender, groupOutcome, isSlot, isUsed, marked, owns, refused, senderOf, shownSender, withSender}
-use Rattle.circuits.specs.Readings.{boardShown, outgoingShown, ownedShown, packetAnswer, packetBytes, payloadAnswer, payloadBytes, ranksShown}
+use Rattle.cards.specs.declared.answers.Answer.{Answer}
+use Rattle.cards.specs.declared.answers.Answer.the-variants as A
+use Rattle.cards.specs.declared.card.Card.{Card}
+use Rattle.cards.specs.declared.card.CardOutcome.{CardOutcome}
+use Rattle.cards.specs.Answers.{answerNumber, fromSender}
+use Rattle.cards.specs.Calls.{Call as CardCall, outcomeOf}
+use Rattle.cards.specs.Calls.Call.{AddSlot, Claim, Lapse, Release, RemoveSlot, Report, StartEpoch}
+use Rattle.cards.specs.Commands.{claimOf, commandOf, groupCallOf, releaseOf, startOf}
+use Rattle.cards.specs.Laws.GroupSender.{put-back, sender-number}
+use Rattle.cards.specs.Owners.{ownedBytes}
+use Rattle.cards.specs.Parts.{emptySender, groupOutcome, isSlot, isUsed, marked, owns, refused, senderOf, shownSender, withSender}
+use Rattle.cards.specs.Readings.{boardShown, outgoingShown, ownedShown, packetAnswer, packetBytes, payloadAnswer, payloadBytes, ranksShown}
 use Rattle.conformance.specs.Refusals.Entries.{Call, Copes, If, Refusal, Unless, copes, stateful, stateless}
 use Rattle.conformance.specs.Refusals.Epochs as sender
 use Rattle.conformance.specs.Refusals.Tables.{idle, member-is, stateAt}
@@ -27,7 +27,7 @@ use Rattle.sender.specs.Board.{boardOf}
 use Rattle.sender.specs.Commands.{freshOf}
 use Rattle.sender.specs.Epochs as E
 use Rattle.sender.specs.Epochs.{SenderCall, beginOf, freshSender, senderOutcomeOf}
-use Rattle.sender.specs.Table.{isMember, sizeOf}
+use Rattle.sender.specs.Table.{isMember, slotCount}
 use Rattle.sender.specs.Table.{answerNumber as senderNumber}
 
 -- What is asked of a slot, in plain comparisons. Groups are 0 and 1.
@@ -109,14 +109,14 @@ abbrev pub claim : Card × ℕ × ℕ → Call
 claim (self, group, slot) = callRow self group (Claim slot) (Unless 1 (isThere self group slot) ∷ If 14 (isAnyones self slot) ∷ [])
 
 pub claim-copes : (x : Card × ℕ × ℕ) → Copes (claim x)
-unfolding claimOf marked isSlot senderOf sizeOf
+unfolding claimOf marked isSlot senderOf slotCount
 claim-copes (self, group, slot) = copes _ (λ s. (λ o. rw (s, o) (refl, refl, refl), λ o. rw (s, o) refl), λ s. rw s (refl, refl, refl))
 
 abbrev pub release : Card × ℕ × ℕ → Call
 release (self, group, slot) = callRow self group (Release slot) (Unless 1 (isThere self group slot) ∷ Unless 14 (isIts self group slot) ∷ If 15 (isInUse self group slot) ∷ [])
 
 pub release-copes : (x : Card × ℕ × ℕ) → Copes (release x)
-unfolding releaseOf marked isSlot owns isUsed senderOf sizeOf
+unfolding releaseOf marked isSlot owns isUsed senderOf slotCount
 release-copes (self, group, slot) =
     let state = stateAt (its self group .table) slot in
     let used : (b : Bool) → not (idle state) ≡ b → isMember state ≡ b = λ b u. member-is state ∙ u in
@@ -130,14 +130,14 @@ abbrev pub add : Card × ℕ × ℕ → Call
 add (self, group, slot) = callRow self group (AddSlot slot) (Unless 1 (isThere self group slot) ∷ Unless 14 (isIts self group slot) ∷ sender.add (its self group, slot) .refusals)
 
 pub add-copes : (x : Card × ℕ × ℕ) → Copes (add x)
-unfolding isSlot owns senderOf sizeOf
+unfolding isSlot owns senderOf slotCount
 add-copes (self, group, slot) = command self group slot _ _ (sender.add-copes (senderOf self group, slot))
 
 abbrev pub remove : Card × ℕ × ℕ → Call
 remove (self, group, slot) = callRow self group (RemoveSlot slot) (Unless 1 (isThere self group slot) ∷ Unless 14 (isIts self group slot) ∷ sender.remove (its self group, slot) .refusals)
 
 pub remove-copes : (x : Card × ℕ × ℕ) → Copes (remove x)
-unfolding isSlot owns senderOf sizeOf
+unfolding isSlot owns senderOf slotCount
 remove-copes (self, group, slot) = command self group slot _ _ (sender.remove-copes (senderOf self group, slot))
 
 abbrev pub report : Card × ℕ × ℕ × ℕ × ℕ → Call
@@ -173,7 +173,7 @@ packet (self, group, slot, h4) =
     (answerNumber (packetAnswer self group slot h4)) (h4 ∷ []) (packetBytes self group slot h4 ∷ [])
 
 pub packet-copes : (x : Card × ℕ × ℕ × List ℕ) → Copes (packet x)
-unfolding packetAnswer packetBytes isSlot owns senderOf sizeOf
+unfolding packetAnswer packetBytes isSlot owns senderOf slotCount
 packet-copes (self, group, slot, h4) =
     lent (isSlot self group slot) (owns self group slot) (E.packetAnswer (senderOf self group) slot h4) _ (E.packetBytes (senderOf self group) slot h4) h4
     (sender.packet-copes (senderOf self group, slot, h4))
@@ -184,7 +184,7 @@ payload (self, group, slot, p, frame, member) =
     (answerNumber (payloadAnswer self group slot p (length frame) (length member))) (member ∷ []) (payloadBytes self group slot p frame member ∷ [])
 
 pub payload-copes : (x : Card × ℕ × ℕ × ℕ × List ℕ × List ℕ) → Copes (payload x)
-unfolding payloadAnswer payloadBytes isSlot owns senderOf sizeOf
+unfolding payloadAnswer payloadBytes isSlot owns senderOf slotCount
 payload-copes (self, group, slot, p, frame, member) =
     lent (isSlot self group slot) (owns self group slot) (E.payloadAnswer (senderOf self group) slot p (length frame) (length member)) _
     (E.payloadBytes (senderOf self group) slot p frame member) member (sender.payload-copes (senderOf self group, slot, p, frame, member))

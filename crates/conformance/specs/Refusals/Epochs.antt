@@ -23,7 +23,7 @@ use Rattle.sender.specs.Calls.Call.{AddSlot, Lapse, RemoveSlot, Report}
 use Rattle.sender.specs.Commands.{freshOf}
 use Rattle.sender.specs.Epochs.{SenderCall, beginOf, freshSender, packetAnswer, packetBytes, packetFields, payloadAnswer, payloadBytes, senderOutcomeOf, startEpochOf, xOf}
 use Rattle.sender.specs.Epochs.SenderCall.{OnTable, StartEpoch}
-use Rattle.sender.specs.Table.{answerNumber, sizeOf}
+use Rattle.sender.specs.Table.{answerNumber, slotCount}
 
 abbrev pub start : ℕ × ℕ × ℕ → Call
 start (kind, count, epoch) =
@@ -93,7 +93,7 @@ packet (self, slot, h4) =
     (answerNumber (packetAnswer self slot h4)) (h4 ∷ []) (packetBytes self slot h4 ∷ [])
 
 pub packet-copes : (x : Sender × ℕ × List ℕ) → Copes (packet x)
-unfolding packetAnswer packetBytes packetFields sentFits vc12Fits fitting assigned frames sizeOf
+unfolding packetAnswer packetBytes packetFields sentFits vc12Fits fitting assigned frames slotCount
 packet-copes (self, slot, h4) =
     let told = answer-sized (self .table .kind) (packetFields self slot) h4 in
     copes _ (
@@ -108,7 +108,7 @@ payload (self, slot, p, frame, member) =
     (answerNumber (payloadAnswer self slot p (length frame) (length member))) (member ∷ []) (payloadBytes self slot p frame member ∷ [])
 
 pub payload-copes : (x : Sender × ℕ × ℕ × List ℕ × List ℕ) → Copes (payload x)
-unfolding payloadAnswer payloadBytes payloadRight sizeOf
+unfolding payloadAnswer payloadBytes payloadRight slotCount
 payload-copes (self, slot, p, frame, member) =
     copes _ (
       λ b. (

@@ -7,7 +7,7 @@ use Rattle.ground.specs.Plain.{_==_, _<?_, _≤?_}
 use Rattle.c_cards.specs.Cards.{cardOf}
 use Rattle.c_cards.specs.Going.{changesAnswerC, changesAnswerOn, changesBytesC, changesBytesOn, changesToldC, changesToldOn, goingAnswer, goingChanges, goingTold}
 use Rattle.c_face.specs.Keeping.{senderOf}
-use Rattle.circuits.specs.Readings.{outgoingShown}
+use Rattle.cards.specs.Readings.{outgoingShown}
 use Rattle.conformance.specs.Refusals.Entries.{Call, Copes, Refusal, Unless, copes, stateless}
 use Rattle.sender.specs.declared.board.Board.{Board}
 use Rattle.spoken.specs.Changes.{comparedOf}

@@ -5,11 +5,11 @@ use mathlib.Core.List.{List, [], _∷_}
 use Prim.Native.Nat.{ℕ}
 use lib.ListN.{length}
 use Rattle.ground.specs.Plain.{_==_, _<?_}
-use Rattle.console.specs.declared.line.Line.{Line}
-use Rattle.console.specs.declared.line.Line.the-variants.{Size, Add, Remove, Report, Lapse, Board, Malformed}
-use Rattle.console.specs.declared.session.Session.{Session}
-use Rattle.console.specs.Replies.{replyOf, sizeReply}
-use Rattle.console.specs.Session.{feedBytes, feedOf, finishBytes, finishOf}
+use Rattle.session_lines.specs.declared.line.Line.{Line}
+use Rattle.session_lines.specs.declared.line.Line.the-variants.{Size, Add, Remove, Report, Lapse, Board, Malformed}
+use Rattle.session_lines.specs.declared.session.Session.{Session}
+use Rattle.session_lines.specs.Replies.{replyOf, sizeReply}
+use Rattle.session_lines.specs.Session.{feedBytes, feedOf, finishBytes, finishOf}
 use Rattle.conformance.specs.Refusals.Entries.{Call, Copes, If, Refusal, copes, done, stateful}
 use Rattle.conformance.specs.Refusals.Tables.{add, add-copes, lapse, lapse-copes, remove, remove-copes, report-copes}
 use Rattle.sender.specs.declared.table.Table.{Table}

@@ -5,8 +5,8 @@ use Prim.Native.Nat.{ℕ}
 use lib.ListN.{length, take}
 use Rattle.ground.specs.Plain.{_==_, _<?_}
 use Rattle.c_cards.specs.Orders.{orderAnswerOn, orderAnswersOn, orderStateOn}
-use Rattle.circuits.specs.declared.card.Card.{Card}
-use Rattle.circuits.specs.Answers.{answerNumber}
+use Rattle.cards.specs.declared.card.Card.{Card}
+use Rattle.cards.specs.Answers.{answerNumber}
 use Rattle.conformance.specs.Refusals.Entries.{Call, Copes, If, Unless, copes, stateful}
 use Rattle.orders.specs.declared.commands.Command.{Command}
 use Rattle.orders.specs.Orders.{answersOf, firstAnswers, firstOrdered, orderedOf}

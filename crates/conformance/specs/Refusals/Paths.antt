@@ -6,7 +6,7 @@ use Prim.Native.Nat.{ℕ}
 use lib.ListN.{getD, length, replicate}
 use Rattle.ground.specs.Plain.{if_then_else_, _==_, _≤?_}
 use Rattle.c_cards.specs.Plans.{checkAnswerC, checkByteC, lentAnswer, lentBytes, planAnswerC, planBytesC}
-use Rattle.counting.specs.Words.{every}
+use Rattle.ground.specs.Counting.Words.{every}
 use Rattle.paths.specs.Answers.{answerOf, areShort, numberOf}
 use Rattle.paths.specs.Checking.{checkedOf}
 use Rattle.paths.specs.declared.answers.Answer.the-variants.{Done, Range}

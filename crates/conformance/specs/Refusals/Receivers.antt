@@ -8,12 +8,12 @@ use native.Mathlib.Omega.{arith}
 use lib.ListN.{getD, length}
 use Rattle.c_receiver.specs.Receivers.{failedC, kindC, startAsAnswerC, startAsRowsC}
 use Rattle.conformance.specs.Refusals.Entries.{Call, Copes, If, Refusal, Under, Unless, copes, done, either, first, refused, stateful, stateless}
-use Rattle.counting.specs.Words.{every}
+use Rattle.ground.specs.Counting.Words.{every}
 use Rattle.ground.specs.Circle.{after}
 use Rattle.ground.specs.Plain.{if_then_else_, _==_, _<?_, _≤?_}
 use Rattle.packet.specs.Kinds.{distanceOf, firstTag, frames, lead, payloadRight, tags}
 use Rattle.phases.specs.Sizes.{knownKind, portsIn, sized, startSized, storeFor}
-use Rattle.receiver.specs.Fetch.{fetchOf, fits}
+use Rattle.receiver.specs.Fetch.{fetchOf, lentFits}
 use Rattle.receiver.specs.Frame.{FrameOutcome, frameOf, oddIn, refusalBy, storeBy, takenFrame}
 use Rattle.receiver.specs.Lengths.{fetchFits, frameFits, outputFor, rowsFit}
 use Rattle.receiver.specs.Shown.{portsAnswer, portsOut, replyAnswer, replyFit, replyOut, shownFit}
@@ -227,7 +227,7 @@ fetch (state, store, out, report) =
     state (fetchOf state store out report .rows) state
 
 pub fetch-copes : (x : List (List ℕ) × List ℕ × List ℕ × List ℕ) → Copes (fetch x)
-unfolding fetchOf fits fetchFits rowsFit storeFor outputFor portsIn knownKind sized frames tags
+unfolding fetchOf lentFits fetchFits rowsFit storeFor outputFor portsIn knownKind sized frames tags
 fetch-copes (state, store, out, report) = copes _ (λ l. rw l, λ l. rw l (refl, refl, refl))
 
 -- The ports read out, each port's eight bytes a lent slice, and the reply's two bytes.

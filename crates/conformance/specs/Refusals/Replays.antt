@@ -21,12 +21,12 @@ use Rattle.recording.specs.declared.pairs.Settings.{Settings as GroupSettings}
 use Rattle.recording.specs.declared.record.Record.{Record}
 use Rattle.recording.specs.declared.record.Record.the-variants as R
 use Rattle.recording.specs.Opening.{openingIn}
-use Rattle.replaying.specs.declared.replay.Phase.{Phase}
-use Rattle.replaying.specs.declared.replay.Phase.the-variants.{Settings, Reading, Fetching, Skipping, Ended}
-use Rattle.replaying.specs.declared.replay.Replay.{Replay}
-use Rattle.replaying.specs.declared.turns.Replayed.{Replayed}
-use Rattle.replaying.specs.Lengths.{inRange, lengthsBy, lengthsIn, lengthsOf, lengthsWith, noLengths}
-use Rattle.replaying.specs.Turn.{answeredTurn, fetchedTurn, framedTurn, isDue, isLent, openRows, openSaid, openTurn, openTurnBy, openWithTurn, placed, readBy, readOnTurn, readRows, readSaid, readStore, readTurn, recordNow, reportOut, reportRows, reportSaid, reportTurn, reportedTurn, skipTurn, startable, timesFit, turnOf, turnOut, turnRows, turnSaid, turnStore}
+use Rattle.replay_lines.specs.declared.replay.Phase.{Phase}
+use Rattle.replay_lines.specs.declared.replay.Phase.the-variants.{Settings, Reading, Fetching, Skipping, Ended}
+use Rattle.replay_lines.specs.declared.replay.Replay.{Replay}
+use Rattle.replay_lines.specs.declared.turns.Replayed.{Replayed}
+use Rattle.replay_lines.specs.Lengths.{inRange, lengthsBy, lengthsIn, lengthsOf, lengthsWith, noLengths}
+use Rattle.replay_lines.specs.Turn.{answeredTurn, fetchedTurn, framedTurn, isDue, isLent, openRows, openSaid, openTurn, openTurnBy, openWithTurn, placed, readBy, readOnTurn, readRows, readSaid, readStore, readTurn, recordNow, reportOut, reportRows, reportSaid, reportTurn, reportedTurn, skipTurn, startable, timesFit, turnOf, turnOut, turnRows, turnSaid, turnStore}
 use Rattle.text.specs.Text.{LINE-END}
 
 -- room for what one turn prints, and the rows of 64 ports before the first line

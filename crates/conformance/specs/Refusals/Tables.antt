@@ -12,7 +12,7 @@ use Rattle.sender.specs.Calls.{Call as TableCall, outcomeOf}
 use Rattle.sender.specs.Calls.Call.{AddSlot, Lapse, RemoveSlot, Report}
 use Rattle.sender.specs.Commands.{addOf, addedTo, freshOf, inOrder, lapseOf, removeOf, removedFrom, startOf}
 use Rattle.sender.specs.Reports.{reportOf}
-use Rattle.sender.specs.Table.{answerNumber, isMember, sizeOf, slotAt}
+use Rattle.sender.specs.Table.{answerNumber, isMember, slotCount, slotAt}
 
 -- 4: 'group count .. out of range', 'an empty group'; there is no state before a start, so the empty group stands for it
 abbrev pub start : ℕ × ℕ → Call
@@ -55,7 +55,7 @@ commandRefusals t i allowed = Unless 1 (i <? (if t .count <? 64 then t .count el
 
 commands : (t next : Table) (i : ℕ) (allowed : Bool)
     → Copes (stateful (commandRefusals t i allowed) (answerNumber (inOrder t i allowed next .answer)) [] [] t (inOrder t i allowed next .table) t)
-unfolding sizeOf
+unfolding slotCount
 commands t next i allowed =
     copes _
     (λ b. (λ w. rw (b, w) (refl, refl, refl), λ w. (λ a. rw (b, w, a), λ a. rw (b, w, a) (refl, refl, refl))), λ b. rw b (refl, refl, refl))

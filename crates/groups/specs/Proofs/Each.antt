@@ -18,9 +18,9 @@ use Rattle.sender.specs.declared.table.Table.{Table}
 use Rattle.sender.specs.Epochs.{packetFields, startEpochOf}
 use Rattle.sender.specs.Laws.Sizes.{size-large, size-small}
 use Rattle.sender.specs.Ranks.{rowAt}
-use Rattle.sender.specs.Table.{sizeOf}
-use Rattle.circuits.specs.Parts.{owns, senderOf}
-use Rattle.circuits.specs.Theorems.Owned.{countOf, counts, outgoing-owned}
+use Rattle.sender.specs.Table.{slotCount}
+use Rattle.cards.specs.Parts.{owns, senderOf}
+use Rattle.cards.specs.Theorems.Owned.{countOf, counts, outgoing-owned}
 use Rattle.link.specs.Demand3.{Demand3}
 use Rattle.link.specs.History.{Allowed, Handed, History, senderAt, sendingOf, wordSent}
 use Rattle.link.specs.Link.{AssumedOver, Link, kindOf}
@@ -41,7 +41,7 @@ count-is : (kind slots : ℕ) → 1 ≤ slots → slots ≤ 64 → countOf kind 
 unfolding freshOf
 count-is kind slots some most = ap (λ (t : Table). t .count) (fresh-table kind slots some most)
 
-size-is : (slots : ℕ) → slots ≤ 64 → sizeOf slots ≡ slots
+size-is : (slots : ℕ) → slots ≤ 64 → slotCount slots ≡ slots
 size-is slots most = ⊎-elim (λ (l : 64 ≤ slots). size-large slots l ∙ (omega arith)) (λ (l : slots < 64). size-small slots l) (le-or-lt 64 slots)
 
 module _ (h : CardHistory) (g : ℕ) (k : Link) (a : AssumedEach h g k) where
@@ -75,10 +75,10 @@ module _ (h : CardHistory) (g : ℕ) (k : Link) (a : AssumedEach h g k) where
       }
 
   -- the size of the group's table after any calls
-  pub size-at-all : (n : ℕ) → sizeOf (senderOf (cardAt h n) g .table .count) ≡ h .slots
+  pub size-at-all : (n : ℕ) → slotCount (senderOf (cardAt h n) g .table .count) ≡ h .slots
   unfolding cardAt
   size-at-all n =
-      ap sizeOf (counts (h .kind) (h .slots) (h .first 0) (h .first 1) (tabulate n (h .made)) g (a .group) ∙ count-is (h .kind) (h .slots) (a .some) (a .most))
+      ap slotCount (counts (h .kind) (h .slots) (h .first 0) (h .first 1) (tabulate n (h .made)) g (a .group) ∙ count-is (h .kind) (h .slots) (a .some) (a .most))
       ∙ size-is (h .slots) (a .most)
 
   -- the sender in its i-th epoch, by the card at its start

@@ -10,7 +10,8 @@ use lib.ListN.{length, length-replicate, replicate}
 use borrow.Author.Tests.{lt-ltb, ne-eqb}
 use Rattle.ground.specs.Truth.{and-true}
 use Rattle.packet.specs.Kinds.{frames, payloadRight}
-use Rattle.payload.specs.Laws.Fits.{Sizes, one-done, spread-one-done}
+use Rattle.payload.specs.Answers.{Sizes}
+use Rattle.payload.specs.Laws.Fits.{one-done, spread-one-done}
 use Rattle.payload.specs.Order.{memberFrame}
 use Rattle.payload.specs.Spreading.{oneAnswer, spreadOne}
 use Rattle.sender.specs.Epochs.{onTable, rankIn, senderRun, xOf}
@@ -21,12 +22,12 @@ use Rattle.sender.specs.declared.table.Answer.the-variants.{Done}
 use Rattle.sender.specs.Epochs as E
 use Rattle.sender.specs.Outcomes.{spreadTold}
 use Rattle.sender.specs.Ranks.{noRank}
-use Rattle.sender.specs.Table.{sizeOf}
-use Rattle.circuits.specs.Answers.{fromSender}
-use Rattle.circuits.specs.declared.answers.Answer.the-variants as A
-use Rattle.circuits.specs.declared.card.Card.{Card}
-use Rattle.circuits.specs.Parts.{isSlot, owns, senderOf}
-use Rattle.circuits.specs.Readings as R
+use Rattle.sender.specs.Table.{slotCount}
+use Rattle.cards.specs.Answers.{fromSender}
+use Rattle.cards.specs.declared.answers.Answer.the-variants as A
+use Rattle.cards.specs.declared.card.Card.{Card}
+use Rattle.cards.specs.Parts.{isSlot, owns, senderOf}
+use Rattle.cards.specs.Readings as R
 use Rattle.link.specs.History.{History, hasRank, packetSent, payloadSent, senderAt, xAt}
 use Rattle.link.specs.Link.{Link}
 use Rattle.link.specs.Proofs.Histories.Packets.{packet-answered, packet-any}
@@ -59,14 +60,14 @@ module _ (c : Card) (g slot : ℕ) (there : isSlot c g slot ≡ true) (mine : ow
   payload-by P frame member = rw (there, mine) refl
 
 -- a sender in an epoch, of a slot that it has
-module _ (s : Sender) (slot P : ℕ) (below : slot < sizeOf (s .table .count)) (own : payloadRight (s .table .kind) P ≡ true) (begun : s .begun ≡ true) where
+module _ (s : Sender) (slot P : ℕ) (below : slot < slotCount (s .table .count)) (own : payloadRight (s .table .kind) P ≡ true) (begun : s .begun ≡ true) where
   spread-is : (frame member : List ℕ) → E.payloadBytes s slot P frame member ≡ spreadOne (xOf s) P (rankIn s slot) frame member
   unfolding E.payloadBytes
-  spread-is frame member = rw (lt-ltb slot (sizeOf (s .table .count)) below, own, begun) refl
+  spread-is frame member = rw (lt-ltb slot (slotCount (s .table .count)) below, own, begun) refl
 
   spread-told : (frame member : ℕ) → E.payloadAnswer s slot P frame member ≡ spreadTold (oneAnswer (xOf s) P frame member)
   unfolding E.payloadAnswer
-  spread-told frame member = rw (lt-ltb slot (sizeOf (s .table .count)) below, own, begun) refl
+  spread-told frame member = rw (lt-ltb slot (slotCount (s .table .count)) below, own, begun) refl
 
 module _ (h : CardHistory) (g : ℕ) (k : Link) (a : AssumedEach h g k) (n i p : ℕ) (from : a .calls-then ≤ n) (later : a .starts .at i < n) (in-it : n ≤ a .starts .at (suc i)) (b : p < k .ports) where
   abbrev history : History
@@ -103,7 +104,7 @@ module _ (h : CardHistory) (g : ℕ) (k : Link) (a : AssumedEach h g k) (n i p :
   begun : s .begun ≡ true
   begun = sender-in history (allowed h g k a) i .begun
 
-  slot-in : slot < sizeOf (s .table .count)
+  slot-in : slot < slotCount (s .table .count)
   slot-in = rw (size-at history (allowed h g k a) i) below
 
   payload-right : payloadRight (s .table .kind) (k .payload) ≡ true

@@ -4,9 +4,9 @@ use mathlib.Core.List.{List, [], _∷_, _++_}
 use Prim.Native.Nat.{ℕ, zero, suc, _+_, _-_, _≤_}
 use native.Mathlib.Omega.{arith}
 use Rattle.ground.specs.Table.{tabulate, tabulate-suc}
-use Rattle.circuits.specs.Commands.{startOf}
-use Rattle.circuits.specs.declared.card.Card.{Card}
-use Rattle.circuits.specs.Views.{Made, cardAfter, run}
+use Rattle.cards.specs.Commands.{startOf}
+use Rattle.cards.specs.declared.card.Card.{Card}
+use Rattle.cards.specs.Views.{Made, cardAfter, run}
 use Rattle.groups.specs.Cards.{CardHistory, cardAt}
 use Rattle.groups.specs.Projected.{madeFrom}
 

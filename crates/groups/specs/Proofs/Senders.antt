@@ -13,17 +13,17 @@ use Rattle.sender.specs.Theorems.Epochs.{refused-start}
 use Rattle.sender.specs.declared.epochs.Sender.{Sender}
 use Rattle.sender.specs.Calls.{Call as T}
 use Rattle.sender.specs.Epochs.{SenderCall as E}
-use Rattle.circuits.specs.Calls.Call.{Claim, Release, AddSlot, RemoveSlot, Report, Lapse, StartEpoch}
-use Rattle.circuits.specs.Commands.{claimOf, commandOf, groupCallOf, releaseOf, sentOf, startOf}
-use Rattle.circuits.specs.declared.answers.Answer.the-variants as A
-use Rattle.circuits.specs.declared.card.Card.{Card}
-use Rattle.circuits.specs.declared.card.CardOutcome.{CardOutcome}
-use Rattle.circuits.specs.Laws.Seeing.{sender-marked, sender-outcome}
-use Rattle.circuits.specs.Owners.{hasOwner, markOf}
-use Rattle.circuits.specs.Parts.{isSlot, isUsed, marked, owns, refused, senderOf}
-use Rattle.circuits.specs.Theorems.Apart.{others-keep}
-use Rattle.circuits.specs.Views.{Asked, Made, View, cardAfter, run, viewOf}
-use Rattle.circuits.specs.Views.Asked.{Do, Packet, Payload, Board, Outgoing, Ranks, Owned}
+use Rattle.cards.specs.Calls.Call.{Claim, Release, AddSlot, RemoveSlot, Report, Lapse, StartEpoch}
+use Rattle.cards.specs.Commands.{claimOf, commandOf, groupCallOf, releaseOf, sentOf, startOf}
+use Rattle.cards.specs.declared.answers.Answer.the-variants as A
+use Rattle.cards.specs.declared.card.Card.{Card}
+use Rattle.cards.specs.declared.card.CardOutcome.{CardOutcome}
+use Rattle.cards.specs.Laws.Seeing.{sender-marked, sender-outcome}
+use Rattle.cards.specs.Owners.{hasOwner, markOf}
+use Rattle.cards.specs.Parts.{isSlot, isUsed, marked, owns, refused, senderOf}
+use Rattle.cards.specs.Theorems.Apart.{others-keep}
+use Rattle.cards.specs.Views.{Asked, Made, View, cardAfter, run, viewOf}
+use Rattle.cards.specs.Views.Asked.{Do, Packet, Payload, Board, Outgoing, Ranks, Owned}
 use Rattle.link.specs.History.{senderAt}
 use Rattle.groups.specs.Cards.{CardHistory, cardAt}
 use Rattle.groups.specs.Projected.{Starts, begins, between, historyOf, isStart, onOwn, reaching, tableCall, tableCalls}

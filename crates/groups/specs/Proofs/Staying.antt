@@ -7,18 +7,18 @@ use native.Mathlib.Omega.{arith}
 use lib.Dec.{eqb, ltb}
 use borrow.Author.Tests.{eqb-false}
 use Rattle.sender.specs.Epochs.{SenderCall, senderOutcomeOf}
-use Rattle.circuits.specs.Alone.{ownIn}
-use Rattle.circuits.specs.Calls.Call.{Claim, Release, AddSlot, RemoveSlot, Report, Lapse, StartEpoch}
-use Rattle.circuits.specs.Commands.{commandOf, groupCallOf, sentOf}
-use Rattle.circuits.specs.declared.answers.Answer.the-variants as A
-use Rattle.circuits.specs.declared.card.Card.{Card}
-use Rattle.circuits.specs.declared.card.CardOutcome.{CardOutcome}
-use Rattle.circuits.specs.Laws.Seeing.{own-is, owners-outcome}
-use Rattle.circuits.specs.Owners.{markOf, ownerIn}
-use Rattle.circuits.specs.Parts.{isSlot, owns, refused, senderOf}
-use Rattle.circuits.specs.Theorems.Apart.{others-keep}
-use Rattle.circuits.specs.Views.{Asked, Made, View, cardAfter, viewOf}
-use Rattle.circuits.specs.Views.Asked.{Do, Packet, Payload, Board, Outgoing, Ranks, Owned}
+use Rattle.cards.specs.Alone.{ownIn}
+use Rattle.cards.specs.Calls.Call.{Claim, Release, AddSlot, RemoveSlot, Report, Lapse, StartEpoch}
+use Rattle.cards.specs.Commands.{commandOf, groupCallOf, sentOf}
+use Rattle.cards.specs.declared.answers.Answer.the-variants as A
+use Rattle.cards.specs.declared.card.Card.{Card}
+use Rattle.cards.specs.declared.card.CardOutcome.{CardOutcome}
+use Rattle.cards.specs.Laws.Seeing.{own-is, owners-outcome}
+use Rattle.cards.specs.Owners.{markOf, ownerIn}
+use Rattle.cards.specs.Parts.{isSlot, owns, refused, senderOf}
+use Rattle.cards.specs.Theorems.Apart.{others-keep}
+use Rattle.cards.specs.Views.{Asked, Made, View, cardAfter, viewOf}
+use Rattle.cards.specs.Views.Asked.{Do, Packet, Payload, Board, Outgoing, Ranks, Owned}
 use Rattle.groups.specs.Cards.{CardHistory, cardAt}
 use Rattle.groups.specs.Projected.{claimsOrReleases, isMove}
 use Rattle.groups.specs.Proofs.Running.{card-next}

@@ -10,10 +10,10 @@ use borrow.Author.Tests.{le-ltb, ne-eqb}
 use Rattle.ground.specs.Finite.{below, below-at}
 use Rattle.ground.specs.Plain.{if_then_else_, _==_, _<?_}
 use Rattle.ground.specs.Truth.{le-or-lt}
-use Rattle.circuits.specs.Calls.Call.{AddSlot, Claim, Lapse, Release, RemoveSlot, Report, StartEpoch}
-use Rattle.circuits.specs.Shown.{by}
-use Rattle.circuits.specs.Views.{Made}
-use Rattle.circuits.specs.Views.Asked.{Board}
+use Rattle.cards.specs.Calls.Call.{AddSlot, Claim, Lapse, Release, RemoveSlot, Report, StartEpoch}
+use Rattle.cards.specs.Shown.{by}
+use Rattle.cards.specs.Views.{Made}
+use Rattle.cards.specs.Views.Asked.{Board}
 use Rattle.groups.specs.Cards.{CardHistory}
 use Rattle.groups.specs.Projected.{Starts, isMove, isStart}
 

@@ -8,10 +8,10 @@ use lib.ListN.{length, replicate}
 use Rattle.packet.specs.Kinds.{frames}
 use Rattle.sender.specs.Epochs as E
 use Rattle.sender.specs.Ranks.{noRank}
-use Rattle.circuits.specs.Answers.{answerNumber}
-use Rattle.circuits.specs.declared.answers.Answer.the-variants.{Done}
-use Rattle.circuits.specs.Parts.{senderOf}
-use Rattle.circuits.specs.Readings.{packetAnswer, packetBytes, payloadAnswer, payloadBytes}
+use Rattle.cards.specs.Answers.{answerNumber}
+use Rattle.cards.specs.declared.answers.Answer.the-variants.{Done}
+use Rattle.cards.specs.Parts.{senderOf}
+use Rattle.cards.specs.Readings.{packetAnswer, packetBytes, payloadAnswer, payloadBytes}
 use Rattle.link.specs.History.{packetSent}
 use Rattle.groups.specs.Cards.{cardAt}
 use Rattle.groups.specs.Given.{Gives}

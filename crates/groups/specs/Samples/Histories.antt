@@ -11,9 +11,9 @@ use Rattle.ground.specs.Table.{getD-tabulate, tabulate}
 use Rattle.ground.specs.Truth.{le-or-lt}
 use Rattle.sender.specs.Calls.{Call}
 use Rattle.sender.specs.Calls.Call.{AddSlot, Lapse, RemoveSlot, Report}
-use Rattle.circuits.specs.declared.card.Card.{Card}
-use Rattle.circuits.specs.Opened.{circuitsOpen}
-use Rattle.circuits.specs.Views.{Made, cardAfter}
+use Rattle.cards.specs.declared.card.Card.{Card}
+use Rattle.cards.specs.Opened.{circuitsOpen}
+use Rattle.cards.specs.Views.{Made, cardAfter}
 use Rattle.link.specs.History.{History}
 use Rattle.link.specs.Opened.{linkOpen}
 use Rattle.groups.specs.Cards.{CardHistory, cardAt}

@@ -11,7 +11,7 @@ use Rattle.ground.specs.Table.{length-tabulate}
 use Rattle.packet.specs.Kinds.{epochs, frames, payloadRight, tags}
 use Rattle.phases.specs.Sizes.{knownKind, sized, startSized}
 use Rattle.sender.specs.Calls.{Call}
-use Rattle.circuits.specs.Parts.{owns}
+use Rattle.cards.specs.Parts.{owns}
 use Rattle.link.specs.Demand3.{Demand3}
 use Rattle.link.specs.History.{History, sendingOf, xAt}
 use Rattle.link.specs.Link.{Lines}

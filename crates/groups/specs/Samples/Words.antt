@@ -5,10 +5,10 @@ use mathlib.Core.List.{[], _∷_}
 use Prim.Native.Nat.{_+_, _%_}
 use native.Mathlib.Omega.{arith}
 use Rattle.sender.specs.Calls.{Call as T}
-use Rattle.circuits.specs.Calls.Call.{AddSlot, Claim, Lapse, Release, RemoveSlot, Report, StartEpoch}
-use Rattle.circuits.specs.declared.card.Card.{Card}
-use Rattle.circuits.specs.Shown.{after, by}
-use Rattle.circuits.specs.Views.Asked.{Board, Do, Outgoing, Owned, Packet, Payload, Ranks}
+use Rattle.cards.specs.Calls.Call.{AddSlot, Claim, Lapse, Release, RemoveSlot, Report, StartEpoch}
+use Rattle.cards.specs.declared.card.Card.{Card}
+use Rattle.cards.specs.Shown.{after, by}
+use Rattle.cards.specs.Views.Asked.{Board, Do, Outgoing, Owned, Packet, Payload, Ranks}
 use Rattle.groups.specs.Cards.{CardHistory, cardAt}
 use Rattle.groups.specs.Projected.{Starts, begins, isMove, isStart, madeFrom, reaching, tableCall, tableCalls}
 use Rattle.groups.specs.Samples.Calls.{card}

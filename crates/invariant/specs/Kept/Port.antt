@@ -35,18 +35,18 @@ NoMark marks = (i : ℕ) → markIn marks i ≡ false
 -- before the beginning nobody has joined, nothing is stored and nothing rules
 pub record Idle (s : Step) (marks : Bytes) : Type 0 where
   pub joined : s .joined ≡ 0
-  pub since : s .since ≡ 0
-  pub later : s .later ≡ 0
+  pub «ever_since» : s .«ever_since» ≡ 0
+  pub «joined_at» : s .«joined_at» ≡ 0
   pub whole : s .whole ≡ 0
   pub empty : NoMark marks
 
 -- of a port that has joined
 pub record Joined (g : Group) (s : Step) (marks : Bytes) : Type 0 where
   pub reach : offset g s ≤ g .window
-  pub within : frames (g .kind) * s .later < g .window
-  pub passed : s .later ≢ 0 → frames (g .kind) * s .later < offset g s
+  pub within : frames (g .kind) * s .«joined_at» < g .window
+  pub passed : s .«joined_at» ≢ 0 → frames (g .kind) * s .«joined_at» < offset g s
   -- from the epoch joined at on, the epochs that are marked are those that the port has gone through
-  pub marked : (i : ℕ) → s .later ≤ i → markIn marks i ≡ (endOf g i ≤? offset g s)
+  pub marked : (i : ℕ) → s .«joined_at» ≤ i → markIn marks i ≡ (endOf g i ≤? offset g s)
 
 -- of a port in step ever since the beginning that has not joined yet: the window's first frame is less than W frames ahead of it
 pub record Waiting (g : Group) (s : Step) (marks : Bytes) : Type 0 where
@@ -58,20 +58,20 @@ pub record PortKept (g : Group) (s : Step) (marks : Bytes) : Type 0 where
   pub row : Sixteen marks
   pub run : RunKept (g .kind) (runOf s)
   -- flags are 0 or 1
-  pub had : s .had ≤ 1
+  pub heard : s .heard ≤ 1
   pub failed : s .failed ≤ 1
   pub joined : s .joined ≤ 1
-  pub since : s .since ≤ 1
+  pub «ever_since» : s .«ever_since» ≤ 1
   pub whole : s .whole ≤ 1
   pub joined-step : flagOf (s .joined) ≡ true → inStep g s ≡ true
-  pub since-step : flagOf (s .since) ≡ true → inStep g s ≡ true
+  pub since-step : flagOf (s .«ever_since») ≡ true → inStep g s ≡ true
   pub failed-none : flagOf (s .failed) ≡ true → s .count ≡ 0
-  pub failed-had : flagOf (s .failed) ≡ true → s .had ≡ 1
-  pub count-had : 0 < s .count → s .had ≡ 1
+  pub failed-had : flagOf (s .failed) ≡ true → s .heard ≡ 1
+  pub count-had : 0 < s .count → s .heard ≡ 1
   pub idle : flagOf (g .begun) ≡ false → Idle s marks
   pub goes : flagOf (s .joined) ≡ true → Joined g s marks
   -- what is marked lies in the window
   pub inside : (i : ℕ) → markIn marks i ≡ true → endOf g i ≤ g .window
-  pub at-once : flagOf (s .joined) ≡ false → s .later ≡ 0
-  pub waits : flagOf (s .since) ≡ true → flagOf (s .joined) ≡ false → Waiting g s marks
-  pub early : flagOf (s .since) ≡ true → s .later ≡ 0
+  pub at-once : flagOf (s .joined) ≡ false → s .«joined_at» ≡ 0
+  pub waits : flagOf (s .«ever_since») ≡ true → flagOf (s .joined) ≡ false → Waiting g s marks
+  pub early : flagOf (s .«ever_since») ≡ true → s .«joined_at» ≡ 0

@@ -73,7 +73,7 @@ ack-claims g ack s marks d c =
       begun = c .begun;
       has =
           ⊎-elim (λ (m : markIn marks (d / frames (g .kind)) ≡ true). inl m)
-          (λ (p : Part (withAck g ack) s d). inr (record { joined = p .joined; later = p .later; from = p .from; upto = p .upto })) (c .has);
+          (λ (p : Part (withAck g ack) s d). inr (record { joined = p .joined; «joined_at» = p .«joined_at»; from = p .from; upto = p .upto })) (c .has);
     }
 
 module _ (tag : ℕ) (bytes : List ℕ) (h4 : ℕ) where

@@ -44,7 +44,7 @@ module _ (g : Group) (s : Step) (marks : List ℕ) (k : PortKept g s marks) (beg
       distance-passed g (passedGroup g) (s .next) refl refl (ahead g s marks k begun due (p .joined)) in
       record {
         joined = p .joined;
-        later = later-back (g .kind) (s .later) d (p .later);
+        «joined_at» = later-back (g .kind) (s .«joined_at») d (p .«joined_at»);
         from = part-back (g .kind) d (offset g s) (distanceIn (passedGroup g) (s .next)) near (p .from);
         upto = let l = p .upto in omega arith;
       }
@@ -133,7 +133,7 @@ module _ (g : Group) (s : Step) (marks : List ℕ) (failed odd : Bool) (h : ℕ)
         (distance-next g (s .next) (let most = W .most in let l = low in let some = W .least in let more = frames-two (g .kind) in omega arith))
 
     part : flagOf (s .joined) ≡ true → frames (g .kind) * (offset g s / frames (g .kind)) ≤ d → d < offset g s → Part g s d
-    part j from upto = record { joined = j; later = later-part (g .kind) (s .later) d (offset g s) (k .goes j .passed) from; from = from; upto = upto }
+    part j from upto = record { joined = j; «joined_at» = later-part (g .kind) (s .«joined_at») d (offset g s) (k .goes j .passed) from; from = from; upto = upto }
 
     -- what is claimed after a frame of a joined port, but for the frame itself: an epoch is marked with its last frame
     pub keeps-marked : flagOf (s .joined) ≡ true → d ≢ offset g s → markIn (marksBy (g .kind) marks (keeps g s run e)) (d / frames (g .kind)) ≡ true
@@ -193,7 +193,7 @@ module _ (g : Group) (s : Step) (marks : List ℕ) (failed odd : Bool) (h : ℕ)
     unfolding joining
     joins-part start p =
         let epochs : frames (g .kind) * epochsIn (g .kind) (offset g s) ≡ offset g s = whole-epochs (g .kind) (offset g s) round (start-place g (s .next) start) in
-        let from : offset g s ≤ d = rw epochs at (p .later) in
+        let from : offset g s ≤ d = rw epochs at (p .«joined_at») in
         let upto : d < offset g s + 1 = rw next-offset at (p .upto) in
         omega arith
 

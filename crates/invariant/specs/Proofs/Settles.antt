@@ -9,8 +9,8 @@ use lib.ListN.{length}
 use Rattle.invariant.specs.Kept.Group.{Kept, PortIn}
 use Rattle.invariant.specs.Proofs.Kept.Quiet.{Quiet, taken-quiet}
 use Rattle.invariant.specs.Proofs.Kept.WithinCall.{windowed}
-use Rattle.counting.specs.Laws.Tests.{every-all, every-at, every-fails}
-use Rattle.counting.specs.Words.{every}
+use Rattle.ground.specs.Counting.Laws.Tests.{every-all, every-at, every-fails}
+use Rattle.ground.specs.Counting.Words.{every}
 use Rattle.ground.specs.Truth.{clash, eq-or-ne, fails}
 use Rattle.phases.specs.Due.{brought, owesNothing, silent}
 use Rattle.phases.specs.Settling.{Settled, settledOf}

@@ -4,7 +4,7 @@ use mathlib.Core.Bool.{not, _||_}
 use mathlib.Core.List.{List, [], _∷_, _++_}
 use Prim.Native.Nat.{ℕ, _/_, _%_}
 use lib.ListN.{getD, replicate}
-use Rattle.counting.specs.Words.{count, every, some}
+use Rattle.ground.specs.Counting.Words.{count, every, some}
 use Rattle.invariant.specs.Wrong.Sample.{sampleStep}
 use Rattle.ground.specs.Plain.{if_then_else_, _==_}
 use Rattle.ground.specs.Table.{tabulate}

@@ -15,13 +15,13 @@ abbrev pub sampleStep : (count next joined since later whole : ℕ) → Step
 sampleStep count next joined since later whole =
     record {
       spare = replicate 4 0;
-      had = 1;
+      heard = 1;
       failed = 0;
       count = count;
       next = next;
       joined = joined;
-      since = since;
-      later = later;
+      «ever_since» = since;
+      «joined_at» = later;
       whole = whole;
       breaks = 0;
       odd = 0;

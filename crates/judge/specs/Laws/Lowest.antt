@@ -5,8 +5,8 @@ use mathlib.Core.Bool.{Bool, true, false, cond, _||_}
 use Prim.Native.Nat.{ℕ, zero, suc, _<_}
 use native.Mathlib.Nat.{not-suc-le-zero}
 use native.Mathlib.Omega.{arith}
-use Rattle.counting.specs.Laws.Tests.{none-at, some-at}
-use Rattle.counting.specs.Words.{some}
+use Rattle.ground.specs.Counting.Laws.Tests.{none-at, some-at}
+use Rattle.ground.specs.Counting.Words.{some}
 use Rattle.ground.specs.Truth.{clash, eq-or-ne}
 use Rattle.judge.specs.Lowest.{lowest}
 

@@ -7,9 +7,9 @@ use Prim.Native.Nat.{ℕ, zero, suc, _≤_, _<_}
 use native.Mathlib.Omega.{arith}
 use lib.Dec.{eqb, ltb}
 use borrow.Author.Tests.{eq-eqb, eqb-true}
-use Rattle.counting.specs.Laws.Numbers.{greatest-above}
-use Rattle.counting.specs.Laws.Tests.{some-at, some-one}
-use Rattle.counting.specs.Words.{greatest}
+use Rattle.ground.specs.Counting.Laws.Numbers.{greatest-above}
+use Rattle.ground.specs.Counting.Laws.Tests.{some-at, some-one}
+use Rattle.ground.specs.Counting.Words.{greatest}
 use Rattle.ground.specs.Truth.{and-true, and-left, and-right, fails, eq-or-ne, le-or-lt}
 use Rattle.judge.specs.declared.seen.Seen.{Seen}
 use Rattle.judge.specs.Laws.Ports.{active-numbered}

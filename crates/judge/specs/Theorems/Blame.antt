@@ -7,8 +7,8 @@ use Prim.Native.Nat.{ℕ, zero, suc, _≤_, _<_}
 use native.Mathlib.Omega.{arith}
 use lib.Dec.{eqb}
 use borrow.Author.Tests.{not-true}
-use Rattle.counting.specs.Words.{some}
-use Rattle.counting.specs.Laws.Tests.{every-lacks, some-at, some-none, some-one}
+use Rattle.ground.specs.Counting.Words.{some}
+use Rattle.ground.specs.Counting.Laws.Tests.{every-lacks, some-at, some-none, some-one}
 use Rattle.ground.specs.Truth.{and-left, and-right, and-true, clash, eq-or-ne, le-or-lt}
 use Rattle.judge.specs.declared.seen.Seen.{Seen}
 use Rattle.judge.specs.Cause.{Blamed, applies, blamedBy, blamedOf, causeOf, clauseOf, gidUnlike}

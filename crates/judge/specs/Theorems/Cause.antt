@@ -14,7 +14,7 @@ use Rattle.judge.specs.declared.seen.Seen.{Seen}
 use Rattle.judge.specs.Cause.{causeOf, causesOf, clauseAt, clauseOf, fixedCause, lcasCause, markOf}
 use Rattle.judge.specs.Seen.{lackingSeen, refusedSeen, seenAt}
 use Rattle.packet.specs.Kinds.{fixedKind}
-use Rattle.counting.specs.Words.{some}
+use Rattle.ground.specs.Counting.Words.{some}
 use Rattle.judge.specs.Verdict.{DOUBTFUL, HELD, SURE, doubtfulBy, eosWrong, exact, fixedExact, fixedHeld, fixedVerdict, gidDiffers, heldBy, judgeOf, lcasVerdict, missing, repeats}
 
 -- by 01

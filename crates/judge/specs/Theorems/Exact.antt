@@ -7,10 +7,10 @@ use Prim.Native.Nat.{ℕ, zero, suc, _+_, _≤_, _<_}
 use native.Mathlib.Omega.{arith}
 use lib.Dec.{eqb}
 use borrow.Author.Tests.{eq-eqb}
-use Rattle.counting.specs.Laws.Numbers.{count-all, greatest-above}
-use Rattle.counting.specs.Laws.Ranks.{all-taken, count-taken, taken}
-use Rattle.counting.specs.Laws.Tests.{every-all, every-at, some-at}
-use Rattle.counting.specs.Words.{Apart, count, greatest}
+use Rattle.ground.specs.Counting.Laws.Numbers.{count-all, greatest-above}
+use Rattle.ground.specs.Counting.Laws.Ranks.{all-taken, count-taken, taken}
+use Rattle.ground.specs.Counting.Laws.Tests.{every-all, every-at, some-at}
+use Rattle.ground.specs.Counting.Words.{Apart, count, greatest}
 use Rattle.ground.specs.Truth.{and-true, eq-or-ne, le-or-lt}
 use Rattle.judge.specs.declared.seen.Seen.{Seen}
 use Rattle.judge.specs.Numbers.{AllApart, numberAt, numberedAt, numbersIn}

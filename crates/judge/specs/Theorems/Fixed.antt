@@ -6,10 +6,10 @@ use mathlib.Core.List.{List, [], _∷_}
 use Prim.Native.Nat.{ℕ, _<_}
 use native.Mathlib.Omega.{arith}
 use borrow.Author.Tests.{not-false}
-use Rattle.counting.specs.Words.{count, some}
-use Rattle.counting.specs.Laws.Numbers.{count-all}
-use Rattle.counting.specs.Laws.Ranks.{taken}
-use Rattle.counting.specs.Laws.Tests.{every-at, none-at, some-none}
+use Rattle.ground.specs.Counting.Words.{count, some}
+use Rattle.ground.specs.Counting.Laws.Numbers.{count-all}
+use Rattle.ground.specs.Counting.Laws.Ranks.{taken}
+use Rattle.ground.specs.Counting.Laws.Tests.{every-at, none-at, some-none}
 use Rattle.ground.specs.Table.{tabulate}
 use Rattle.ground.specs.Truth.{cond-by, fails}
 use Rattle.packet.specs.Kinds.{fixedKind}

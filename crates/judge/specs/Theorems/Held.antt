@@ -6,8 +6,8 @@ use mathlib.Core.List.{List}
 use Prim.Native.Nat.{ℕ, _<_}
 use lib.Dec.{eqb}
 use borrow.Author.Tests.{not-false}
-use Rattle.counting.specs.Words.{some}
-use Rattle.counting.specs.Laws.Tests.{none-at, some-at}
+use Rattle.ground.specs.Counting.Words.{some}
+use Rattle.ground.specs.Counting.Laws.Tests.{none-at, some-at}
 use Rattle.ground.specs.Truth.{and-true, or-left, or-right, cond-by, fails, same-test}
 use Rattle.judge.specs.declared.seen.Seen.{Seen}
 use Rattle.judge.specs.Laws.Numbers.{repeats-apart}

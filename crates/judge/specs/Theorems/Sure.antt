@@ -7,8 +7,8 @@ use Prim.Native.Nat.{ℕ, _<_}
 use native.Mathlib.Omega.{arith}
 use lib.Dec.{eqb, ltb}
 use borrow.Author.Tests.{eq-eqb, eqb-false, eqb-true, ltb-true, ne-eqb, not-false, not-true}
-use Rattle.counting.specs.Words.{some}
-use Rattle.counting.specs.Laws.Tests.{every-all, every-at, none-at, some-at, some-none, some-one}
+use Rattle.ground.specs.Counting.Words.{some}
+use Rattle.ground.specs.Counting.Laws.Tests.{every-all, every-at, none-at, some-at, some-none, some-one}
 use Rattle.ground.specs.Finite.{below, below-at, same-bit}
 use Rattle.ground.specs.Truth.{and-true, and-left, and-right, neither, fails, same-test, eq-or-ne}
 use Rattle.packet.specs.Kinds.{fixedKind}

@@ -9,8 +9,8 @@ use native.Mathlib.Omega.{arith}
 use lib.Dec.{eqb}
 use lib.ListN.{length}
 use borrow.Author.Tests.{eq-eqb}
-use Rattle.counting.specs.Laws.Tests.{none-at, some-at, some-none, some-one}
-use Rattle.counting.specs.Words.{some}
+use Rattle.ground.specs.Counting.Laws.Tests.{none-at, some-at, some-none, some-one}
+use Rattle.ground.specs.Counting.Words.{some}
 use Rattle.ground.specs.Finite.{same-bytes}
 use Rattle.ground.specs.Table.{length-tabulate}
 use Rattle.ground.specs.Truth.{clash}

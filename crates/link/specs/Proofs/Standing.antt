@@ -33,7 +33,7 @@ module _ (r : Road) where
   -- What is known of a port's step where its next frame is the one at x. Before the beginning: the run as it is.
   pub record Heard (p x : ℕ) (s : Step) : Type 0 where
     pub from : r .first p ≤ x
-    pub had : s .had ≡ cond (ltb (r .first p) x) 1 0
+    pub heard : s .heard ≡ cond (ltb (r .first p) x) 1 0
     pub failed : s .failed ≡ 0
     pub run : runOf s ≡ heardRun p x
 
@@ -77,8 +77,8 @@ module _ (r : Road) where
     pub in-step : (p : ℕ) → p < r .ports → startFrom (r .kind) (r .offset) (r .first p) + L r * 2 ≤ coming p
     pub stepped : (p : ℕ) → p < r .ports → Stepped (coming p) (stepAt (m .rows) p)
     pub live : (p : ℕ) → p < r .ports → Live p (coming p) (portAt (m .rows) p .gathering)
-    pub since : (p : ℕ) → p < r .ports → stepAt (m .rows) p .since ≡ 1
-    pub later : (p : ℕ) → p < r .ports → stepAt (m .rows) p .later ≡ 0
+    pub «ever_since» : (p : ℕ) → p < r .ports → stepAt (m .rows) p .«ever_since» ≡ 1
+    pub «joined_at» : (p : ℕ) → p < r .ports → stepAt (m .rows) p .«joined_at» ≡ 0
     -- none is further from the window than the window is wide
     pub behind : (p : ℕ) → p < r .ports → i * L r < coming p + r .window
     pub ahead : (p : ℕ) → p < r .ports → coming p ≤ i * L r + r .window

@@ -7,7 +7,7 @@ use Prim.Native.Nat.{ℕ, zero, suc, _+_, _-_, _*_, _/_, _%_, _≤_, _<_}
 use native.Mathlib.Omega.{arith}
 use borrow.Author.Tests.{eqb-true, ltb-true}
 use lib.ListN.{getD, length, length-replicate, replicate}
-use Rattle.counting.specs.Words.{every}
+use Rattle.ground.specs.Counting.Words.{every}
 use Rattle.ground.specs.Finite.{below-at}
 use Rattle.ground.specs.Plain.{if_then_else_, _==_, _<?_}
 use Rattle.ground.specs.Table.{length-tabulate}

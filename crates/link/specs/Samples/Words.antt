@@ -138,13 +138,13 @@ abbrev step : ℕ → ℕ → Step
 step count next =
     record {
       spare = zeros 4;
-      had = 1;
+      heard = 1;
       failed = 0;
       count = count;
       next = next;
       joined = 1;
-      since = 1;
-      later = 0;
+      «ever_since» = 1;
+      «joined_at» = 0;
       whole = 0;
       breaks = 0;
       odd = 0;

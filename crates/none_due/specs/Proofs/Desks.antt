@@ -29,16 +29,16 @@ use Rattle.packet.specs.Kinds.{fixedKind, frames}
 use Rattle.packet.specs.Theorems.Tags.{frames-two}
 use Rattle.phases.specs.Sizes.{portsIn}
 use Rattle.receiver.specs.declared.report.Report.{Report}
-use Rattle.receiver.specs.Fetch.{FetchOutcome, dueIn, fetchOf, fits, recordOf, reportIfDue}
+use Rattle.receiver.specs.Fetch.{FetchOutcome, dueIn, fetchOf, lentFits, recordOf, reportIfDue}
 use Rattle.receiver.specs.Frame.{frameOf}
-use Rattle.receiver.specs.Report.{reportBy, reportOf, seenAll}
+use Rattle.receiver.specs.Report.{reportBy, epochReport, seenAll}
 use Rattle.recording.specs.declared.record.Record.{Record}
 use Rattle.recording.specs.declared.record.Record.the-variants as R
-use Rattle.replaying.specs.declared.replay.Phase.{Phase}
-use Rattle.replaying.specs.declared.replay.Replay.{Replay}
-use Rattle.replaying.specs.Laws.Lengths.{length-fetch-rows, length-frame-rows, length-part}
-use Rattle.replaying.specs.Runs.{Desk, deskAfter, deskBy, deskThrough, fetched, framed, lineIn, readBy, reported}
-use Rattle.replaying.specs.Turn.{fetchRecordBy, fetchRowsBy, framedRows, payloadAt}
+use Rattle.replay_lines.specs.declared.replay.Phase.{Phase}
+use Rattle.replay_lines.specs.declared.replay.Replay.{Replay}
+use Rattle.replay_lines.specs.Laws.Lengths.{length-fetch-rows, length-frame-rows, length-part}
+use Rattle.replay_lines.specs.Runs.{Desk, deskAfter, deskBy, deskThrough, fetched, framed, lineIn, readBy, reported}
+use Rattle.replay_lines.specs.Turn.{fetchRecordBy, fetchRowsBy, framedRows, payloadAt}
 use Rattle.rows.specs.Group.{groupAt}
 use Rattle.rows.specs.Rows.{rowsFor}
 
@@ -64,15 +64,15 @@ module _ (out : List ℕ) where
   eight = replicate 8 0
 
   abbrev givesAt : Desk → Bool
-  givesAt d = fits (ownRows d) (ownStore d) out eight && dueIn (groupAt (ownRows d)) (portsIn (groupAt (ownRows d))) (ownRows d)
+  givesAt d = lentFits (ownRows d) (ownStore d) out eight && dueIn (groupAt (ownRows d)) (portsIn (groupAt (ownRows d))) (ownRows d)
 
   -- a mark above 0 says that a report was given
   due-is : (d : Desk) → isDueAt out d ≡ givesAt d
-  unfolding fetchRecordBy fetchOf reportIfDue recordOf reportOf reportBy
+  unfolding fetchRecordBy fetchOf reportIfDue recordOf epochReport reportBy
   due-is d =
       cond-by
-      (λ (o : FetchOutcome). ltb 0 (getD (o .report) 0 0) ≡ (fits (ownRows d) (ownStore d) out eight && dueIn (groupAt (ownRows d)) (portsIn (groupAt (ownRows d))) (ownRows d)))
-      (fits (ownRows d) (ownStore d) out eight) _ _
+      (λ (o : FetchOutcome). ltb 0 (getD (o .report) 0 0) ≡ (lentFits (ownRows d) (ownStore d) out eight && dueIn (groupAt (ownRows d)) (portsIn (groupAt (ownRows d))) (ownRows d)))
+      (lentFits (ownRows d) (ownStore d) out eight) _ _
       (λ e.
       rw e
       (cond-by (λ (r : Report). ltb 0 (getD (recordOf r) 0 0) ≡ dueIn (groupAt (ownRows d)) (portsIn (groupAt (ownRows d))) (ownRows d)) (dueIn (groupAt (ownRows d)) (portsIn (groupAt (ownRows d))) (ownRows d)) _ _
@@ -83,9 +83,9 @@ module _ (out : List ℕ) where
       mark = lt-ltb 0 _ (judge-some (groupAt (ownRows d) .kind) (seenAll (groupAt (ownRows d)) (ownRows d) (portsIn (groupAt (ownRows d)))) (sizeOf (portsIn (groupAt (ownRows d)))))
 
   due-given : (d : Desk) → isDueAt out d ≡ true → Given (ownRows d) (ownStore d) out eight
-  due-given d e = go (fits (ownRows d) (ownStore d) out eight) (dueIn (groupAt (ownRows d)) (portsIn (groupAt (ownRows d))) (ownRows d)) refl refl (sym (due-is d) ∙ e)
+  due-given d e = go (lentFits (ownRows d) (ownStore d) out eight) (dueIn (groupAt (ownRows d)) (portsIn (groupAt (ownRows d))) (ownRows d)) refl refl (sym (due-is d) ∙ e)
     where
-      go : (a b : Bool) → fits (ownRows d) (ownStore d) out eight ≡ a → dueIn (groupAt (ownRows d)) (portsIn (groupAt (ownRows d))) (ownRows d) ≡ b → (a && b) ≡ true → Given (ownRows d) (ownStore d) out eight
+      go : (a b : Bool) → lentFits (ownRows d) (ownStore d) out eight ≡ a → dueIn (groupAt (ownRows d)) (portsIn (groupAt (ownRows d))) (ownRows d) ≡ b → (a && b) ≡ true → Given (ownRows d) (ownStore d) out eight
       go true true e f t = record { fitting = e; due = f }
       go true false e f t = absurd (false≢true t)
       go false b e f t = absurd (false≢true t)

@@ -20,8 +20,8 @@ use Rattle.invariant.specs.Proofs.Laws.Window.{distance-passed}
 use Rattle.invariant.specs.Proofs.Sizes.{fetch-sizes}
 use Rattle.invariant.specs.Reports.{Given}
 use Rattle.judge.specs.Seen.{sizeOf}
-use Rattle.counting.specs.Laws.Tests.{some-not-none, some-one}
-use Rattle.counting.specs.Words.{One}
+use Rattle.ground.specs.Counting.Laws.Tests.{some-not-none, some-one}
+use Rattle.ground.specs.Counting.Words.{One}
 use Rattle.none_due.specs.Fetches.{AllGive}
 use Rattle.packet.specs.Kinds.{frames}
 use Rattle.phases.specs.Due.{silent}
@@ -127,13 +127,13 @@ readable-joined s k d i b r =
     let g : Group = groupAt s in
     let q : Step = portAt s i .step in
     ⊎-elim (λ (j : flagOf (q .joined) ≡ true). j)
-    (λ (e : flagOf (q .since) ≡ true).
+    (λ (e : flagOf (q .«ever_since») ≡ true).
     ⊎-elim (λ (j : flagOf (q .joined) ≡ true). j)
     (λ (j : flagOf (q .joined) ≡ false).
     let w = k .lasting .ports i b .kept .waits e j .gathered in
     absurd (false≢true (sym (ap flagOf w) ∙ d .gathered)))
     (true-or-false (flagOf (q .joined))))
-    (or-cases (flagOf (q .joined)) (flagOf (q .since)) (and-right (flagOf (g .begun) && inStep g q) (flagOf (q .joined) || flagOf (q .since)) r))
+    (or-cases (flagOf (q .joined)) (flagOf (q .«ever_since»)) (and-right (flagOf (g .begun) && inStep g q) (flagOf (q .joined) || flagOf (q .«ever_since»)) r))
 
 heard-one : (g : Group) (s : List (List ℕ)) (n : ℕ) → silent g s n ≡ false → One n (λ i. readable g (stepAt s i))
 unfolding silent

@@ -22,14 +22,14 @@ use Rattle.recording.specs.declared.pairs.Settings.{Settings}
 use Rattle.recording.specs.Laws.Times.{Timed, TimedIn, opening-timed}
 use Rattle.recording.specs.Opening.{Opening, lineOpening}
 use Rattle.recording.specs.Opening.{Opening as O}
-use Rattle.replaying.specs.declared.replay.Phase.{Phase}
-use Rattle.replaying.specs.declared.replay.Phase.the-variants as P
-use Rattle.replaying.specs.Laws.Due.{dueAt, none-due}
-use Rattle.replaying.specs.Laws.Lengths.{length-part, length-started-rows}
-use Rattle.replaying.specs.Laws.Starts.{small, start-sized}
-use Rattle.replaying.specs.Replay.{beginning}
-use Rattle.replaying.specs.Runs.{Desk, deskAfter, deskThrough, openedBy}
-use Rattle.replaying.specs.Turn.{answeredTurn, clearedRows, holdOffs, isSized, openWithRows, openWithTurn, restores, startable, startedRows, storeIn, timesFit}
+use Rattle.replay_lines.specs.declared.replay.Phase.{Phase}
+use Rattle.replay_lines.specs.declared.replay.Phase.the-variants as P
+use Rattle.replay_lines.specs.Laws.Due.{dueAt, none-due}
+use Rattle.replay_lines.specs.Laws.Lengths.{length-part, length-started-rows}
+use Rattle.replay_lines.specs.Laws.Starts.{small, start-sized}
+use Rattle.replay_lines.specs.Replay.{beginning}
+use Rattle.replay_lines.specs.Runs.{Desk, deskAfter, deskThrough, openedBy}
+use Rattle.replay_lines.specs.Turn.{answeredTurn, clearedRows, holdOffs, isSized, openWithRows, openWithTurn, restores, startable, startedRows, storeIn, timesFit}
 use Rattle.rows.specs.declared.group.Group.{Group}
 use Rattle.rows.specs.Group.{groupAt}
 use Rattle.rows.specs.Rows.{rowsFor}

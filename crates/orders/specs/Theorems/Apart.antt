@@ -5,13 +5,13 @@ use mathlib.Core.List.{List, [], _∷_}
 use Prim.Native.Nat.{ℕ, _<_}
 use lib.Dec.{eqb}
 use borrow.Author.Tests.{eqb-true}
-use Rattle.circuits.specs.declared.card.Card.{Card}
-use Rattle.circuits.specs.Answers.{answerNumber}
-use Rattle.circuits.specs.Calls.{outcomeOf}
-use Rattle.circuits.specs.Theorems.Apart as single
-use Rattle.circuits.specs.Views.{Asked, Reply, askedBy, bitsOf, repliesTo, viewOf}
-use Rattle.circuits.specs.Views.Asked.{Do}
-use Rattle.circuits.specs.Views.Reply.{Answered, Wrote, Showed, Ranked, Owns}
+use Rattle.cards.specs.declared.card.Card.{Card}
+use Rattle.cards.specs.Answers.{answerNumber}
+use Rattle.cards.specs.Calls.{outcomeOf}
+use Rattle.cards.specs.Theorems.Apart as single
+use Rattle.cards.specs.Views.{Asked, Reply, askedBy, bitsOf, repliesTo, viewOf}
+use Rattle.cards.specs.Views.Asked.{Do}
+use Rattle.cards.specs.Views.Reply.{Answered, Wrote, Showed, Ranked, Owns}
 use Rattle.orders.specs.Singles.{Same, answersTo, commandsOf, singlesOf}
 use Rattle.orders.specs.declared.commands.Command.{Command}
 use Rattle.orders.specs.Orders.{callBy, ordersOf, outcomeBy}

@@ -4,7 +4,7 @@ use mathlib.Core.List.{List, _++_}
 use Prim.Native.Nat.{ℕ, _+_}
 use lib.ListN.{length, length-append}
 use borrow.Author.Tests.{eq-eqb}
-use Rattle.circuits.specs.declared.card.Card.{Card}
+use Rattle.cards.specs.declared.card.Card.{Card}
 use Rattle.orders.specs.declared.commands.Command.{Command}
 use Rattle.orders.specs.Laws.Folding.{cut-numbers, cut-state}
 use Rattle.orders.specs.Orders.{answersOf, cardBy, numberBy, orderedOf, ordersOf}

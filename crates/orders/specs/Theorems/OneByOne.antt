@@ -5,9 +5,9 @@ use mathlib.Core.List.{List, [], _∷_}
 use Prim.Native.Nat.{ℕ}
 use lib.ListN.{length}
 use borrow.Author.Tests.{eq-eqb, ne-eqb}
-use Rattle.circuits.specs.declared.answers.Answer.the-variants as A
-use Rattle.circuits.specs.declared.card.Card.{Card}
-use Rattle.circuits.specs.Views.{run}
+use Rattle.cards.specs.declared.answers.Answer.the-variants as A
+use Rattle.cards.specs.declared.card.Card.{Card}
+use Rattle.cards.specs.Views.{run}
 use Rattle.orders.specs.declared.commands.Command.{Command}
 use Rattle.orders.specs.Orders.{answersOf, orderedOf, ordersOf, outcomeBy}
 use Rattle.orders.specs.Singles.{singleNumber, singleNumbers, singlesOf}

@@ -13,7 +13,7 @@ use Rattle.ground.specs.Catching.{Firm, firm-catches}
 use Rattle.ground.specs.Distance.{caught}
 use Rattle.ground.specs.Division.{left, length-check, length-remainder}
 use Rattle.ground.specs.Finite.{sameBits, same-bits, bits-same}
-use Rattle.ground.specs.Polynomial.{apart, check, remainder, sealed, sum, zeros}
+use Rattle.ground.specs.Polynomial.{bitsApart, check, remainder, sealed, sum, zeros}
 use Rattle.ground.specs.Sums.{sum-apart, sum-self}
 use Rattle.ground.specs.Table.{getD-tabulate, tabulate, tabulate-ext, tabulate-self}
 use Rattle.ground.specs.Truth.{fails}
@@ -135,7 +135,7 @@ sized : length vc12Divisor ≡ 3
 unfolding vc12Divisor
 sized = refl
 
-pub bits-damaged : (d l : List Bool) → length d ≡ 29 → length l ≡ 32 → apart (sealed vc12Divisor d) l ≡ 1 → readVc12Bits l ≡ Crc
+pub bits-damaged : (d l : List Bool) → length d ≡ 29 → length l ≡ 32 → bitsApart (sealed vc12Divisor d) l ≡ 1 → readVc12Bits l ≡ Crc
 bits-damaged d l hd hl one = wrong-read l refused
   where
     halves : take 29 l ++ drop 29 l ≡ l
@@ -143,7 +143,7 @@ bits-damaged d l hd hl one = wrong-read l refused
 
     refused : check vc12Divisor (take 29 l) ≡ drop 29 l → ⊥
     refused same =
-        let e : apart (sealed vc12Divisor d) (take 29 l ++ drop 29 l) ≡ 1 = rw halves one in
+        let e : bitsApart (sealed vc12Divisor d) (take 29 l ++ drop 29 l) ≡ 1 = rw halves one in
         caught vc12Divisor 32 2 (firm-catches vc12Divisor firm 32) d (take 29 l) (drop 29 l)
         (hd ∙ sym (length-take-le 29 l (omega arith))) (length-drop 29 l ∙ rw (hl, sized) refl) (rw (hd, sized) (omega arith)) (omega arith) (omega arith) same
 

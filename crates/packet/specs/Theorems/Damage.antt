@@ -8,7 +8,7 @@ use lib.ListN.{length, getD, take, take-append-drop, drop-of-length-le}
 use lib.Seq.{drop-cons, length-take-le}
 use Rattle.ground.specs.Bits.{bits}
 use Rattle.ground.specs.Distance.{caught}
-use Rattle.ground.specs.Polynomial.{apart, check}
+use Rattle.ground.specs.Polynomial.{bitsApart, check}
 use Rattle.packet.specs.declared.layout.Fields.{Fields}
 use Rattle.packet.specs.declared.reader.Reading.the-variants.{Crc}
 use Rattle.packet.specs.declared.writer.Writing.the-variants.{Done}
@@ -36,7 +36,7 @@ last-two ns h =
 
 -- sixteen nibbles that differ from a packet's in one to three bits
 pub nibbles-damaged : (d ns : List ℕ) → length d ≡ 14 → length ns ≡ 16
-    → 1 ≤ apart (bitsOf (sealedOf d)) (bitsOf ns) → apart (bitsOf (sealedOf d)) (bitsOf ns) ≤ 3 → readNibbles ns ≡ Crc
+    → 1 ≤ bitsApart (bitsOf (sealedOf d)) (bitsOf ns) → bitsApart (bitsOf (sealedOf d)) (bitsOf ns) ≤ 3 → readNibbles ns ≡ Crc
 unfolding divisor nibbleBits readNibbles carriedIn
 nibbles-damaged d ns hd hn low high = rw (ne-eqb (crcOf (take 14 ns)) (byteOf a b) refused) refl
   where
@@ -60,7 +60,7 @@ nibbles-damaged d ns hd hn low high = rw (ne-eqb (crcOf (take 14 ns)) (byteOf a 
         caught divisor 64 4 catches-three (bitsOf d) (bitsOf (take 14 ns)) (nibbleBits a ++ nibbleBits b)
         (length-bits-of d ∙ ap (λ (n : ℕ). n * 4) (hd ∙ sym front) ∙ sym (length-bits-of (take 14 ns))) refl
         (let h = length-bits-of d in omega arith)
-        (rw (packet-bits d, tail) at low) (let few : apart (bitsOf (sealedOf d)) (bitsOf ns) < 4 = omega arith in rw (packet-bits d, tail) at few) (fitted a b (take 14 ns) same)
+        (rw (packet-bits d, tail) at low) (let few : bitsApart (bitsOf (sealedOf d)) (bitsOf ns) < 4 = omega arith in rw (packet-bits d, tail) at few) (fitted a b (take 14 ns) same)
 
 pub sent : (f : Fields) (s : List ℕ) → writeAnswer f s ≡ Done → highsOf (writeBytes f s) ≡ sealedOf (dataOf f)
 unfolding nibblesOf

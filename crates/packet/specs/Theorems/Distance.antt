@@ -8,7 +8,7 @@ use lib.ListN.{length}
 use Rattle.ground.specs.Bits.{bits}
 use Rattle.ground.specs.Catching.{Catches, Strong, strong-catches}
 use Rattle.ground.specs.Distance.{sealed-apart}
-use Rattle.ground.specs.Polynomial.{apart, sealed}
+use Rattle.ground.specs.Polynomial.{bitsApart, sealed}
 use Rattle.packet.specs.Bounds.{Bounds}
 use Rattle.packet.specs.declared.layout.Fields.{Fields}
 use Rattle.packet.specs.Crc.{bitsOf, crcOf, divisor, nibbleBits}
@@ -36,7 +36,7 @@ packet-bits d =
     ∙ ap (λ (n : ℕ). bits 8 n) (byte-back (crcOf d) (crc-lt d))
     ∙ crc-bits d)
 
-pub data-apart : (d e : List ℕ) → Nibbles d → Nibbles e → length d ≡ 14 → length e ≡ 14 → (d ≡ e → ⊥) → 4 ≤ apart (bitsOf (sealedOf d)) (bitsOf (sealedOf e))
+pub data-apart : (d e : List ℕ) → Nibbles d → Nibbles e → length d ≡ 14 → length e ≡ 14 → (d ≡ e → ⊥) → 4 ≤ bitsApart (bitsOf (sealedOf d)) (bitsOf (sealedOf e))
 unfolding divisor
 data-apart d e nd ne hd he differ =
     rw (packet-bits d, packet-bits e)
@@ -46,7 +46,7 @@ data-apart d e nd ne hd he differ =
     (λ same. differ (bits-tell d e nd ne (hd ∙ sym he) same)))
 
 -- two packets of which some field or some reserved or zero bit differs
-pub packets-apart : (f g : Fields) → Bounds f → Bounds g → (f ≡ g → ⊥) → 4 ≤ apart (bitsOf (nibblesOf f)) (bitsOf (nibblesOf g))
+pub packets-apart : (f g : Fields) → Bounds f → Bounds g → (f ≡ g → ⊥) → 4 ≤ bitsApart (bitsOf (nibblesOf f)) (bitsOf (nibblesOf g))
 unfolding nibblesOf dataOf
 packets-apart f g bf bg differ =
     data-apart (dataOf f) (dataOf g) (data-nibbles f bf) (data-nibbles g bg) refl refl

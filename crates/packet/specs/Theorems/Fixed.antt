@@ -8,7 +8,7 @@ use native.Mathlib.Omega.{arith}
 use borrow.Author.Tests.{ltb-true, ne-eqb}
 use lib.Dec.{eqb, ltb}
 use lib.ListN.{getD, length}
-use Rattle.ground.specs.Polynomial.{apart}
+use Rattle.ground.specs.Polynomial.{bitsApart}
 use Rattle.ground.specs.Truth.{and-left, and-right, cond-by}
 use Rattle.packet.specs.Counts.{counts}
 use Rattle.packet.specs.Kinds.{epochOf, fixedKind, placeOf, tagOf}
@@ -117,6 +117,6 @@ fixed-answered s = go (eqb (length s) 16) (eqb (getD s 10 0 / 16 % 16) 0) refl r
     go true false hl ht = rw (hl, ht) refl
     go false t hl ht = rw hl refl
 
-pub one-bit : (readFixedAnswer (fixedSent 5) ≡ Packet (fixedFields 58 5)) × (readFixedAnswer (fixedSent 4) ≡ Packet (fixedFields 58 4)) × (apart (bitsOf (highsOf (fixedSent 5))) (bitsOf (highsOf (fixedSent 4))) ≡ 1)
+pub one-bit : (readFixedAnswer (fixedSent 5) ≡ Packet (fixedFields 58 5)) × (readFixedAnswer (fixedSent 4) ≡ Packet (fixedFields 58 4)) × (bitsApart (bitsOf (highsOf (fixedSent 5))) (bitsOf (highsOf (fixedSent 4))) ≡ 1)
 unfolding writeFixedBytes fixedNibbles fixedNibblesWith h4Of highsOf readFixedAnswer readFixedNibbles nibbleBits
 one-bit = (refl, refl, refl)

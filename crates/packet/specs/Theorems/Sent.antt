@@ -7,7 +7,7 @@ use native.Mathlib.Omega.{arith}
 use lib.Dec.{eqb}
 use lib.ListN.{getD, length}
 use Rattle.ground.specs.Bits.{bit-number, odd}
-use Rattle.ground.specs.Polynomial.{apart}
+use Rattle.ground.specs.Polynomial.{bitsApart}
 use Rattle.ground.specs.Table.{getD-tabulate, tabulate, tabulate-ext}
 use Rattle.packet.specs.AsSent.{Sent}
 use Rattle.packet.specs.Changes.{changed, changedBits, mostChanges}
@@ -96,7 +96,7 @@ vc12-counted x f e =
 
 -- The laws, one kind after the other.
 
-damaged-vc12 : (f : Fields) (came : List ℕ) → apart (vc12Bits f) (lowestOf came) ≡ 1 → readVc12Bits (lowestOf came) ≡ Crc
+damaged-vc12 : (f : Fields) (came : List ℕ) → bitsApart (vc12Bits f) (lowestOf came) ≡ 1 → readVc12Bits (lowestOf came) ≡ Crc
 unfolding vc12Bits
 damaged-vc12 f came one = bits-damaged (vc12Data f) (lowestOf came) (length-bits f) (length-lowest came) one
 
@@ -110,7 +110,7 @@ of-vc12 f s done =
       long = ap length (w .bytes);
       told = λ x e. rw (counts-vc12 (x % 1024) (getD (writeVc12Bytes f s) ((x % 1024 + 0) % 32) 0), w .bytes) (let z : x % 1024 + 0 ≡ x % 1024 = omega arith in rw z (vc12-counted x f (e ∙ omega arith)));
       reads = rw (row-lowest (writeVc12Bytes f s), low) (bits-back f (w .fits));
-      refused = λ came one most. let single : apart (lowestOf (writeVc12Bytes f s)) (lowestOf came) ≡ 1 = omega arith in rw (row-lowest came) (damaged-vc12 f came (rw low at single));
+      refused = λ came one most. let single : bitsApart (lowestOf (writeVc12Bytes f s)) (lowestOf came) ≡ 1 = omega arith in rw (row-lowest came) (damaged-vc12 f came (rw low at single));
     }
 
 module _ (kind : ℕ) (f : Fields) (s : List ℕ) (clock : eqb kind vc12Kind ≡ false) (done : writeAnswer f s ≡ Done) where

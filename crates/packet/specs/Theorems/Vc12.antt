@@ -10,7 +10,7 @@ use lib.Dec.{eqb}
 use lib.ListN.{drop, getD, length, replicate, take, take-append-drop}
 use Rattle.ground.specs.Bits.{bit-number, number, number-lt, odd}
 use Rattle.ground.specs.Finite.{sameBits, same-bits}
-use Rattle.ground.specs.Polynomial.{apart, check, sealed}
+use Rattle.ground.specs.Polynomial.{bitsApart, check, sealed}
 use Rattle.ground.specs.Table.{getD-tabulate, tabulate, tabulate-ext, tabulate-self}
 use Rattle.ground.specs.Truth.{eq-or-ne}
 use Rattle.packet.specs.Again.{Started, Vc12Again}
@@ -161,14 +161,14 @@ module _ (s t : List ℕ) (f : Fields) (e : readVc12Answer s ≡ Packet f) (room
 -- One changed bit is refused with 5, and two can pass.
 
 pub vc12-damaged : (f : Fields) (s came : List ℕ) → writeVc12Answer f s ≡ Done → length came ≡ 32
-    → apart (lowestOf (writeVc12Bytes f s)) (lowestOf came) ≡ 1 → readVc12Answer came ≡ Crc
+    → bitsApart (lowestOf (writeVc12Bytes f s)) (lowestOf came) ≡ 1 → readVc12Answer came ≡ Crc
 unfolding readVc12Answer vc12Bits
 vc12-damaged f s came e h one =
     rw (eq-eqb (length came) 32 h)
     (bits-damaged (vc12Data f) (lowestOf came) (length-data f) (length-lowest came) (rw (vc12-bits f s e) at one))
 
 pub two-bits : (readVc12Answer (sentOf (nine NORM 0)) ≡ Packet (nine NORM 0)) × (readVc12Answer (sentOf (nine EOS 0x80)) ≡ Packet (nine EOS 0x80))
-    × (apart (lowestOf (sentOf (nine NORM 0))) (lowestOf (sentOf (nine EOS 0x80))) ≡ 2)
+    × (bitsApart (lowestOf (sentOf (nine NORM 0))) (lowestOf (sentOf (nine EOS 0x80))) ≡ 2)
 unfolding writeVc12Bytes vc12Fits vc12Bytes vc12Bits vc12Data vc12Divisor readVc12Answer readVc12Bits vc12Fields lowestOf assigned
 two-bits = (refl, refl, refl)
 

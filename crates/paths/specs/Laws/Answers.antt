@@ -7,7 +7,7 @@ use native.Mathlib.Omega.{arith}
 use lib.Dec.{leb}
 use lib.ListN.{length}
 use borrow.Author.Tests.{le-leb, leb-true}
-use Rattle.counting.specs.Laws.Tests.{every-all, every-at}
+use Rattle.ground.specs.Counting.Laws.Tests.{every-all, every-at}
 use Rattle.ground.specs.Truth.{and-left, and-right}
 use Rattle.paths.specs.declared.answers.Answer.the-variants.{Done, Range}
 use Rattle.paths.specs.Answers.{answerOf, areShort, inRange, numberOf, sized}

@@ -8,7 +8,7 @@ use native.Mathlib.Nat.{not-suc-le-zero}
 use native.Mathlib.Omega.{arith}
 use lib.ListN.{length, getD, length-append, List·getD-append}
 use lib.Seq.{getD-at}
-use Rattle.counting.specs.Words.{count}
+use Rattle.ground.specs.Counting.Words.{count}
 use Rattle.ground.specs.Truth.{le-or-lt}
 use Rattle.paths.specs.Planning.{listed}
 

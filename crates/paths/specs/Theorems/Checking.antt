@@ -9,20 +9,20 @@ use native.Mathlib.Omega.{arith}
 use lib.Dec.{eqb, leb, ltb}
 use lib.ListN.{length}
 use borrow.Author.Tests.{eq-eqb, eqb-true, eqb-false, ne-eqb, le-leb, leb-true, lt-ltb, ltb-true, ltb-false, not-true}
-use Rattle.counting.specs.Laws.Tests.{every-all, every-at}
-use Rattle.counting.specs.Words.{every}
+use Rattle.ground.specs.Counting.Laws.Tests.{every-all, every-at}
+use Rattle.ground.specs.Counting.Words.{every}
 use Rattle.ground.specs.Truth.{and-true, and-left, and-right, cond-by, le-or-lt}
-use Rattle.paths.specs.Checking.{accepts, agree, agreesWith, apart, fits}
+use Rattle.paths.specs.Checking.{accepts, agree, agreesWith, delaysApart, entryFits}
 use Rattle.paths.specs.Paths.{Good, delayAt, pathAt}
 
-near-both : (x y s : ℕ) → apart x y ≤ s → (x ≤ y + s) × (y ≤ x + s)
+near-both : (x y s : ℕ) → delaysApart x y ≤ s → (x ≤ y + s) × (y ≤ x + s)
 near-both x y s = go (ltb x y) refl
   where
     go : (b : Bool) → ltb x y ≡ b → cond b (y - x) (x - y) ≤ s → (x ≤ y + s) × (y ≤ x + s)
     go true e h = let l = ltb-true x y e in (omega arith, omega arith)
     go false e h = let l = ltb-false x y e in (omega arith, omega arith)
 
-both-near : (x y s : ℕ) → x ≤ y + s → y ≤ x + s → apart x y ≤ s
+both-near : (x y s : ℕ) → x ≤ y + s → y ≤ x + s → delaysApart x y ≤ s
 both-near x y s h g = cond-by (λ d. d ≤ s) (ltb x y) (y - x) (x - y) (λ e. omega arith) (λ e. omega arith)
 
 module _ (delays : List ℕ) (k W : ℕ) (set : List ℕ) where
@@ -35,21 +35,21 @@ module _ (delays : List ℕ) (k W : ℕ) (set : List ℕ) where
   Apart : ℕ → ℕ → Type 0
   Apart a b = (pathAt set b ≢ pathAt set a) × (delay b ≤ delay a + s) × (delay a ≤ delay b + s)
 
-  fits-at : accepts delays k s set ≡ true → (a : ℕ) → a < length set → fits delays set s a ≡ true
+  fits-at : accepts delays k s set ≡ true → (a : ℕ) → a < length set → entryFits delays set s a ≡ true
   unfolding accepts
-  fits-at e a h = every-at (length set) (fits delays set s) (and-right (eqb (length set) k) (every (length set) (fits delays set s)) e) a h
+  fits-at e a h = every-at (length set) (entryFits delays set s) (and-right (eqb (length set) k) (every (length set) (entryFits delays set s)) e) a h
 
   many-at : accepts delays k s set ≡ true → length set ≡ k
   unfolding accepts
-  many-at e = eqb-true (length set) k (and-left (eqb (length set) k) (every (length set) (fits delays set s)) e)
+  many-at e = eqb-true (length set) k (and-left (eqb (length set) k) (every (length set) (entryFits delays set s)) e)
 
   apart-at : accepts delays k s set ≡ true → (a b : ℕ) → a < length set → b < a → Apart a b
   unfolding Apart agree agreesWith
   apart-at e a b h l =
       let f = and-right (ltb (pathAt set a) (length delays)) (agreesWith delays set s a) (fits-at e a h) in
       let g = every-at a (λ c. agree delays s (pathAt set c) (pathAt set a)) f b l in
-      let d = eqb-false (pathAt set b) (pathAt set a) (not-true (eqb (pathAt set b) (pathAt set a)) (and-left (not (eqb (pathAt set b) (pathAt set a))) (leb (apart (delay b) (delay a)) s) g)) in
-      let n = near-both (delay b) (delay a) s (leb-true (apart (delay b) (delay a)) s (and-right (not (eqb (pathAt set b) (pathAt set a))) (leb (apart (delay b) (delay a)) s) g)) in
+      let d = eqb-false (pathAt set b) (pathAt set a) (not-true (eqb (pathAt set b) (pathAt set a)) (and-left (not (eqb (pathAt set b) (pathAt set a))) (leb (delaysApart (delay b) (delay a)) s) g)) in
+      let n = near-both (delay b) (delay a) s (leb-true (delaysApart (delay b) (delay a)) s (and-right (not (eqb (pathAt set b) (pathAt set a))) (leb (delaysApart (delay b) (delay a)) s) g)) in
       (d, n .0, n .1)
 
   pub accepts-good : accepts delays k (W - 16) set ≡ true → Good delays k W set
@@ -75,12 +75,12 @@ module _ (delays : List ℕ) (k W : ℕ) (set : List ℕ) where
   pub good-accepts : Good delays k W set → accepts delays k (W - 16) set ≡ true
   unfolding accepts agreesWith agree
   good-accepts g =
-      and-true (eqb (length set) k) (every (length set) (fits delays set s)) (eq-eqb (length set) k (g .many))
-      (every-all (length set) (fits delays set s) (λ a h.
+      and-true (eqb (length set) k) (every (length set) (entryFits delays set s)) (eq-eqb (length set) k (g .many))
+      (every-all (length set) (entryFits delays set s) (λ a h.
       and-true (ltb (pathAt set a) (length delays)) (agreesWith delays set s a) (lt-ltb (pathAt set a) (length delays) (g .named a h))
       (every-all a (λ b. agree delays s (pathAt set b) (pathAt set a)) (λ b l.
       let hb : b < length set = omega arith in
       let d : pathAt set b ≢ pathAt set a = (λ (q : pathAt set b ≡ pathAt set a). let w = g .different b a hb h q in omega arith) in
-      and-true (not (eqb (pathAt set b) (pathAt set a))) (leb (apart (delay b) (delay a)) s)
+      and-true (not (eqb (pathAt set b) (pathAt set a))) (leb (delaysApart (delay b) (delay a)) s)
       (rw (ne-eqb (pathAt set b) (pathAt set a) d))
-      (le-leb (apart (delay b) (delay a)) s (both-near (delay b) (delay a) s (g .near b a hb h) (g .near a b h hb)))))))
+      (le-leb (delaysApart (delay b) (delay a)) s (both-near (delay b) (delay a) s (g .near b a hb h) (g .near a b h hb)))))))

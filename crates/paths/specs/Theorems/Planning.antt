@@ -10,10 +10,10 @@ use lib.Dec.{eqb, leb}
 use lib.ListN.{length, getD, take}
 use lib.Seq.{take-append-seam}
 use borrow.Author.Tests.{eq-eqb, le-leb, lt-leb}
-use Rattle.counting.specs.Laws.Numbers.{count-le}
-use Rattle.counting.specs.Laws.Ranks.{Top, count-taken, some-top, taken}
-use Rattle.counting.specs.Laws.Tests.{some-at}
-use Rattle.counting.specs.Words.{Apart, count}
+use Rattle.ground.specs.Counting.Laws.Numbers.{count-le}
+use Rattle.ground.specs.Counting.Laws.Ranks.{Top, count-taken, some-top, taken}
+use Rattle.ground.specs.Counting.Laws.Tests.{some-at}
+use Rattle.ground.specs.Counting.Words.{Apart, count}
 use Rattle.ground.specs.Drawn.{within-said, within-true}
 use Rattle.ground.specs.Truth.{and-true, le-or-lt}
 use Rattle.paths.specs.Answers.{answerOf, inRange, numberOf}
@@ -24,7 +24,7 @@ use Rattle.paths.specs.Laws.Ranks.{candidate, candidate-below, candidate
 use Rattle.paths.specs.Laws.Spreads.{spread-least, within-spread}
 use Rattle.paths.specs.Laws.Stretches.{tightest-first, tightest-least, tightest-spread}
 use Rattle.paths.specs.Order.{rankOf, ranksOf, sortedBy}
-use Rattle.paths.specs.Paths.{Asked, Good, Within, delayAt, pathAt, spreadOf}
+use Rattle.paths.specs.Paths.{Asked, Good, InSpread, delayAt, pathAt, spreadOf}
 use Rattle.paths.specs.Planning.{inStretch, listed, planOf, proposed, setOf, tightestOf}
 use Rattle.paths.specs.Theorems.Checking.{good-accepts}
 
@@ -117,7 +117,7 @@ module _ (delays : List ℕ) (k : ℕ) (few : length delays ≤ 64) (one : 1 ≤
   abbrev tight : List ℕ
   tight = listed n (inStretch (ranksOf delays) first k)
 
-  tight-within : Within delays least tight
+  tight-within : InSpread delays least tight
   tight-within a b ha hb =
       let i = listed-at n (chosen first first-fits) a ha in
       let j = listed-at n (chosen first first-fits) b hb in

@@ -13,15 +13,10 @@ use Rattle.ground.specs.Finite.{below-at}
 use Rattle.ground.specs.Truth.{and-true, and-left, and-right}
 use Rattle.payload.specs.declared.answer.Answer.{Answer}
 use Rattle.payload.specs.declared.answer.Answer.the-variants.{Done, Range, Length}
-use Rattle.payload.specs.Answers.{PAYLOAD-MOST, answerBy, numberOf, sized}
+use Rattle.payload.specs.Answers.{PAYLOAD-MOST, Sizes, answerBy, numberOf, sized}
 use Rattle.payload.specs.Joining.{wholeAnswer, rankedByte, joined, startedByte, startsFit, fromAnswer, joinedFrom}
 use Rattle.payload.specs.Order.{groupByte, groupFrame, memberFrame}
 use Rattle.payload.specs.Spreading.{allMembers, spreadAll, oneAnswer, spreadOne}
-
-pub record Sizes (X P : ℕ) : Type 0 where
-  pub ranks : X ≤ 64
-  pub least : 1 ≤ P
-  pub most : P ≤ PAYLOAD-MOST
 
 pub sizes : (X P : ℕ) → sized X P ≡ true → Sizes X P
 sizes X P h =

@@ -9,7 +9,8 @@ use lib.ListN.{length, getD}
 use borrow.Author.Tests.{lt-ltb}
 use Rattle.ground.specs.Drawn.{fillAt, fillAt-ext, getD-fillAt}
 use Rattle.ground.specs.Table.{tabulate, length-tabulate, getD-tabulate, tabulate-ext, tabulate-self}
-use Rattle.payload.specs.Laws.Fits.{Sizes, FromFits, spread-done, joined-done, joined-from-done}
+use Rattle.payload.specs.Answers.{Sizes}
+use Rattle.payload.specs.Laws.Fits.{FromFits, spread-done, joined-done, joined-from-done}
 use Rattle.payload.specs.Joining.{rankedByte, joined, startedByte, joinedFrom}
 use Rattle.payload.specs.Laws.Ranks.{ranked}
 use Rattle.payload.specs.Order.{groupByte, groupFrame, memberByte, memberFrame}

@@ -9,8 +9,8 @@ use native.Mathlib.Omega.{arith}
 use native.Mathlib.Nat.{not-suc-le-zero}
 use borrow.Author.Tests.{eq-eqb, ne-eqb, eqb-false, leb-true, le-leb, lt-ltb, le-ltb, not-true}
 use lib.Dec.{eqb, leb, ltb}
-use Rattle.counting.specs.Laws.Tests.{every-all, every-at}
-use Rattle.counting.specs.Words.{every}
+use Rattle.ground.specs.Counting.Laws.Tests.{every-all, every-at}
+use Rattle.ground.specs.Counting.Words.{every}
 use Rattle.ground.specs.Truth.{and-left, and-right, and-true, eq-or-ne, le-or-lt, or-right}
 use Rattle.packet.specs.Kinds.{distanceOf, frames, tags}
 use Rattle.packet.specs.Laws.Distances.{distance-none, distance-same, farther-not-after, nearer-after, tag-before-lt}
@@ -19,7 +19,7 @@ use Rattle.rows.specs.declared.group.Group.{Group}
 use Rattle.rows.specs.declared.step.Step.{Step}
 use Rattle.rows.specs.Step.{stepAt}
 use Rattle.step.specs.Arrival.{inStep}
-use Rattle.phases.specs.Beginning.{Arc, begins, foremost, further, latest, noTag, ready, within}
+use Rattle.phases.specs.Beginning.{Arc, begins, foremost, further, latest, noTag, ready, inArc}
 
 -- a port in step whose latest tag it is
 record LatestOf (g : Group) (s : List (List ℕ)) (n fore : ℕ) : Type 0 where
@@ -49,8 +49,8 @@ brought-by g s (suc n) d =
     (λ x. let r = rest x in record { port = r .port; below = (let b = r .below in omega arith); stepped = r .stepped; is = r .is })
     d
 
-near : (g : Group) (fore : ℕ) (step : Step) → within g fore step ≡ true → inStep g step ≡ true → distanceOf (g .kind) fore (latest g step) + frames (g .kind) ≤ g .window
-unfolding within
+near : (g : Group) (fore : ℕ) (step : Step) → inArc g fore step ≡ true → inStep g step ≡ true → distanceOf (g .kind) fore (latest g step) + frames (g .kind) ≤ g .window
+unfolding inArc
 near g fore step e t = leb-true (distanceOf (g .kind) fore (latest g step) + frames (g .kind)) (g .window) (rw t at e)
 
 pub sound : (g : Group) (s : List (List ℕ)) (n : ℕ) → begins g s n ≡ true → Arc g s n (foremost g s n)
@@ -59,7 +59,7 @@ sound g s n e =
     let fore = foremost g s n in
     let readies : Bool = every n (λ i. ready g (stepAt s i)) in
     let found : Bool = not (eqb fore (noTag g)) in
-    let closes : Bool = every n (λ i. within g fore (stepAt s i)) in
+    let closes : Bool = every n (λ i. inArc g fore (stepAt s i)) in
     let first = and-left (readies && found) closes e in
     let h = brought-by g s n (eqb-false fore (noTag g) (not-true (eqb fore (noTag g)) (and-right readies found first))) in
     record {
@@ -68,7 +68,7 @@ sound g s n e =
       below = h .below;
       stepped = h .stepped;
       fore-is = h .is;
-      behind = λ j b t. near g fore (stepAt s j) (every-at n (λ i. within g fore (stepAt s i)) (and-right (readies && found) closes e) j b) t;
+      behind = λ j b t. near g fore (stepAt s j) (every-at n (λ i. inArc g fore (stepAt s i)) (and-right (readies && found) closes e) j b) t;
     }
 
 -- The foremost of the first k ports' tags, seen from a tag `far` that none in step is half a round behind: of them all it is the least far behind.
@@ -181,8 +181,8 @@ module _ (g : Group) (s : List (List ℕ)) (far : ℕ) where
   least-of zero half = inl (record { is = refl; none = λ j b t. not-suc-le-zero b })
   least-of (suc k) half = next k (foremost g s k) (half k (omega arith)) (least-of k (λ j b. half j (omega arith)))
 
-close : (g : Group) (fore : ℕ) (step : Step) → (inStep g step ≡ true → distanceOf (g .kind) fore (latest g step) + frames (g .kind) ≤ g .window) → within g fore step ≡ true
-unfolding within
+close : (g : Group) (fore : ℕ) (step : Step) → (inStep g step ≡ true → distanceOf (g .kind) fore (latest g step) + frames (g .kind) ≤ g .window) → inArc g fore step ≡ true
+unfolding inArc
 close g fore step h = go (inStep g step) refl
   where
     go : (b : Bool) → inStep g step ≡ b → (not b || leb (distanceOf (g .kind) fore (latest g step) + frames (g .kind)) (g .window)) ≡ true
@@ -211,9 +211,9 @@ complete g s n fore o h = (rw is begun, is)
         sym (distance-none (g .kind) fore (foremost g s n) low (x .low) (omega (arith, at-port))))
         (least-of g s fore n half)
 
-    begun : (every n (λ i. ready g (stepAt s i)) && not (eqb fore (noTag g)) && every n (λ i. within g fore (stepAt s i))) ≡ true
+    begun : (every n (λ i. ready g (stepAt s i)) && not (eqb fore (noTag g)) && every n (λ i. inArc g fore (stepAt s i))) ≡ true
     begun =
-        and-true (every n (λ i. ready g (stepAt s i)) && not (eqb fore (noTag g))) (every n (λ i. within g fore (stepAt s i)))
+        and-true (every n (λ i. ready g (stepAt s i)) && not (eqb fore (noTag g))) (every n (λ i. inArc g fore (stepAt s i)))
         (and-true (every n (λ i. ready g (stepAt s i))) (not (eqb fore (noTag g))) (every-all n (λ i. ready g (stepAt s i)) (o .all-ready))
         (rw (ne-eqb fore (noTag g) (not-none g fore low)) refl))
-        (every-all n (λ i. within g fore (stepAt s i)) (λ j b. close g fore (stepAt s j) (o .behind j b)))
+        (every-all n (λ i. inArc g fore (stepAt s i)) (λ j b. close g fore (stepAt s j) (o .behind j b)))

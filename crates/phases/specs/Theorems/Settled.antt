@@ -7,8 +7,8 @@ use native.Mathlib.Omega.{arith}
 use borrow.Author.Tests.{not-true}
 use lib.ListN.{length, replicate}
 use Rattle.ground.specs.Truth.{and-left, and-right, and-true, clash, cond-by}
-use Rattle.counting.specs.Laws.Tests.{every-ext, every-fails, some-not-none, some-one}
-use Rattle.counting.specs.Words.{One}
+use Rattle.ground.specs.Counting.Laws.Tests.{every-ext, every-fails, some-not-none, some-one}
+use Rattle.ground.specs.Counting.Words.{One}
 use Rattle.phases.specs.Beginning.{begins}
 use Rattle.phases.specs.Due.{brought, owesNothing, silent}
 use Rattle.phases.specs.Laws.Cleared.{begun-group, begun-marks-at, begun-step-at, stopped-group}

@@ -9,7 +9,7 @@ use Rattle.c_cards.specs.CardCalls.{CardCall, Made, Same, answered, backTo, bit
 use Rattle.c_cards.specs.CardCalls.CardCall.{Do, Owned, NoKind}
 use Rattle.c_cards.specs.CardCalls.Made.{One, Order}
 use Rattle.c_cards.specs.Theorems.CardApart.{card-apart}
-use Rattle.circuits.specs.Calls.Call.{Claim, Lapse, Release, Report}
+use Rattle.cards.specs.Calls.Call.{Claim, Lapse, Release, Report}
 use Rattle.pinned.specs.Filled.{nines}
 use Rattle.pinned.specs.Opened.{allOpen}
 use Rattle.tables.specs.Rows.{Pinned, pins, row, same}

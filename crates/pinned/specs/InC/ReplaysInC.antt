@@ -5,10 +5,10 @@ use lib.ListN.{drop, replicate}
 use Rattle.c_recordings.specs.Replays.{beginAnswerC, beginStateC, bytesOf, lengthsAnswerC, outLengthC, replayOf, storeLengthC, turnAnswerC, turnAtC, turnRowsC, turnSaidC, turnStateC, turnStoreC, turnWantsC, turnWrittenC}
 use Rattle.pinned.specs.Filled.{nines}
 use Rattle.pinned.specs.Opened.{allOpen}
-use Rattle.replaying.specs.declared.lengths.Lengths.{Lengths}
-use Rattle.replaying.specs.declared.replay.Phase.the-variants.{Settings, Reading, Fetching, Skipping, Ended}
-use Rattle.replaying.specs.declared.replay.Replay.{Replay}
-use Rattle.replaying.specs.Lengths.{lengthsOf}
+use Rattle.replay_lines.specs.declared.lengths.Lengths.{Lengths}
+use Rattle.replay_lines.specs.declared.replay.Phase.the-variants.{Settings, Reading, Fetching, Skipping, Ended}
+use Rattle.replay_lines.specs.declared.replay.Replay.{Replay}
+use Rattle.replay_lines.specs.Lengths.{lengthsOf}
 use Rattle.text.specs.Ascii.{ascii}
 use Rattle.tables.specs.Rows.{Pinned, pins, row, same}
 

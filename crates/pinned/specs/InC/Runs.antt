@@ -9,7 +9,7 @@ use Rattle.c_face.specs.Boards.{boardBytesC, outgoingBytesC, ranksBytesC, shown
 use Rattle.c_cards.specs.Cards.{boardBytesOn, callAnswerOn, callStateOn, outgoingBytesOn, ownedBytesOn, packetAnswerOn, packetBytesOn, payloadAnswerOn, payloadBytesOn, putCard, ranksBytesOn, refusalOf, shownAnswerOn}
 use Rattle.c_cards.specs.Orders.{commandAnswerOn, commandStateOn, kindAnswerOn, kindStateOn, orderAnswerOn, orderAnswersOn, orderStateOn}
 use Rattle.c_face.specs.Senders.{areBytes, callAnswerC, callStateC, packetAnswerC, packetBytesC, payloadAnswerC, payloadBytesC, startStateC}
-use Rattle.circuits.specs.Calls.{Call as C}
+use Rattle.cards.specs.Calls.{Call as C}
 use Rattle.pinned.specs.Filled.{nines}
 use Rattle.sender.specs.Calls.Call.{AddSlot, Lapse}
 use Rattle.sender.specs.Epochs.{SenderCall, beginOf, senderRun}

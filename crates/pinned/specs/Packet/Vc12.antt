@@ -160,7 +160,7 @@ of count calls = run (startOf 1 count .table) calls
 
 -- all 64 active
 abbrev all : Table
-all = record { slots = tabulate 64 (λ i. record { state = Active; number = i }); count = 64; wait = false; bit = 0; kind = 1 }
+all = record { slots = tabulate 64 (λ i. record { state = Active; number = i }); count = 64; wait = false; remembered = 0; kind = 1 }
 
 fails : Pinned
 unfolding allOpen

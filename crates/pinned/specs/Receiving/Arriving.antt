@@ -31,13 +31,13 @@ abbrev step : (had failed count next joined since later breaks odd : ℕ) → St
 step had failed count next joined since later breaks odd =
     record {
       spare = 52 ∷ 53 ∷ 54 ∷ 55 ∷ [];
-      had = had;
+      heard = had;
       failed = failed;
       count = count;
       next = next;
       joined = joined;
-      since = since;
-      later = later;
+      «ever_since» = since;
+      «joined_at» = later;
       whole = 9;
       breaks = breaks;
       odd = odd;

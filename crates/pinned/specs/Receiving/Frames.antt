@@ -20,13 +20,13 @@ abbrev step : ℕ → ℕ → Step
 step count next =
     record {
       spare = 52 ∷ 53 ∷ 54 ∷ 55 ∷ [];
-      had = 1;
+      heard = 1;
       failed = 4;
       count = count;
       next = next;
       joined = 1;
-      since = 7;
-      later = 3;
+      «ever_since» = 7;
+      «joined_at» = 3;
       whole = 1;
       breaks = 3;
       odd = 6;

@@ -41,13 +41,13 @@ abbrev step : ℕ → ℕ → Step
 step later whole =
     record {
       spare = 52 ∷ 53 ∷ 54 ∷ 55 ∷ [];
-      had = 31;
+      heard = 31;
       failed = 32;
       count = 33;
       next = 34;
       joined = 35;
-      since = 36;
-      later = later;
+      «ever_since» = 36;
+      «joined_at» = later;
       whole = whole;
       breaks = 38;
       odd = 39;

@@ -40,13 +40,13 @@ abbrev step : ℕ → Step
 step next =
     record {
       spare = zeros 4;
-      had = 1;
+      heard = 1;
       failed = 0;
       count = 32;
       next = next;
       joined = 1;
-      since = 0;
-      later = 0;
+      «ever_since» = 0;
+      «joined_at» = 0;
       whole = 1;
       breaks = 0;
       odd = 0;

@@ -45,12 +45,12 @@ starts =
     ∷ row "no timer" (memberAt opened 1 .elapsed) 0 same
     ∷ row "packets of zeros" (packetsAt opened 0 ++ packetsAt opened 1) (replicate 4 (replicate 16 0)) same
     ∷ row "no mark" (marksAt opened 0 ++ marksAt opened 1) (replicate 32 0) same
-    ∷ row "no frame had" (stepAt opened 1 .had) 0 same
+    ∷ row "no frame had" (stepAt opened 1 .heard) 0 same
     ∷ row "none flagged" (stepAt opened 1 .failed) 0 same
     ∷ row "no count" (stepAt opened 1 .count) 0 same
     ∷ row "not joined" (stepAt opened 1 .joined) 0 same
     ∷ row "no whole packet" (stepAt opened 1 .whole) 0 same
-    ∷ row "joined at no later epoch" (stepAt opened 1 .later) 0 same
+    ∷ row "joined at no later epoch" (stepAt opened 1 .«joined_at») 0 same
     ∷ row "no break" (stepAt opened 1 .breaks) 0 same
     ∷ row "no odd packet" (stepAt opened 1 .odd) 0 same
     ∷ row "the kind" (groupAt opened .kind) 2 same
@@ -135,13 +135,13 @@ abbrev flaggedStep : Step
 flaggedStep =
     record {
       spare = replicate 4 0;
-      had = 1;
+      heard = 1;
       failed = 1;
       count = 0;
       next = 0;
       joined = 1;
-      since = 0;
-      later = 0;
+      «ever_since» = 0;
+      «joined_at» = 0;
       whole = 0;
       breaks = 0;
       odd = 0;

@@ -12,7 +12,7 @@ use Rattle.judge.specs.declared.seen.Seen.{Seen}
 use Rattle.receiver.specs.Cause.{causeAnswer, causeOut}
 use Rattle.receiver.specs.Fetch.{dueIn, fetchOf, outIfDue, recordOf, reportIfDue, rowsIfDue}
 use Rattle.receiver.specs.Frame.{frameOf, gatheredBy, refusalBy}
-use Rattle.receiver.specs.Report.{framesInto, outputBy, outputOf, replyPort, replyPorts, reportBy, reportOf, rulingEpoch, seenAll, seenOf, startsOf, statesWorkedOut, withState}
+use Rattle.receiver.specs.Report.{framesInto, outputBy, outputOf, replyPort, replyPorts, reportBy, epochReport, rulingEpoch, seenAll, seenOf, startsOf, statesWorkedOut, withState}
 use Rattle.receiver.specs.Starting.{startRows}
 use Rattle.reply.specs.Waiting.{standing}
 use Rattle.rows.specs.declared.group.Group.{Group}
@@ -166,13 +166,13 @@ abbrev step : ℕ → Step
 step count =
     record {
       spare = zeros 4;
-      had = 1;
+      heard = 1;
       failed = 0;
       count = count;
       next = 0;
       joined = 0;
-      since = 1;
-      later = 0;
+      «ever_since» = 1;
+      «joined_at» = 0;
       whole = 1;
       breaks = 0;
       odd = 0;
@@ -188,13 +188,13 @@ abbrev unruled : Step
 unruled =
     record {
       spare = zeros 4;
-      had = 1;
+      heard = 1;
       failed = 0;
       count = 32;
       next = 0;
       joined = 0;
-      since = 1;
-      later = 0;
+      «ever_since» = 1;
+      «joined_at» = 0;
       whole = 0;
       breaks = 0;
       odd = 0;
@@ -256,7 +256,7 @@ unfolding allOpen
 many =
     pins "Of eighteen ports, more than an epoch has frames, the last one counts as any other: its packet, its rank and bytes, its state and RS-Ack (01, 'Report of an epoch')."
     (row "its packet" (getD (seenAll (phase 1 1) eighteen 18) 17 (seen false 0 0 0)) (seen true 2 3 1) same
-    ∷ row "its rank" (reportOf (phase 1 1) last-active 18) (record { mark = 3; epoch = 58; x = 1; cause = 0; bytes = 32 }) same
+    ∷ row "its rank" (epochReport (phase 1 1) last-active 18) (record { mark = 3; epoch = 58; x = 1; cause = 0; bytes = 32 }) same
     ∷ row "its bytes" (take 3 (outputOf (phase 1 1) last-active 18 (replicate 864 7) (nines 40))) (7 ∷ 7 ∷ 7 ∷ []) same
     ∷ row "its state" (memberAt (statesWorkedOut (phase 1 1) 18 eighteen) 17 .state) 0 same
     ∷ row "its word as told" (memberAt (statesWorkedOut (phase 1 1) 18 eighteen) 17 .«told_word») 5 same

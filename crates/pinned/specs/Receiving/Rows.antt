@@ -34,13 +34,13 @@ abbrev step : ℕ → Step
 step next =
     record {
       spare = 52 ∷ 53 ∷ 54 ∷ 55 ∷ [];
-      had = 31;
+      heard = 31;
       failed = 32;
       count = 33;
       next = next;
       joined = 35;
-      since = 36;
-      later = 34;
+      «ever_since» = 36;
+      «joined_at» = 34;
       whole = 37;
       breaks = 38;
       odd = 39;

@@ -2,7 +2,7 @@
 use mathlib.Core.List.{List, [], _∷_}
 use Prim.Native.Nat.{ℕ}
 use lib.ListN.{getD, replicate}
-use Rattle.counting.specs.Words.{the}
+use Rattle.ground.specs.Counting.Words.{lastThat}
 use Rattle.packet.specs.Kinds.{distanceOf}
 use Rattle.phases.specs.Beginning.{foremost, latest}
 use Rattle.receiver.specs.Behind.{behindAnswer, behindOut}
@@ -45,13 +45,13 @@ abbrev step : (count next whole : ℕ) → Step
 step count next whole =
     record {
       spare = 52 ∷ 53 ∷ 54 ∷ 55 ∷ [];
-      had = 1;
+      heard = 1;
       failed = 0;
       count = count;
       next = next;
       joined = 1;
-      since = 0;
-      later = 0;
+      «ever_since» = 0;
+      «joined_at» = 0;
       whole = whole;
       breaks = 0;
       odd = 0;
@@ -177,7 +177,7 @@ vc12-seen =
 
 -- the highest port whose packet is good
 abbrev highestHeard : List (List ℕ) → List ℕ
-highestHeard s = saidAt (groupAt s) s (the 7 (goodAt (groupAt s) s))
+highestHeard s = saidAt (groupAt s) s (lastThat 7 (goodAt (groupAt s) s))
 
 highest-breaks : Pinned
 unfolding allOpen

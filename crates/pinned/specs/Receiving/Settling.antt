@@ -19,13 +19,13 @@ abbrev step : (had failed count next joined since later whole : ℕ) → Step
 step had failed count next joined since later whole =
     record {
       spare = 52 ∷ 53 ∷ 54 ∷ 55 ∷ [];
-      had = had;
+      heard = had;
       failed = failed;
       count = count;
       next = next;
       joined = joined;
-      since = since;
-      later = later;
+      «ever_since» = since;
+      «joined_at» = later;
       whole = whole;
       breaks = 3;
       odd = 4;

@@ -50,13 +50,13 @@ abbrev stepWith : (had failed count next joined since later bits : ℕ) → Step
 stepWith had failed count next joined since later bits =
     record {
       spare = 52 ∷ 53 ∷ 54 ∷ 55 ∷ [];
-      had = had;
+      heard = had;
       failed = failed;
       count = count;
       next = next;
       joined = joined;
-      since = since;
-      later = later;
+      «ever_since» = since;
+      «joined_at» = later;
       whole = 9;
       breaks = 0;
       odd = 0;

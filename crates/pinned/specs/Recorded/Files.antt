@@ -7,15 +7,15 @@ use native.Mathlib.Omega.{arith}
 use lib.ListN.{replicate}
 use Rattle.pinned.specs.Filled.{nines}
 use Rattle.recording.specs.Pairs.{plainSettings}
-use Rattle.replaying.specs.Deeds.{Deed, beginsWith, joined, run, withEnd}
-use Rattle.replaying.specs.Deeds.Deed.{Call, Close, Read}
-use Rattle.replaying.specs.Printing.{allLines}
-use Rattle.replaying.specs.Printing.Event.{Refused}
-use Rattle.replaying.specs.Replay.{STORE}
-use Rattle.replaying.specs.Runs.{Host}
-use Rattle.replaying.specs.Theorems.Cuts.{closed-whole, cut-anywhere}
-use Rattle.replaying.specs.Theorems.Printed.{printed}
-use Rattle.replaying.specs.Turn.{startable}
+use Rattle.replay_lines.specs.Deeds.{Deed, beginsWith, joined, run, withEnd}
+use Rattle.replay_lines.specs.Deeds.Deed.{Call, Close, Read}
+use Rattle.replay_lines.specs.Printing.{allLines}
+use Rattle.replay_lines.specs.Printing.Event.{Refused}
+use Rattle.replay_lines.specs.Replay.{STORE}
+use Rattle.replay_lines.specs.Runs.{Host}
+use Rattle.replay_lines.specs.Theorems.Cuts.{closed-whole, cut-anywhere}
+use Rattle.replay_lines.specs.Theorems.Printed.{printed}
+use Rattle.replay_lines.specs.Turn.{startable}
 use Rattle.text.specs.Ascii.{ascii}
 use Rattle.pinned.specs.Opened.{allOpen}
 use Rattle.tables.specs.Rows.{Pinned, pins, row, same}

@@ -7,13 +7,13 @@ use Rattle.ground.specs.Types.{Bytes}
 use Rattle.pinned.specs.Filled.{nines}
 use Rattle.receiver.specs.Starting.{startAsRows, startRows}
 use Rattle.recording.specs.declared.record.Record.the-variants as R
-use Rattle.replaying.specs.declared.replay.Phase.{Phase}
-use Rattle.replaying.specs.declared.replay.Phase.the-variants.{Reading, Fetching, Skipping, Ended}
-use Rattle.replaying.specs.declared.replay.Replay.{Replay}
-use Rattle.replaying.specs.declared.turns.Replayed.{Replayed}
-use Rattle.replaying.specs.Output.{answerText, changesText, epochText, placeText, reportText, stateText, statesIn}
-use Rattle.replaying.specs.Replay.{beginning, nextLine, outputOf, storeOf}
-use Rattle.replaying.specs.Turn.{fetchRowsBy, framedRows, framedTurn, over, readBy, readOnTurn, readSaidBy, reportedTurn, turnOf, turnOut, turnRows, turnSaid, turnStore}
+use Rattle.replay_lines.specs.declared.replay.Phase.{Phase}
+use Rattle.replay_lines.specs.declared.replay.Phase.the-variants.{Reading, Fetching, Skipping, Ended}
+use Rattle.replay_lines.specs.declared.replay.Replay.{Replay}
+use Rattle.replay_lines.specs.declared.turns.Replayed.{Replayed}
+use Rattle.replay_lines.specs.Output.{answerText, changesText, epochText, placeText, reportText, stateText, statesIn}
+use Rattle.replay_lines.specs.Replay.{beginning, nextLine, outputOf, storeOf}
+use Rattle.replay_lines.specs.Turn.{fetchRowsBy, framedRows, framedTurn, over, readBy, readOnTurn, readSaidBy, reportedTurn, turnOf, turnOut, turnRows, turnSaid, turnStore}
 use Rattle.rows.specs.declared.member.Member.{Member}
 use Rattle.rows.specs.Member.{putMember}
 use Rattle.text.specs.Ascii.{ascii}

@@ -3,18 +3,18 @@ use mathlib.Core.Bool.{true, false}
 use mathlib.Core.List.{[], _∷_, _++_}
 use Prim.Native.Nat.{ℕ}
 use lib.ListN.{getD, replicate, take}
-use Rattle.circuits.specs.Answers.{answerNumber}
-use Rattle.circuits.specs.Calls.{Call, outcomeOf}
-use Rattle.circuits.specs.Calls.Call.{AddSlot, Claim, Lapse, Release, RemoveSlot, Report, StartEpoch}
-use Rattle.circuits.specs.Commands.{startOf}
-use Rattle.circuits.specs.declared.answers.Answer.the-variants as A
-use Rattle.circuits.specs.declared.card.Card.{Card}
-use Rattle.circuits.specs.Owners.{hasOwner, isMarked, withOwner}
-use Rattle.circuits.specs.Readings.{boardShown, outgoingShown, ownedShown, packetAnswer, packetBytes, payloadAnswer, payloadBytes, ranksShown}
-use Rattle.circuits.specs.Shown.{after, by}
-use Rattle.circuits.specs.Views.{Asked, Made, askedBy, bitsOf, replyTo, run}
-use Rattle.circuits.specs.Views.Asked.{Board, Do, Outgoing, Owned, Packet, Payload, Ranks}
-use Rattle.circuits.specs.Views.Reply.{Answered, Owns, Ranked, Showed, Wrote}
+use Rattle.cards.specs.Answers.{answerNumber}
+use Rattle.cards.specs.Calls.{Call, outcomeOf}
+use Rattle.cards.specs.Calls.Call.{AddSlot, Claim, Lapse, Release, RemoveSlot, Report, StartEpoch}
+use Rattle.cards.specs.Commands.{startOf}
+use Rattle.cards.specs.declared.answers.Answer.the-variants as A
+use Rattle.cards.specs.declared.card.Card.{Card}
+use Rattle.cards.specs.Owners.{hasOwner, isMarked, withOwner}
+use Rattle.cards.specs.Readings.{boardShown, outgoingShown, ownedShown, packetAnswer, packetBytes, payloadAnswer, payloadBytes, ranksShown}
+use Rattle.cards.specs.Shown.{after, by}
+use Rattle.cards.specs.Views.{Asked, Made, askedBy, bitsOf, replyTo, run}
+use Rattle.cards.specs.Views.Asked.{Board, Do, Outgoing, Owned, Packet, Payload, Ranks}
+use Rattle.cards.specs.Views.Reply.{Answered, Owns, Ranked, Showed, Wrote}
 use Rattle.pinned.specs.Filled.{nines}
 use Rattle.orders.specs.Orders.{finishOf, firstAnswers, firstOrdered, turnsOf}
 use Rattle.orders.specs.Shown.{add, claim, release, remove}

@@ -4,7 +4,7 @@ use mathlib.Core.List.{List, [], _∷_, _++_}
 use Prim.Native.Nat.{ℕ, _-_}
 use lib.ListN.{length, replicate, take}
 use Rattle.paths.specs.Answers.{answerOf, numberOf}
-use Rattle.paths.specs.Checking.{apart, checkedOf}
+use Rattle.paths.specs.Checking.{delaysApart, checkedOf}
 use Rattle.paths.specs.declared.answers.Answer.{Answer}
 use Rattle.paths.specs.declared.answers.Answer.the-variants.{Done, Range}
 use Rattle.paths.specs.declared.checking.Checked.{Checked}
@@ -74,8 +74,8 @@ orders =
     pins "The spread is the greatest delay less the least, whichever comes first; of one delay the lower number comes first (request 2026-09)"
     (row "of three paths" (spreadOf delays (3 ∷ 0 ∷ 2 ∷ [])) 20 same
     ∷ row "of two" (spreadOf delays (2 ∷ 3 ∷ [])) 4 same
-    ∷ row "apart, the lower first" (apart 3 5) 2 same
-    ∷ row "apart, the higher first" (apart 5 3) 2 same
+    ∷ row "apart, the lower first" (delaysApart 3 5) 2 same
+    ∷ row "apart, the higher first" (delaysApart 5 3) 2 same
     ∷ row "ranks of 20, 0 and 20" (take 4 (ranksOf (20 ∷ 0 ∷ 20 ∷ []))) (1 ∷ 0 ∷ 2 ∷ 0 ∷ []) same
     ∷ row "64 places" (length (ranksOf (20 ∷ []))) 64 same
     ∷ [])

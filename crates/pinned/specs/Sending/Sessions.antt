@@ -7,16 +7,16 @@ use native.Mathlib.Omega.{arith}
 use lib.ListN.{replicate}
 use Rattle.ground.specs.Types.{Bytes}
 use Rattle.pinned.specs.Filled.{nines}
-use Rattle.console.specs.declared.line.Line.the-variants.{Size, Add, Remove, Report, Lapse, Board, Malformed}
-use Rattle.console.specs.declared.session.Session.{Session}
-use Rattle.console.specs.Kept.{keepAll, lineIn, nothingKept}
-use Rattle.console.specs.Line.{lineOf, numberLine, reportOf}
-use Rattle.console.specs.Replies.{outputOf, replyOf, sizeReply}
-use Rattle.console.specs.Runs.{hostOutput, joined, wholeOutput}
-use Rattle.console.specs.Session.{beginning, fedSession, fedText, feedBytes, feedOf, finishBytes, finishOf, lastSession, lastText, usedOf}
-use Rattle.console.specs.Theorems.Cuts.{cut-anywhere}
-use Rattle.console.specs.Theorems.Told.{table-told}
-use Rattle.console.specs.Told.{Feed, callsIn, endedIn, fedBy, lastSize, meant, sinceSize, toldTable, usedBy}
+use Rattle.session_lines.specs.declared.line.Line.the-variants.{Size, Add, Remove, Report, Lapse, Board, Malformed}
+use Rattle.session_lines.specs.declared.session.Session.{Session}
+use Rattle.session_lines.specs.Kept.{keepAll, lineIn, nothingKept}
+use Rattle.session_lines.specs.Line.{lineOf, numberLine, reportRead}
+use Rattle.session_lines.specs.Replies.{outputOf, replyOf, sizeReply}
+use Rattle.session_lines.specs.Runs.{hostOutput, joined, wholeOutput}
+use Rattle.session_lines.specs.Session.{beginning, fedSession, fedText, feedBytes, feedOf, finishBytes, finishOf, lastSession, lastText, usedOf}
+use Rattle.session_lines.specs.Theorems.Cuts.{cut-anywhere}
+use Rattle.session_lines.specs.Theorems.Told.{table-told}
+use Rattle.session_lines.specs.Told.{Feed, callsIn, endedIn, fedBy, lastSize, meant, sinceSize, toldTable, usedBy}
 use Rattle.sender.specs.Commands.{freshOf}
 use Rattle.sender.specs.declared.table.Table.{Table}
 use Rattle.sender.specs.Shown.{after, shown}
@@ -63,14 +63,14 @@ parts =
     (row "add 7" (numberLine (ascii "add") (Value 7)) (Add 7) same
     ∷ row "add with no number" (numberLine (ascii "add") Unreadable) Malformed same
     ∷ row "board with a number" (numberLine (ascii "board") (Value 7)) Malformed same
-    ∷ row "a report's three numbers" (reportOf (Value 255) (Value 254) (Value 1)) (Report 255 254 1) same
-    ∷ row "MST FF" (reportOf (Value 0) (Value 255) (Value 0)) (Report 0 255 0) same
-    ∷ row "epoch 256" (reportOf (Value 256) (Value 0) (Value 0)) Malformed same
-    ∷ row "MST 256" (reportOf (Value 0) (Value 256) (Value 0)) Malformed same
-    ∷ row "RS-Ack 2" (reportOf (Value 0) (Value 0) (Value 2)) Malformed same
-    ∷ row "no RS-Ack" (reportOf (Value 0) (Value 0) Unreadable) Malformed same
-    ∷ row "no MST" (reportOf (Value 0) Unreadable (Value 0)) Malformed same
-    ∷ row "no epoch" (reportOf Unreadable (Value 0) (Value 0)) Malformed same
+    ∷ row "a report's three numbers" (reportRead (Value 255) (Value 254) (Value 1)) (Report 255 254 1) same
+    ∷ row "MST FF" (reportRead (Value 0) (Value 255) (Value 0)) (Report 0 255 0) same
+    ∷ row "epoch 256" (reportRead (Value 256) (Value 0) (Value 0)) Malformed same
+    ∷ row "MST 256" (reportRead (Value 0) (Value 256) (Value 0)) Malformed same
+    ∷ row "RS-Ack 2" (reportRead (Value 0) (Value 0) (Value 2)) Malformed same
+    ∷ row "no RS-Ack" (reportRead (Value 0) (Value 0) Unreadable) Malformed same
+    ∷ row "no MST" (reportRead (Value 0) Unreadable (Value 0)) Malformed same
+    ∷ row "no epoch" (reportRead Unreadable (Value 0) (Value 0)) Malformed same
     ∷ [])
 
 -- slot 1 was added and removed: a wait is open
@@ -180,9 +180,9 @@ unfolding allOpen
 second-size =
     pins "'A second size starts afresh', the remembered bit too: it is 0 again, so a report with 1 closes the wait (01, 'Session')."
     (row "the whole output" (wholeOutput sizedTwice) (accepted 6 ++ ascii "slot\t0\tIDLE\t255\nwait\t0\n") same
-    ∷ row "the bit in the end" (toldTable (linesOf sizedTwice) .bit) 1 same
-    ∷ row "the bit behind the second size" (toldTable (linesOf (ascii "size\t1\nreport\t0\tFF\t1\nsize\t1\n")) .bit) 0 same
-    ∷ row "a refused size leaves it" (toldTable (linesOf (ascii "size\t1\nreport\t0\tFF\t1\nsize\t65\n")) .bit) 1 same
+    ∷ row "the bit in the end" (toldTable (linesOf sizedTwice) .remembered) 1 same
+    ∷ row "the bit behind the second size" (toldTable (linesOf (ascii "size\t1\nreport\t0\tFF\t1\nsize\t1\n")) .remembered) 0 same
+    ∷ row "a refused size leaves it" (toldTable (linesOf (ascii "size\t1\nreport\t0\tFF\t1\nsize\t65\n")) .remembered) 1 same
     ∷ [])
 
 telling : Pinned

@@ -8,13 +8,13 @@ use native.Mathlib.Nat.{not-suc-le-zero}
 use native.Mathlib.Omega.{arith}
 use lib.Dec.{eqb, leb, ltb}
 use borrow.Author.Tests.{eqb-false, le-leb, ne-eqb}
-use Rattle.counting.specs.Laws.Tests.{every-all}
-use Rattle.counting.specs.Words.{every}
+use Rattle.ground.specs.Counting.Laws.Tests.{every-all}
+use Rattle.ground.specs.Counting.Words.{every}
 use Rattle.ground.specs.Truth.{and-true, eq-or-ne}
 use Rattle.packet.specs.Kinds.{distanceOf, frames, tags}
 use Rattle.packet.specs.Laws.Distances.{tag-before-lt}
 use Rattle.packet.specs.Theorems.Tags.{distance-lt}
-use Rattle.phases.specs.Beginning.{begins, foremost, further, latest, noTag, ready, within}
+use Rattle.phases.specs.Beginning.{begins, foremost, further, latest, noTag, ready, inArc}
 use Rattle.phases.specs.Theorems.Arc.{sound}
 use Rattle.receiver.specs.Behind.{Near, behindBy, behindIn}
 use Rattle.rows.specs.declared.group.Group.{Group}
@@ -60,8 +60,8 @@ foremost-some g s (suc n) p b e =
     let rest = foremost-some g s n p in
     ⊎-elim (λ (q : p ≡ n). further-some g (foremost g s n) (stepAt s n) (rw q at e)) (λ (d : p ≢ n). further-keeps g (foremost g s n) (stepAt s n) (rest (omega arith) e)) (eq-or-ne p n)
 
-close : (g : Group) (s : List (List ℕ)) (n : ℕ) → Near g s n → (j : ℕ) → j < n → within g (foremost g s n) (stepAt s j) ≡ true
-unfolding within
+close : (g : Group) (s : List (List ℕ)) (n : ℕ) → Near g s n → (j : ℕ) → j < n → inArc g (foremost g s n) (stepAt s j) ≡ true
+unfolding inArc
 close g s n o j b = go (inStep g (stepAt s j)) refl
   where
     far : ℕ
@@ -75,10 +75,10 @@ close g s n o j b = go (inStep g (stepAt s j)) refl
 pub near-begins : (g : Group) (s : List (List ℕ)) (n : ℕ) → Near g s n → begins g s n ≡ true
 unfolding begins
 near-begins g s n o =
-    and-true (every n (λ i. ready g (stepAt s i)) && not (eqb (foremost g s n) (noTag g))) (every n (λ i. within g (foremost g s n) (stepAt s i)))
+    and-true (every n (λ i. ready g (stepAt s i)) && not (eqb (foremost g s n) (noTag g))) (every n (λ i. inArc g (foremost g s n) (stepAt s i)))
     (and-true (every n (λ i. ready g (stepAt s i))) (not (eqb (foremost g s n) (noTag g))) (every-all n (λ i. ready g (stepAt s i)) (o .all-ready))
     (rw (ne-eqb (foremost g s n) (noTag g) (foremost-some g s n (o .port) (o .below) (o .stepped))) refl))
-    (every-all n (λ i. within g (foremost g s n) (stepAt s i)) (λ j b. close g s n o j b))
+    (every-all n (λ i. inArc g (foremost g s n) (stepAt s i)) (λ j b. close g s n o j b))
 
 -- and only then
 pub begins-near : (g : Group) (s : List (List ℕ)) (n : ℕ) → begins g s n ≡ true → Near g s n

@@ -7,8 +7,8 @@ use native.Mathlib.Nat.{eq-zero-or-pos, mod-lt, mul-le-mul, zero-mul}
 use native.Mathlib.Omega.{arith}
 use lib.Arith.{digits-div, digits-mod}
 use lib.ListN.{getD, length, replicate}
-use Rattle.counting.specs.Each.{getD-each}
-use Rattle.counting.specs.Laws.Tests.{the-below}
+use Rattle.ground.specs.Counting.Each.{getD-each}
+use Rattle.ground.specs.Counting.Laws.Tests.{last-that-below}
 use Rattle.ground.specs.Drawn.{Filling, fillAt, filling-none, filling-piece}
 use Rattle.judge.specs.declared.seen.Seen.{Seen}
 use Rattle.judge.specs.Laws.Sizes.{size-over}
@@ -36,7 +36,7 @@ byte-in g seen n store k q b = rw (digits-div k b, digits-mod k b) refl
 -- a ranked port is one of the ports
 pub port-below : (seen : List Seen) (n rank : ℕ) → 0 < n → portOf seen n rank < n
 unfolding portOf
-port-below seen n rank h = the-below n (hasRank seen n rank) h
+port-below seen n rank h = last-that-below n (hasRank seen n rank) h
 
 room-for : (k L X n P out : ℕ) → k < L → X ≤ n → n * L * P ≤ out → k * (X * P) + X * P ≤ out
 room-for k L X n P out hk hx ho =

@@ -7,7 +7,7 @@ use Prim.Native.Nat.{ℕ, zero, suc, _≤_, _<_}
 use native.Mathlib.Nat.{not-suc-le-zero}
 use native.Mathlib.Omega.{arith}
 use lib.ListN.{length}
-use Rattle.counting.specs.Laws.Tests.{every-fails}
+use Rattle.ground.specs.Counting.Laws.Tests.{every-fails}
 use Rattle.ground.specs.Truth.{eq-or-ne}
 use Rattle.phases.specs.Beginning.{begins, ready}
 use Rattle.receiver.specs.Laws.Lengths.{length-fresh-ports}
@@ -74,6 +74,6 @@ module _ (kind n : ℕ) (hold restore : List ℕ) (s : List (List ℕ)) (g : Gro
   started-step i b h = ap (λ (p : Port). p .step) (started-port i b h)
 
 -- 'every port has had a frame': while one has not, receiving does not begin
-pub waits-for : (g : Group) (s : List (List ℕ)) (n i : ℕ) → i < n → stepAt s i .had ≡ 0 → begins g s n ≡ false
+pub waits-for : (g : Group) (s : List (List ℕ)) (n i : ℕ) → i < n → stepAt s i .heard ≡ 0 → begins g s n ≡ false
 unfolding begins ready
 waits-for g s n i b e = rw (every-fails n (λ j. ready g (stepAt s j)) i b (rw e refl)) refl

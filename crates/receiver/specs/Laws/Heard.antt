@@ -3,8 +3,8 @@ use mathlib.Core.Path.{_≡_, refl}
 use mathlib.Core.Bool.{true, false}
 use mathlib.Core.List.{List}
 use Prim.Native.Nat.{ℕ, _<_}
-use Rattle.counting.specs.Laws.Tests.{some-at}
-use Rattle.counting.specs.Words.{some}
+use Rattle.ground.specs.Counting.Laws.Tests.{some-at}
+use Rattle.ground.specs.Counting.Words.{some}
 use Rattle.ground.specs.Truth.{cond-by}
 use lib.ListN.{length}
 pub use Rattle.judge.specs.Laws.Lowest.{lowest-first, lowest-holds, lowest-least}

@@ -10,7 +10,7 @@ use lib.ListN.{length}
 use borrow.Author.Tests.{eq-eqb, eqb-false, eqb-true}
 use Rattle.ground.specs.Truth.{cond-by}
 use Rattle.phases.specs.Sizes.{portsIn}
-use Rattle.receiver.specs.Fetch.{FetchOutcome, dueIn, fetchOf, fits, rowsIfDue}
+use Rattle.receiver.specs.Fetch.{FetchOutcome, dueIn, fetchOf, lentFits, rowsIfDue}
 use Rattle.receiver.specs.Frame.{FrameOutcome, frameOf, frameRefusal, portRows, refusalBy, settledBy, storeBy, takenFrame, takenIn}
 use Rattle.receiver.specs.Lengths.{frameFits}
 use Rattle.receiver.specs.Report.{reportedOf}
@@ -65,9 +65,9 @@ module _ (s : List (List ℕ)) (i : ℕ) (failed : Bool) (h : ℕ) (payload stor
 
 -- all stays, or the report of the oldest epoch is given
 pub fetch-cases : (s : List (List ℕ)) (store out report : List ℕ) (P : List (List ℕ) → Type 0) → P s
-    → (fits s store out report ≡ true → dueIn (groupAt s) (portsIn (groupAt s)) s ≡ true → P (reportedOf (groupAt s) store (portsIn (groupAt s)) s))
+    → (lentFits s store out report ≡ true → dueIn (groupAt s) (portsIn (groupAt s)) s ≡ true → P (reportedOf (groupAt s) store (portsIn (groupAt s)) s))
     → P (fetchOf s store out report .rows)
 unfolding fetchOf rowsIfDue
 fetch-cases s store out report P stays goes =
-    cond-by (λ (o : FetchOutcome). P (o .rows)) (fits s store out report) _ _
+    cond-by (λ (o : FetchOutcome). P (o .rows)) (lentFits s store out report) _ _
     (λ f. cond-by P (dueIn (groupAt s) (portsIn (groupAt s)) s) _ _ (λ d. goes f d) (λ d. stays)) (λ f. stays)

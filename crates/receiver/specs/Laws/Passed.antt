@@ -51,11 +51,11 @@ module _ (s : Step) (whole : Bool) where
   unfolding passedStep
   step-joined = refl
 
-  pub step-since : passedStep s whole .since ≡ s .since
+  pub step-since : passedStep s whole .«ever_since» ≡ s .«ever_since»
   unfolding passedStep
   step-since = refl
 
-  pub step-later : passedStep s whole .later ≡ s .later - 1
+  pub step-later : passedStep s whole .«joined_at» ≡ s .«joined_at» - 1
   unfolding passedStep
   step-later = refl
 

@@ -7,7 +7,7 @@ use Prim.Native.Nat.{ℕ, _+_, _*_, _≤_, _<_}
 use native.Mathlib.Omega.{arith}
 use lib.Dec.{leb}
 use lib.ListN.{length, getD, replicate, take, drop, length-replicate}
-use Rattle.counting.specs.Each.{each, getD-each}
+use Rattle.ground.specs.Counting.Each.{each, getD-each}
 use Rattle.ground.specs.Truth.{le-or-lt}
 use Rattle.judge.specs.declared.order.Order.{Order}
 use Rattle.judge.specs.Laws.Sizes.{size-over}

@@ -4,7 +4,7 @@ use mathlib.Core.List.{List}
 use Prim.Native.Nat.{ℕ, _≤_, _<_}
 use native.Mathlib.Omega.{arith}
 use lib.ListN.{length-replicate, replicate}
-use Rattle.counting.specs.Each.{each, getD-each}
+use Rattle.ground.specs.Counting.Each.{each, getD-each}
 use Rattle.judge.specs.declared.seen.Seen.{Seen}
 use Rattle.judge.specs.Seen.{seenAt}
 use Rattle.receiver.specs.Laws.Sizes.{size-is}

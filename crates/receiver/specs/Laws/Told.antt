@@ -8,7 +8,7 @@ use native.Mathlib.Nat.{not-suc-le-zero}
 use native.Mathlib.Omega.{arith}
 use lib.Dec.{eqb}
 use lib.ListN.{getD, length, replicate, length-replicate}
-use Rattle.counting.specs.Each.{getD-each}
+use Rattle.ground.specs.Counting.Each.{getD-each}
 use Rattle.ground.specs.Truth.{eq-or-ne}
 use Rattle.judge.specs.Seen.{sizeOf}
 use Rattle.phases.specs.Passing.{groupTo}
@@ -18,7 +18,7 @@ use Rattle.receiver.specs.Report.{noPort, replyPort, replyPorts, withSta
 use Rattle.reply.specs.declared.members.Port.{Port as ReplyPort}
 use Rattle.reply.specs.declared.waiting.Standing.{Standing}
 use Rattle.reply.specs.Members as R
-use Rattle.reply.specs.Telling.{ackOf, turns}
+use Rattle.reply.specs.Telling.{ackOf, turnsOver}
 use Rattle.reply.specs.Waiting.{noStanding, standingsOf}
 use Rattle.rows.specs.declared.group.Group.{Group}
 use Rattle.rows.specs.Group.{groupAt}
@@ -99,7 +99,7 @@ reply-port g s n i h b =
 
 pub ack-le : (ports : List ReplyPort) (n bit : ℕ) → bit ≤ 1 → ackOf ports n bit ≤ 1
 unfolding ackOf
-ack-le ports n bit h = go (turns ports n) (eqb bit 0)
+ack-le ports n bit h = go (turnsOver ports n) (eqb bit 0)
   where
     go : (a b : Bool) → cond a (cond b 1 0) bit ≤ 1
     go true true = omega arith

@@ -2,9 +2,9 @@ use mathlib.Core.Path.{_≡_}
 use Prim.Native.Nat.{_-_}
 use lib.ListN.{length}
 use borrow.Author.Needs.{needs}
-use Rattle.replaying.specs.Deeds.{Carried, deskWith}
-use Rattle.replaying.specs.Deeds.Carried.{same}
-use Rattle.replaying.specs.Laws.Carrying.{carried-on}
+use Rattle.replay_lines.specs.Deeds.{Carried, deskWith}
+use Rattle.replay_lines.specs.Deeds.Carried.{same}
+use Rattle.replay_lines.specs.Laws.Carrying.{carried-on}
 use Rattle.replay.proofs.run_all.Statement.{statement}
 use Rattle.replay.proofs.run_all.Tie as tie
 

@@ -1,5 +1,5 @@
 use borrow.Author.Needs.{needs}
-use Rattle.replaying.specs.Deeds.Carried.{same}
+use Rattle.replay_lines.specs.Deeds.Carried.{same}
 use Rattle.replay.proofs.run_named.Statement.{statement}
 use Rattle.replay.proofs.run_named.Tie as tie
 

@@ -8,9 +8,9 @@ use lib.ListN.{length}
 use borrow.Author.Needs.{needs}
 use borrow.Author.Tests.{ltb-true}
 use Rattle.ground.specs.Truth.{and-right}
-use Rattle.replaying.specs.Deeds.{Carried, deskWith}
-use Rattle.replaying.specs.Deeds.Carried.{same}
-use Rattle.replaying.specs.Laws.Carrying.{carried-on}
+use Rattle.replay_lines.specs.Deeds.{Carried, deskWith}
+use Rattle.replay_lines.specs.Deeds.Carried.{same}
+use Rattle.replay_lines.specs.Laws.Carrying.{carried-on}
 use Rattle.replay.proofs.run_text.Statement.{statement}
 use Rattle.replay.proofs.run_text.Tie as tie
 

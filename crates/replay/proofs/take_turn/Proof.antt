@@ -1,7 +1,7 @@
 use mathlib.Core.Path.{sym}
 use lib.Seq.{length-take-le}
 use borrow.Author.Needs.{needs}
-use Rattle.replaying.specs.Laws.Carrying.{carried-once}
+use Rattle.replay_lines.specs.Laws.Carrying.{carried-once}
 use Rattle.replay.proofs.take_turn.Statement.{statement}
 use Rattle.replay.proofs.take_turn.Tie as tie
 

@@ -8,20 +8,20 @@ use native.Mathlib.Omega.{arith}
 use lib.Dec.{eqb}
 use lib.ListN.{getD}
 use borrow.Author.Tests.{eq-eqb, eqb-true, eqb-false}
-use Rattle.counting.specs.Laws.Tests.{none-at, some-none}
+use Rattle.ground.specs.Counting.Laws.Tests.{none-at, some-none}
 use Rattle.ground.specs.Table.{getD-tabulate, tabulate-ext}
 use Rattle.ground.specs.Truth.{and-left, and-right, and-true, clash, fails, neither}
 use Rattle.reply.specs.Lists.{Left, entry, listNow, listTold}
 use Rattle.reply.specs.declared.members.Port.{Port}
 use Rattle.reply.specs.Members.{noWord, portAt}
-use Rattle.reply.specs.Telling.{ackOf, hasChanged, hasLeft, isListed, turns}
+use Rattle.reply.specs.Telling.{ackOf, hasChanged, hasLeft, isListed, turnsOver}
 
-pub ack-kept : (ports : List Port) (n bit : ℕ) → turns ports n ≡ false → ackOf ports n bit ≡ bit
+pub ack-kept : (ports : List Port) (n bit : ℕ) → turnsOver ports n ≡ false → ackOf ports n bit ≡ bit
 unfolding ackOf
 ack-kept ports n bit e = rw e
 
 -- one report turns it once, however many ports have changed
-pub ack-turned : (ports : List Port) (n bit : ℕ) → turns ports n ≡ true → bit ≤ 1 → ackOf ports n bit ≡ 1 - bit
+pub ack-turned : (ports : List Port) (n bit : ℕ) → turnsOver ports n ≡ true → bit ≤ 1 → ackOf ports n bit ≡ 1 - bit
 unfolding ackOf
 ack-turned ports n bit e h = rw e (go (eqb bit 0) refl)
   where
@@ -30,12 +30,12 @@ ack-turned ports n bit e h = rw e (go (eqb bit 0) refl)
     go false z = let w : bit ≡ 0 → ⊥ = eqb-false bit 0 z in omega arith
 
 -- no port, no turn
-none-turns : (ports : List Port) (n : ℕ) → ((i : ℕ) → i < n → (hasChanged (portAt ports i) || hasLeft (portAt ports i)) ≡ false) → turns ports n ≡ false
-unfolding turns
+none-turns : (ports : List Port) (n : ℕ) → ((i : ℕ) → i < n → (hasChanged (portAt ports i) || hasLeft (portAt ports i)) ≡ false) → turnsOver ports n ≡ false
+unfolding turnsOver
 none-turns ports n each = some-none n (λ i. hasChanged (portAt ports i) || hasLeft (portAt ports i)) each
 
 -- a fresh group, with no good packet yet and none at the last report, does not turn it
-pub fresh-kept : (ports : List Port) (n : ℕ) → ((i : ℕ) → i < n → (portAt ports i .word ≡ noWord) × (portAt ports i .«told_word» ≡ noWord)) → turns ports n ≡ false
+pub fresh-kept : (ports : List Port) (n : ℕ) → ((i : ℕ) → i < n → (portAt ports i .word ≡ noWord) × (portAt ports i .«told_word» ≡ noWord)) → turnsOver ports n ≡ false
 fresh-kept ports n fresh = none-turns ports n (λ i b. rw (fresh i b .0, fresh i b .1))
 
 unchanged : (p : Port) → hasChanged p ≡ false → entry (p .word) (p .number) ≡ entry (p .«told_word») (p .«told_number»)
@@ -69,9 +69,9 @@ stayed p d =
 
 -- The bit is kept exactly where the list is as it was and no port whose word was ADD at the last report is IDLE now.
 
-pub kept-says : (ports : List Port) (n : ℕ) → turns ports n ≡ false
+pub kept-says : (ports : List Port) (n : ℕ) → turnsOver ports n ≡ false
     → (listNow ports n ≡ listTold ports n) × ((i : ℕ) → i < n → Left (portAt ports i) → ⊥)
-unfolding turns
+unfolding turnsOver
 kept-says ports n e = (
   tabulate-ext n (λ i. entry (portAt ports i .word) (portAt ports i .number)) (λ i. entry (portAt ports i .«told_word») (portAt ports i .«told_number»))
       (λ i b. unchanged (portAt ports i) (neither (hasChanged (portAt ports i)) (hasLeft (portAt ports i)) (each i b) .0)),
@@ -81,7 +81,7 @@ kept-says ports n e = (
     each : (i : ℕ) → i < n → (hasChanged (portAt ports i) || hasLeft (portAt ports i)) ≡ false
     each i b = none-at n (λ k. hasChanged (portAt ports k) || hasLeft (portAt ports k)) e i b
 
-pub says-kept : (ports : List Port) (n : ℕ) → listNow ports n ≡ listTold ports n → ((i : ℕ) → i < n → Left (portAt ports i) → ⊥) → turns ports n ≡ false
+pub says-kept : (ports : List Port) (n : ℕ) → listNow ports n ≡ listTold ports n → ((i : ℕ) → i < n → Left (portAt ports i) → ⊥) → turnsOver ports n ≡ false
 says-kept ports n same left = none-turns ports n (λ i b. rw (changed (portAt ports i) (at i b)) (stayed (portAt ports i) (left i b)))
   where
     now : ℕ → Option ℕ
@@ -116,10 +116,10 @@ from toldWord toldNumber word number =
 
 -- It turns from ADD to IDLE, and as the port enters the list, leaves it or has another number in it.
 pub turned : (from 1 7 5 255 ≡ 1) × (from 1 7 3 7 ≡ 1) × (from 3 0 5 255 ≡ 1) × (from 2 1 2 0 ≡ 1) × (from 15 1 15 0 ≡ 1)
-unfolding ackOf turns
+unfolding ackOf turnsOver
 turned = (refl, refl, refl, refl, refl)
 
 -- It does not from ADD to ADD, also under another number, from IDLE to ADD, with no good packet yet, or among NORM, EOS and DNU under one number.
 pub kept : (from 1 7 1 7 ≡ 0) × (from 1 7 1 6 ≡ 0) × (from 5 255 1 7 ≡ 0) × (from 255 255 5 255 ≡ 0) × (from 2 1 15 1 ≡ 0) × (from 15 1 3 1 ≡ 0)
-unfolding ackOf turns
+unfolding ackOf turnsOver
 kept = (refl, refl, refl, refl, refl, refl)

@@ -8,14 +8,14 @@ use native.Mathlib.Omega.{arith}
 use lib.Dec.{eqb}
 use lib.ListN.{getD, length, length-replicate, replicate, set}
 use Rattle.ground.specs.Truth.{and-left, same-test}
-use Rattle.counting.specs.Each.{getD-each}
+use Rattle.ground.specs.Counting.Each.{getD-each}
 use Rattle.reply.specs.Choosing.{FREE, allFree, chooses, claims, grant, granted, holderOf, holders}
 use Rattle.reply.specs.Laws.Choosing.{Chosen, holders-from}
 use Rattle.reply.specs.Laws.Claims.{claim-free, claim-none, claim-own, keeps, keeps-own, left-claim, left-idle, left-lost}
 use Rattle.reply.specs.Laws.Granting.{grant-from, grant-holds, length-grant}
 use Rattle.reply.specs.Laws.Members.{left-elapsed, left-low, left-ok}
 use Rattle.reply.specs.Members.{failState, hasHoldOff, idleState, isCandidate, isIdle, okState, portAt}
-use Rattle.reply.specs.Telling.{ackOf, turns}
+use Rattle.reply.specs.Telling.{ackOf, turnsOver}
 use Rattle.reply.specs.Theorems.Keeping.{all-free}
 use Rattle.reply.specs.Waiting.{chosenOf, hasClaim, keepsNumber, keptNumbers, moreKept, mustKeep, noStanding, rounds, someJoin, standing, standingBy, standingsOf, withClaim}
 use Rattle.reply.specs.declared.members.Port.{Port}
@@ -132,5 +132,5 @@ module _ (ports : List Port) where
   leaves-first = standing-alone (portAt ports 0 ∷ []) ∙ sym (standing-alone ports)
 
   pub ack-first : (bit : ℕ) → ackOf (portAt ports 0 ∷ []) 1 bit ≡ ackOf ports 1 bit
-  unfolding ackOf turns
+  unfolding ackOf turnsOver
   ack-first bit = refl

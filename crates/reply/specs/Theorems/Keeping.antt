@@ -10,9 +10,9 @@ use lib.Dec.{eqb}
 use lib.ListN.{List·getD-eq-default, getD-replicate, length, length-replicate}
 use borrow.Author.Tests.{eq-eqb, eqb-true, ne-eqb, not-true}
 use Rattle.ground.specs.Truth.{and-left, and-right, and-true, cond-by, eq-or-ne, fails, le-or-lt}
-use Rattle.counting.specs.Laws.Numbers.{count-le, count-lt}
-use Rattle.counting.specs.Laws.Tests.{none-at, some-none, some-one}
-use Rattle.counting.specs.Words.{One, count}
+use Rattle.ground.specs.Counting.Laws.Numbers.{count-le, count-lt}
+use Rattle.ground.specs.Counting.Laws.Tests.{none-at, some-none, some-one}
+use Rattle.ground.specs.Counting.Words.{One, count}
 use Rattle.reply.specs.Choosing.{FREE, allFree, holderOf, holders}
 use Rattle.reply.specs.Laws.Choosing.{choosing, holders-first, holders-kept, holders-same}
 use Rattle.reply.specs.Laws.Claims.{claim-lost, claim-none, claim-other}

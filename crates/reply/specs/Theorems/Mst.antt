@@ -7,7 +7,7 @@ use native.Mathlib.Nat.{add-zero}
 use native.Mathlib.Omega.{arith}
 use lib.Dec.{eqb}
 use borrow.Author.Tests.{eq-eqb, eqb-true}
-use Rattle.counting.specs.Laws.Tests.{some-at, some-one}
+use Rattle.ground.specs.Counting.Laws.Tests.{some-at, some-one}
 use Rattle.ground.specs.Bits.{odd}
 use Rattle.ground.specs.Truth.{and-true, and-left, and-right, fails}
 use Rattle.packet.specs.Kinds.{mstFails, mstFirst}

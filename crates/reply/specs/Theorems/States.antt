@@ -6,7 +6,7 @@ use mathlib.Core.List.{List}
 use Prim.Native.Nat.{ℕ, _+_, _≤_, _<_}
 use native.Mathlib.Omega.{arith}
 use lib.ListN.{length, replicate, length-replicate, List·getD-eq-default}
-use Rattle.counting.specs.Each.{getD-each}
+use Rattle.ground.specs.Counting.Each.{getD-each}
 use Rattle.ground.specs.Truth.{le-or-lt}
 use Rattle.reply.specs.Reports.{Apart, Low, Told}
 use Rattle.reply.specs.Theorems.Keeping.{KeptBy, kept-by, kept-lost}

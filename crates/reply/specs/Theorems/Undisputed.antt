@@ -7,7 +7,7 @@ use mathlib.Core.List.{List}
 use Prim.Native.Nat.{ℕ, _≤_, _<_}
 use lib.ListN.{length-replicate}
 use Rattle.ground.specs.Truth.{and-left, fails}
-use Rattle.counting.specs.Laws.Tests.{some-none}
+use Rattle.ground.specs.Counting.Laws.Tests.{some-none}
 use Rattle.reply.specs.Members.{hasHoldOff, isIdle, okState, portAt}
 use Rattle.reply.specs.Reports.{Undisputed}
 use Rattle.reply.specs.Theorems.Keeping.{all-free, rounds-still}

@@ -7,8 +7,8 @@ use native.Mathlib.Omega.{arith}
 use lib.Dec.{eqb}
 use lib.ListN.{getD, replicate, length-replicate}
 use borrow.Author.Tests.{eq-eqb, eqb-true}
-use Rattle.counting.specs.Each.{getD-each}
-use Rattle.counting.specs.Laws.Tests.{some-none}
+use Rattle.ground.specs.Counting.Each.{getD-each}
+use Rattle.ground.specs.Counting.Laws.Tests.{some-none}
 use Rattle.ground.specs.Truth.{and-left, and-right, and-true, fails}
 use Rattle.reply.specs.Reports.{NoTimes}
 use Rattle.reply.specs.Theorems.Keeping.{rounds-still}

@@ -5,8 +5,8 @@ use mathlib.Core.Bool.{true, false, true≢false, false≢true}
 use Prim.Native.Nat.{ℕ, suc, _≤_, _<_}
 use native.Mathlib.Omega.{arith}
 use Rattle.ground.specs.Truth.{eq-or-ne}
-use Rattle.counting.specs.Laws.Numbers.{count-ext, count-mono, count-without}
-use Rattle.counting.specs.Words.{Apart}
+use Rattle.ground.specs.Counting.Laws.Numbers.{count-ext, count-mono, count-without}
+use Rattle.ground.specs.Counting.Words.{Apart}
 use Rattle.sender.specs.declared.table.State.{State}
 use Rattle.sender.specs.declared.table.State.the-variants.{Add}
 use Rattle.sender.specs.Table.{isAdd, isMember}

@@ -7,10 +7,10 @@ use native.Mathlib.Omega.{arith}
 use lib.Dec.{eqb, ltb}
 use lib.ListN.{replicate, length-replicate}
 use Rattle.ground.specs.Truth.{le-or-lt}
-use Rattle.counting.specs.Each.{getD-each}
-use Rattle.counting.specs.Laws.Numbers.{count-ext}
-use Rattle.counting.specs.Laws.Ranks.{rank}
-use Rattle.counting.specs.Words.{count}
+use Rattle.ground.specs.Counting.Each.{getD-each}
+use Rattle.ground.specs.Counting.Laws.Numbers.{count-ext}
+use Rattle.ground.specs.Counting.Laws.Ranks.{rank}
+use Rattle.ground.specs.Counting.Words.{count}
 use Rattle.packet.specs.Words.{EOS, NORM}
 use Rattle.sender.specs.declared.board.Row.{Row}
 use Rattle.sender.specs.declared.table.State.{State}
@@ -20,16 +20,16 @@ use Rattle.sender.specs.Board.{boardOf, highest, noRow, rowOf, rowsOf, w
 use Rattle.sender.specs.Laws.Sizes.{size-le, size-small, size-large}
 use Rattle.sender.specs.Numbering.{numberIn, slotsIn, stateIn}
 use Rattle.sender.specs.Ranks.{carries, carriersIn, rankAt, rankOf, rowAt}
-use Rattle.sender.specs.Table.{isActive, sizeOf}
+use Rattle.sender.specs.Table.{isActive, slotCount}
 
-pub size-size : (c : ℕ) → sizeOf (sizeOf c) ≡ sizeOf c
-size-size c = go (sizeOf c) (size-le c)
+pub size-size : (c : ℕ) → slotCount (slotCount c) ≡ slotCount c
+size-size c = go (slotCount c) (size-le c)
   where
-    go : (n : ℕ) → n ≤ 64 → sizeOf n ≡ n
+    go : (n : ℕ) → n ≤ 64 → slotCount n ≡ n
     go n h = ⊎-elim (λ (g : 64 ≤ n). size-large n g ∙ (omega arith)) (λ (g : n < 64). size-small n g) (le-or-lt 64 n)
 
 -- the board's count is how many slots there are
-pub board-size : (t : Table) → sizeOf (boardOf t .count) ≡ slotsIn t
+pub board-size : (t : Table) → slotCount (boardOf t .count) ≡ slotsIn t
 unfolding boardOf
 board-size t = size-size (t .count)
 
@@ -62,13 +62,13 @@ pub row-number : (t : Table) (i : ℕ) → i < slotsIn t → rowAt (boardOf t .r
 row-number t i h = ap (λ (r : Row). r .number) (board-row t i h) ∙ own-number t i
 
 -- X of a table's board
-pub x-active : (t : Table) → carriersIn (boardOf t .rows) (sizeOf (boardOf t .count)) ≡ count (slotsIn t) (λ i. isActive (stateIn t i))
+pub x-active : (t : Table) → carriersIn (boardOf t .rows) (slotCount (boardOf t .count)) ≡ count (slotsIn t) (λ i. isActive (stateIn t i))
 unfolding carriersIn
 x-active t = rw (board-size t) (count-ext (slotsIn t) _ _ (λ i h. carries-active t i h))
 
 -- the rank of an active member, among all active ones by number
 pub rank-active : (t : Table) (i : ℕ) → i < slotsIn t → isActive (stateIn t i) ≡ true
-    → rankAt (boardOf t .rows) (sizeOf (boardOf t .count)) i ≡ rank (slotsIn t) (λ j. isActive (stateIn t j)) (numberIn t) i
+    → rankAt (boardOf t .rows) (slotCount (boardOf t .count)) i ≡ rank (slotsIn t) (λ j. isActive (stateIn t j)) (numberIn t) i
 unfolding rankAt rankOf
 rank-active t i h a =
     rw (carries-active t i h, a, board-size t, row-number t i h)

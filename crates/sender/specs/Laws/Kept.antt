@@ -11,8 +11,8 @@ use lib.ListN.{length, set, replicate, length-set, length-replicate, getD-replic
 use lib.Seq.{getD-set-same, getD-set-other}
 use borrow.Author.Tests.{ltb-true, not-true}
 use Rattle.ground.specs.Truth.{eq-or-ne}
-use Rattle.counting.specs.Each.{each, length-each, getD-each}
-use Rattle.counting.specs.Words.{count}
+use Rattle.ground.specs.Counting.Each.{each, length-each, getD-each}
+use Rattle.ground.specs.Counting.Words.{count}
 use Rattle.packet.specs.Kinds.{idleNumber, mstFails, mstFirst, mstNumbers}
 use Rattle.sender.specs.declared.finding.Found.{Found}
 use Rattle.sender.specs.declared.finding.Found.the-variants.{At, Nothing}
@@ -32,14 +32,14 @@ use Rattle.sender.specs.Laws.Reporting.{MayBecome, numbered-report}
 use Rattle.sender.specs.Laws.Sizes.{size-le}
 use Rattle.sender.specs.Numbering.{numberIn, slotsIn, stateIn}
 use Rattle.sender.specs.Reports.{actedOn, comesBefore, mstApplied, numberAfter, renumbered, reportOf, slotAfter, becomes, spokenTo, numberApplied, turnOf, waited}
-use Rattle.sender.specs.Table.{holderOf, isAdd, isMember, membersOf, sizeOf, slotAt}
+use Rattle.sender.specs.Table.{holderOf, isAdd, isMember, membersOf, slotCount, slotAt}
 
 -- a table that a start or a call returned
 pub record Sound (t : Table) : Type 0 where
   pub whole : length (t .slots) ≡ 64
   pub numbered : Numbered (slotsIn t) (idleNumber (t .kind)) (stateIn t) (numberIn t)
 
-below-whole : (c : ℕ) (slots : List Slot) (i : ℕ) → length slots ≡ 64 → i < sizeOf c → i < length slots
+below-whole : (c : ℕ) (slots : List Slot) (i : ℕ) → length slots ≡ 64 → i < slotCount c → i < length slots
 below-whole c slots i e h = let l = size-le c in omega arith
 
 fresh-slot : (kind i : ℕ) → i < 64 → slotAt (replicate 64 (idleSlot kind)) i ≡ idleSlot kind
@@ -59,7 +59,7 @@ sound-fresh kind c =
     record {
       whole = length-replicate 64 (idleSlot kind);
       numbered =
-          numbered-fresh (sizeOf c) (idleNumber kind) _ _
+          numbered-fresh (slotCount c) (idleNumber kind) _ _
           (λ i h. ap (λ (s : Slot). s .state) (fresh-slot kind i (let l = size-le c in omega arith)) ∙ idle-state kind)
           (λ i h. ap (λ (s : Slot). s .number) (fresh-slot kind i (let l = size-le c in omega arith)) ∙ idle-number kind);
     }
@@ -74,14 +74,14 @@ sound-start kind c = go (eqb c 0 || ltb 64 c)
 
 -- a command leaves the table as given, or does what it is allowed to
 sound-in-order : (t next : Table) (i : ℕ) (allowed : Bool) → Sound t → (i < slotsIn t → allowed ≡ true → Sound next) → Sound (inOrder t i allowed next .table)
-sound-in-order t next i allowed o d = go (ltb i (sizeOf (t .count))) refl (t .wait) allowed refl
+sound-in-order t next i allowed o d = go (ltb i (slotCount (t .count))) refl (t .wait) allowed refl
   where
-    go : (b : Bool) → ltb i (sizeOf (t .count)) ≡ b → (w a : Bool) → allowed ≡ a
+    go : (b : Bool) → ltb i (slotCount (t .count)) ≡ b → (w a : Bool) → allowed ≡ a
         → Sound (cond b (cond w (answered t WaitOpen) (cond a (answered next Done) (answered t NotAllowed))) (answered t NoSlot) .table)
     go false e w a h = o
     go true e true a h = o
     go true e false false h = o
-    go true e false true h = d (ltb-true i (sizeOf (t .count)) e) h
+    go true e false true h = d (ltb-true i (slotCount (t .count)) e) h
 
 sound-added : (t : Table) (i : ℕ) → Sound t → i < slotsIn t → isMember (stateIn t i) ≡ false → Sound (addedTo t i)
 unfolding addedTo membersOf
@@ -95,7 +95,7 @@ sound-added t i o h out =
     }
   where
     new : Slot
-    new = record { state = Add; number = membersOf (t .slots) (sizeOf (t .count)) }
+    new = record { state = Add; number = membersOf (t .slots) (slotCount (t .count)) }
 
     here : slotAt (set (t .slots) i new) i ≡ new
     here = getD-set-same (t .slots) i new _ (below-whole (t .count) (t .slots) i (o .whole) h)
@@ -130,7 +130,7 @@ sound-removed t i o h member =
     }
   where
     n : ℕ
-    n = sizeOf (t .count)
+    n = slotCount (t .count)
 
     f : ℕ → Slot
     f j = fallen (slotAt (t .slots) i .number) (slotAt (t .slots) j)
@@ -232,7 +232,7 @@ sound-acted t e mst ack o =
     }
   where
     n : ℕ
-    n = sizeOf (t .count)
+    n = slotCount (t .count)
 
     is : List Slot
     is = mstApplied (t .slots) n (mstFirst (t .kind) e) mst (mstNumbers (t .kind))
@@ -248,9 +248,9 @@ sound-acted t e mst ack o =
 
 sound-waited : (t : Table) (ack : ℕ) → Sound t → Sound (waited t ack)
 unfolding waited
-sound-waited t ack o = go (eqb ack (t .bit))
+sound-waited t ack o = go (eqb ack (t .remembered))
   where
-    go : (b : Bool) → Sound (cond b t (record { slots = t .slots; count = t .count; wait = false; bit = ack; kind = t .kind }))
+    go : (b : Bool) → Sound (cond b t (record { slots = t .slots; count = t .count; wait = false; remembered = ack; kind = t .kind }))
     go true = o
     go false = record { whole = o .whole; numbered = o .numbered }
 
@@ -311,7 +311,7 @@ group-self : (t : Table) → Group t t
 group-self t = record { count = refl; kind = refl }
 
 group-in-order : (t next : Table) (i : ℕ) (allowed : Bool) → Group t next → Group t (inOrder t i allowed next .table)
-group-in-order t next i allowed d = go (ltb i (sizeOf (t .count))) (t .wait) allowed
+group-in-order t next i allowed d = go (ltb i (slotCount (t .count))) (t .wait) allowed
   where
     go : (b w a : Bool) → Group t (cond b (cond w (answered t WaitOpen) (cond a (answered next Done) (answered t NotAllowed))) (answered t NoSlot) .table)
     go false w a = group-self t
@@ -323,9 +323,9 @@ pub group-call : (t : Table) (c : Call) → Group t (outcomeOf t c .table)
 unfolding addOf addedTo removeOf removedFrom reportOf waited actedOn lapseOf
 group-call t (AddSlot i) = group-in-order t (addedTo t i) i (not (isMember (slotAt (t .slots) i .state))) (record { count = refl; kind = refl })
 group-call t (RemoveSlot i) = group-in-order t (removedFrom t i) i (isMember (slotAt (t .slots) i .state)) (record { count = refl; kind = refl })
-group-call t (Report e mst ack) = go (t .wait) (eqb (ack % 2) (t .bit))
+group-call t (Report e mst ack) = go (t .wait) (eqb (ack % 2) (t .remembered))
   where
-    go : (w b : Bool) → Group t (cond w (cond b t (record { slots = t .slots; count = t .count; wait = false; bit = ack % 2; kind = t .kind })) (actedOn t e mst (ack % 2)))
+    go : (w b : Bool) → Group t (cond w (cond b t (record { slots = t .slots; count = t .count; wait = false; remembered = ack % 2; kind = t .kind })) (actedOn t e mst (ack % 2)))
     go true true = group-self t
     go true false = record { count = refl; kind = refl }
     go false b = record { count = refl; kind = refl }

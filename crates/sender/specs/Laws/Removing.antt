@@ -7,8 +7,8 @@ use native.Mathlib.Omega.{arith}
 use lib.Dec.{ltb}
 use borrow.Author.Tests.{lt-ltb, le-ltb}
 use Rattle.ground.specs.Truth.{eq-or-ne, le-or-lt}
-use Rattle.counting.specs.Laws.Numbers.{count-ext, count-without}
-use Rattle.counting.specs.Words.{Apart}
+use Rattle.ground.specs.Counting.Laws.Numbers.{count-ext, count-without}
+use Rattle.ground.specs.Counting.Words.{Apart}
 use Rattle.sender.specs.declared.table.State.{State}
 use Rattle.sender.specs.Laws.Numbered.{Numbered, placed-member, add-member, add-placed, idle-placed, member-cases}
 use Rattle.sender.specs.Numbering.{isPlaced, placed, members}

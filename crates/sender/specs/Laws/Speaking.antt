@@ -12,11 +12,11 @@ use lib.ListN.{length}
 use lib.Seq.{getD-set-same, getD-set-other}
 use borrow.Author.Tests.{eq-eqb, eqb-true, lt-ltb, ltb-true}
 use Rattle.ground.specs.Truth.{and-left, and-right, and-true, eq-or-ne, fails}
-use Rattle.counting.specs.Each.{getD-each}
-use Rattle.counting.specs.Laws.Numbers.{count-ext, count-le}
-use Rattle.counting.specs.Laws.Ranks.{full-below}
-use Rattle.counting.specs.Laws.Tests.{some-none}
-use Rattle.counting.specs.Words.{count}
+use Rattle.ground.specs.Counting.Each.{getD-each}
+use Rattle.ground.specs.Counting.Laws.Numbers.{count-ext, count-le}
+use Rattle.ground.specs.Counting.Laws.Ranks.{full-below}
+use Rattle.ground.specs.Counting.Laws.Tests.{some-none}
+use Rattle.ground.specs.Counting.Words.{count}
 use Rattle.packet.specs.Kinds.{mstFails, mstFirst, mstNumbers}
 use Rattle.packet.specs.Laws.Mst.{spoken-or-not}
 use Rattle.packet.specs.Mst.{Spoken}
@@ -36,7 +36,7 @@ use Rattle.sender.specs.Laws.Reporting.{MayBecome}
 use Rattle.sender.specs.Laws.Sizes.{size-le}
 use Rattle.sender.specs.Numbering.{isPlaced, numberIn, slotsIn, stateIn}
 use Rattle.sender.specs.Reports.{actedOn, becomes, comesBefore, mstApplied, numberApplied, opensWait, renumbered, reportOf, slotAfter, spokenTo, turnOf, waited}
-use Rattle.sender.specs.Table.{answerNumber, holderOf, holds, isActive, isAdd, isMember, membersOf, sizeOf, slotAt}
+use Rattle.sender.specs.Table.{answerNumber, holderOf, holds, isActive, isAdd, isMember, membersOf, slotCount, slotAt}
 
 module _ (t : Table) (o : Sound t) (e mst ack : ℕ) where
   abbrev n : ℕ
@@ -186,9 +186,9 @@ module _ (t : Table) (o : Sound t) (e mst ack : ℕ) where
 -- no report makes an ADD member
 pub report-may : (t : Table) → Sound t → (e mst ack j : ℕ) → j < slotsIn t → MayBecome (stateIn t j) (stateIn (reportOf t e mst ack .table) j)
 unfolding reportOf waited
-report-may t o e mst ack j h = go (t .wait) (eqb (ack % 2) (t .bit))
+report-may t o e mst ack j h = go (t .wait) (eqb (ack % 2) (t .remembered))
   where
-    go : (c d : Bool) → MayBecome (stateIn t j) (stateIn (cond c (cond d t (record { slots = t .slots; count = t .count; wait = false; bit = ack % 2; kind = t .kind })) (actedOn t e mst (ack % 2))) j)
+    go : (c d : Bool) → MayBecome (stateIn t j) (stateIn (cond c (cond d t (record { slots = t .slots; count = t .count; wait = false; remembered = ack % 2; kind = t .kind })) (actedOn t e mst (ack % 2))) j)
     go true true = may-stay (stateIn t j)
     go true false = may-stay (stateIn t j)
     go false d = may-acted t o e mst (ack % 2) j h
@@ -282,12 +282,12 @@ module _ (t : Table) (i : ℕ) (o : Sound t) (done : addOf t i .answer ≡ Done)
 
   added : Added (addOf t i .table)
   unfolding addOf
-  added = go (ltb i (sizeOf (t .count))) refl (t .wait) refl (not (isMember (slotAt (t .slots) i .state))) done
+  added = go (ltb i (slotCount (t .count))) refl (t .wait) refl (not (isMember (slotAt (t .slots) i .state))) done
     where
-      go : (c : Bool) → ltb i (sizeOf (t .count)) ≡ c → (w : Bool) → t .wait ≡ w → (d : Bool)
+      go : (c : Bool) → ltb i (slotCount (t .count)) ≡ c → (w : Bool) → t .wait ≡ w → (d : Bool)
           → cond {A = Outcome} c (cond w (answered t WaitOpen) (cond d (answered (addedTo t i) Done) (answered t NotAllowed))) (answered t NoSlot) .answer ≡ Done
           → Added (cond {A = Outcome} c (cond w (answered t WaitOpen) (cond d (answered (addedTo t i) Done) (answered t NotAllowed))) (answered t NoSlot) .table)
-      go true c false w true e = record { below = ltb-true i (sizeOf (t .count)) c; shut = w; is-added = refl }
+      go true c false w true e = record { below = ltb-true i (slotCount (t .count)) c; shut = w; is-added = refl }
       go true c false w false e = absurd (let z = ap answerNumber e in omega arith)
       go true c true w d e = absurd (let z = ap answerNumber e in omega arith)
       go false c w h d e = absurd (let z = ap answerNumber e in omega arith)
@@ -296,7 +296,7 @@ module _ (t : Table) (i : ℕ) (o : Sound t) (done : addOf t i .answer ≡ Done)
   unfolding addedTo
   here =
       ap (λ (s : Slot). s .state)
-      (getD-set-same (t .slots) i (record { state = Add; number = membersOf (t .slots) (sizeOf (t .count)) }) (record { state = Idle; number = 0 })
+      (getD-set-same (t .slots) i (record { state = Add; number = membersOf (t .slots) (slotCount (t .count)) }) (record { state = Idle; number = 0 })
       (let l = size-le (t .count) in let h = o .whole in let b = added .below in omega arith))
 
   pub added-pending : Pending (addOf t i .table) i (numberIn (addOf t i .table) i)
@@ -314,4 +314,4 @@ module _ (t : Table) (i : ℕ) (o : Sound t) (done : addOf t i .answer ≡ Done)
   unfolding addedTo
   added-other j d =
       ap (λ (v : Table). stateIn v j) (added .is-added)
-      ∙ ap (λ (s : Slot). s .state) (getD-set-other (t .slots) i j (record { state = Add; number = membersOf (t .slots) (sizeOf (t .count)) }) (record { state = Idle; number = 0 }) d)
+      ∙ ap (λ (s : Slot). s .state) (getD-set-other (t .slots) i j (record { state = Add; number = membersOf (t .slots) (slotCount (t .count)) }) (record { state = Idle; number = 0 }) d)

@@ -8,9 +8,9 @@ use native.Mathlib.Omega.{arith}
 use lib.Dec.{eqb, ltb}
 use borrow.Author.Tests.{eq-eqb, eqb-true, ltb-true, ltb-false, not-true}
 use Rattle.ground.specs.Truth.{and-true, and-left, and-right, fails}
-use Rattle.counting.specs.Laws.Ranks.{all-taken, some-top}
-use Rattle.counting.specs.Laws.Tests.{none-at, some-at, some-one}
-use Rattle.counting.specs.Words.{One, count, some}
+use Rattle.ground.specs.Counting.Laws.Ranks.{all-taken, some-top}
+use Rattle.ground.specs.Counting.Laws.Tests.{none-at, some-at, some-one}
+use Rattle.ground.specs.Counting.Words.{One, count, some}
 use Rattle.packet.specs.Words.{EOS}
 use Rattle.sender.specs.declared.table.State.{State}
 use Rattle.sender.specs.declared.table.State.the-variants.{Idle, Add, Active, Dnu}

@@ -6,9 +6,9 @@ use Prim.Native.Nat.{ℕ, _<_}
 use lib.Dec.{eqb, ltb}
 use borrow.Author.Tests.{eq-eqb, eqb-true}
 use Rattle.ground.specs.Truth.{and-true, and-left, and-right}
-use Rattle.counting.specs.Laws.Numbers.{count-none}
-use Rattle.counting.specs.Laws.Ranks.{rank, ranked}
-use Rattle.counting.specs.Words.{One, count}
+use Rattle.ground.specs.Counting.Laws.Numbers.{count-none}
+use Rattle.ground.specs.Counting.Laws.Ranks.{rank, ranked}
+use Rattle.ground.specs.Counting.Words.{One, count}
 use Rattle.packet.specs.declared.layout.Fields.{Fields}
 use Rattle.sender.specs.Epochs.{SenderCall, beginOf, freshSender, onTable, packetAnswer, packetBytes, packetFields, payloadAnswer, payloadBytes, rankIn, senderAfter, senderOutcomeOf, senderRun, startEpochOf, startedSender, xOf}
 use Rattle.sender.specs.Numbering.{numberIn, slotsIn, stateIn}
@@ -25,7 +25,7 @@ use Rattle.sender.specs.Epochs.SenderCall.{OnTable, StartEpoch}
 use Rattle.sender.specs.Laws.Carrying.{board-size, carries-active, rank-active, x-active}
 use Rattle.sender.specs.Laws.Kept.{Sound, group-call, sound-call, sound-start, start-idle}
 use Rattle.sender.specs.Ranks.{carries, carriersIn, rankAt, rowAt}
-use Rattle.sender.specs.Table.{isActive, sizeOf}
+use Rattle.sender.specs.Table.{isActive, slotCount}
 use Rattle.sender.specs.Theorems.Demand2.{active-member, sound-demand2}
 
 -- a board that shows a table as demand 2 asks, of so many slots
@@ -144,7 +144,7 @@ outgoing-stays s (c ∷ cs) = outgoing-stays (senderOutcomeOf s (OnTable c) .sen
 pub first-x : (kind count e : ℕ) (cs : List Call) (gid mst ack : ℕ) → (ltb gid 2 && ltb ack 2) ≡ true
     → xOf (startEpochOf (senderAfter kind count e (onTable cs)) gid mst ack .sender) ≡ 0
 first-x kind c e cs gid mst ack h =
-    ap (λ (b : Board). carriersIn (b .rows) (sizeOf (b .count)))
+    ap (λ (b : Board). carriersIn (b .rows) (slotCount (b .count)))
     (rules-next (senderAfter kind c e (onTable cs)) gid mst ack h ∙ outgoing-stays (beginOf kind c e .sender) cs ∙ begins kind c e)
     ∙ x-active (startOf kind c .table)
     ∙ count-none (slotsIn (startOf kind c .table)) _ (λ i b. ap isActive (start-idle kind c i b))
@@ -154,11 +154,11 @@ module _ (s : Sender) (o : SoundSender s) where
   abbrev t : Table
   t = o .ruling .source
 
-  pub rank-taken : (r : ℕ) → r < xOf s → One (sizeOf (s .ruling .count)) (λ i. carries (rowAt (s .ruling .rows) i) && eqb (rankIn s i) r)
+  pub rank-taken : (r : ℕ) → r < xOf s → One (slotCount (s .ruling .count)) (λ i. carries (rowAt (s .ruling .rows) i) && eqb (rankIn s i) r)
   rank-taken r h = rw (o .ruling .is) (taken r (rw (o .ruling .is) at h))
     where
-      taken : (r : ℕ) → r < carriersIn (boardOf t .rows) (sizeOf (boardOf t .count))
-          → One (sizeOf (boardOf t .count)) (λ i. carries (rowAt (boardOf t .rows) i) && eqb (rankAt (boardOf t .rows) (sizeOf (boardOf t .count)) i) r)
+      taken : (r : ℕ) → r < carriersIn (boardOf t .rows) (slotCount (boardOf t .count))
+          → One (slotCount (boardOf t .count)) (λ i. carries (rowAt (boardOf t .rows) i) && eqb (rankAt (boardOf t .rows) (slotCount (boardOf t .count)) i) r)
       taken r h =
           let active : ℕ → Bool = λ i. isActive (stateIn t i) in
           let w = ranked (slotsIn t) active (numberIn t)
@@ -173,5 +173,5 @@ module _ (s : Sender) (o : SoundSender s) where
             below = rw (board-size t) b;
             holds =
                 and-true (carries (rowAt (boardOf t .rows) i)) _ (carries-active t i b ∙ a)
-                (eq-eqb (rankAt (boardOf t .rows) (sizeOf (boardOf t .count)) i) r (rank-active t i b a ∙ k));
+                (eq-eqb (rankAt (boardOf t .rows) (slotCount (boardOf t .count)) i) r (rank-active t i b a ∙ k));
           }

@@ -9,7 +9,7 @@ use lib.Dec.{eqb, ltb, lit<}
 use lib.ListN.{length}
 use borrow.Author.Tests.{eq-eqb, lt-ltb, ltb-true}
 use Rattle.ground.specs.Truth.{and-left, and-right}
-use Rattle.counting.specs.Laws.Numbers.{count-le}
+use Rattle.ground.specs.Counting.Laws.Numbers.{count-le}
 use Rattle.packet.specs.Kinds.{epochAfter, epochs, frames, idleNumber}
 use Rattle.packet.specs.Laws.Reading.{lcas-assigned}
 use Rattle.packet.specs.Laws.Writing.{answer-sized, fields-fit as sent-fit}
@@ -39,7 +39,7 @@ use Rattle.sender.specs.Laws.Sizes.{size-le}
 use Rattle.sender.specs.Numbering.{numberIn, slotsIn, stateIn}
 use Rattle.sender.specs.Outcomes.{written}
 use Rattle.sender.specs.Ranks.{rowAt}
-use Rattle.sender.specs.Table.{answerNumber, isMember, sizeOf}
+use Rattle.sender.specs.Table.{answerNumber, isMember, slotCount}
 
 -- what a packet's fields ask beside the row
 record Fit (s : Sender) : Type 0 where
@@ -136,7 +136,7 @@ fields-fit s o w i h = sent-fit (s .table .kind) (packetFields s i) (o .epoch) (
 all-right : (s : Sender) (i : ℕ) (h4 : List ℕ) → i < slotsIn (s .table) → length h4 ≡ frames (s .table .kind) → s .begun ≡ true → sentFits (s .table .kind) (packetFields s i) ≡ true → packetAnswer s i h4 ≡ Done
 unfolding packetAnswer
 all-right s i h4 l k b f =
-    rw (lt-ltb i (sizeOf (s .table .count)) l, answer-sized (s .table .kind) (packetFields s i) h4, eq-eqb (length h4) (frames (s .table .kind)) k, f, b)
+    rw (lt-ltb i (slotCount (s .table .count)) l, answer-sized (s .table .kind) (packetFields s i) h4, eq-eqb (length h4) (frames (s .table .kind)) k, f, b)
 
 pub packet-done : (kind count e : ℕ) (cs : List SenderCall) → e < epochs kind → AllGiven cs → senderAfter kind count e cs .begun ≡ true
     → (i : ℕ) → i < slotsIn (senderAfter kind count e cs .table) → (h4 : List ℕ) → length h4 ≡ frames (senderAfter kind count e cs .table .kind) → packetAnswer (senderAfter kind count e cs) i h4 ≡ Done
@@ -153,8 +153,8 @@ module _ (s : Sender) (i : ℕ) (h4 : List ℕ) (below : i < slotsIn (s .table))
   zeros-in : packetAnswer s i h4 ≡ Done → NoneReservedBy (s .table .kind) (packetBytes s i h4)
   unfolding packetAnswer packetBytes packetFields
   zeros-in e =
-      rw (lt-ltb i (sizeOf (s .table .count)) below, eq-eqb (length h4) (frames (s .table .kind)) room, begun)
-      (none-reserved-by (s .table .kind) (packetFields s i) h4 (written-done (sentAnswer (s .table .kind) (packetFields s i) h4) (rw (lt-ltb i (sizeOf (s .table .count)) below, eq-eqb (length h4) (frames (s .table .kind)) room, begun) at e)) refl)
+      rw (lt-ltb i (slotCount (s .table .count)) below, eq-eqb (length h4) (frames (s .table .kind)) room, begun)
+      (none-reserved-by (s .table .kind) (packetFields s i) h4 (written-done (sentAnswer (s .table .kind) (packetFields s i) h4) (rw (lt-ltb i (slotCount (s .table .count)) below, eq-eqb (length h4) (frames (s .table .kind)) room, begun) at e)) refl)
 
 -- 'Our sender still writes zeros' (request 2026-08): after any calls from a start, in the bytes of every slot's packet
 pub packet-zeros : (kind count e : ℕ) (cs : List SenderCall) → e < epochs kind → AllGiven cs → senderAfter kind count e cs .begun ≡ true

@@ -12,7 +12,7 @@ use Rattle.sender.specs.Commands.{addOf, addedTo, freshOf, idleSlot, lap
 use Rattle.sender.specs.Numbering.{stateIn}
 use Rattle.sender.specs.Reports.{actedOn, comesBefore, mstApplied, numberAfter, opensWait, renumbered, reportOf, slotAfter, numberApplied, turnOf, waited}
 use Rattle.sender.specs.Shown.{after}
-use Rattle.sender.specs.Table.{holderOf, isActive, membersOf, sizeOf}
+use Rattle.sender.specs.Table.{holderOf, isActive, membersOf, slotCount}
 
 -- slot 0 is active
 abbrev carries : Table → Bool
@@ -30,7 +30,7 @@ acts :
     × (carries (outcomeOf (after 1 asked) (Report 0 0x00 0) .table) ≡ true)
     × (carries (after 1 answered) ≡ true)
     × (carries (outcomeOf (after 1 answered) (Report 0 0x80 0) .table) ≡ false)
-unfolding startOf freshOf idleSlot idleNumber addOf addedTo lapseOf reportOf waited actedOn mstApplied numberApplied holderOf renumbered slotAfter numberAfter comesBefore turnOf opensWait sizeOf membersOf mstFails mstFirst mstEpochs mstNumbers
+unfolding startOf freshOf idleSlot idleNumber addOf addedTo lapseOf reportOf waited actedOn mstApplied numberApplied holderOf renumbered slotAfter numberAfter comesBefore turnOf opensWait slotCount membersOf mstFails mstFirst mstEpochs mstNumbers
 acts = (refl, refl, refl, refl)
 
 -- any sender that meets the contracts

@@ -3,7 +3,7 @@ use Prim.Native.Nat.{_≤_, _-_}
 use native.Mathlib.Omega.{arith}
 use lib.ListN.{length}
 use borrow.Author.Needs.{needs}
-use Rattle.console.specs.Laws.Feeding.{fed-on}
+use Rattle.session_lines.specs.Laws.Feeding.{fed-on}
 use Rattle.speak.proofs.feed_all.Statement.{statement}
 use Rattle.speak.proofs.feed_all.Tie as tie
 

@@ -2,7 +2,7 @@ use mathlib.Core.Path.{sym}
 use native.Mathlib.Omega.{arith}
 use lib.Seq.{length-take-le}
 use borrow.Author.Needs.{needs}
-use Rattle.listener.specs.Laws.Feeding.{fed-within, fed-used}
+use Rattle.speak_lines.specs.Laws.Feeding.{fed-within, fed-used}
 use Rattle.speak.proofs.feed_some.Statement.{statement}
 use Rattle.speak.proofs.feed_some.Tie as tie
 

@@ -1,7 +1,7 @@
 use mathlib.Core.Path.{sym}
 use lib.Seq.{length-take-le}
 use borrow.Author.Needs.{needs}
-use Rattle.listener.specs.Laws.Feeding.{last-within}
+use Rattle.speak_lines.specs.Laws.Feeding.{last-within}
 use Rattle.speak.proofs.finish.Statement.{statement}
 use Rattle.speak.proofs.finish.Tie as tie
 

@@ -10,8 +10,8 @@ use lib.ListN.{drop, getD-replicate, length, length-append, length-drop, length-
 use lib.Seq.{append-snoc, drop-cons, getD-append-seam, set-append-seam, take-append-seam}
 use borrow.Author.Tests.{eq-eqb, ne-eqb, lt-ltb, le-ltb}
 use Rattle.ground.specs.Truth.{eq-or-ne, le-or-lt}
-use Rattle.counting.specs.Laws.Numbers.{count-ext}
-use Rattle.counting.specs.Words.{count}
+use Rattle.ground.specs.Counting.Laws.Numbers.{count-ext}
+use Rattle.ground.specs.Counting.Words.{count}
 use Rattle.sender.specs.declared.board.Row.{Row}
 use Rattle.spoken.specs.Said.{Told}
 use Rattle.spoken.specs.declared.lists.Change.{Change}

@@ -10,17 +10,17 @@ use lib.ListN.{length, length-replicate, replicate}
 use lib.Seq.{ext-getD}
 use borrow.Author.Tests.{eq-eqb, eqb-true, le-leb, lt-ltb, not-false}
 use Rattle.ground.specs.Truth.{and-true, clash, le-or-lt}
-use Rattle.counting.specs.Each.{getD-rest, length-each}
-use Rattle.counting.specs.Laws.Numbers.{count-none}
-use Rattle.counting.specs.Laws.Tests.{every-all, none-at, some-one}
-use Rattle.counting.specs.Words.{count, some}
+use Rattle.ground.specs.Counting.Each.{getD-rest, length-each}
+use Rattle.ground.specs.Counting.Laws.Numbers.{count-none}
+use Rattle.ground.specs.Counting.Laws.Tests.{every-all, none-at, some-one}
+use Rattle.ground.specs.Counting.Words.{count, some}
 use Rattle.sender.specs.Board.{boardOf, noRow, rowOf, rowsOf}
 use Rattle.sender.specs.declared.board.Board.{Board}
 use Rattle.sender.specs.declared.board.Row.{Row}
 use Rattle.sender.specs.declared.table.Table.{Table}
 use Rattle.sender.specs.Laws.Sizes.{size-le}
 use Rattle.sender.specs.Ranks.{rowAt}
-use Rattle.sender.specs.Table.{sizeOf}
+use Rattle.sender.specs.Table.{slotCount}
 use Rattle.spoken.specs.Laws.Spoken.{length-list, spoken-le}
 use Rattle.spoken.specs.Said.{Agrees, Told}
 use Rattle.spoken.specs.declared.comparing.Compared.{Compared}
@@ -128,32 +128,32 @@ compared-whole old new = go (comparable old new) refl
     go false e = length-replicate 64 noChange
 
 -- it is the new board outright where both show tables of one kind: past the count both have the idle row
-count-is : (t : Table) → boardOf t .count ≡ sizeOf (t .count)
+count-is : (t : Table) → boardOf t .count ≡ slotCount (t .count)
 unfolding boardOf
 count-is t = refl
 
 pub board-whole : (t : Table) → length (boardOf t .rows) ≡ 64
 unfolding boardOf rowsOf
 board-whole t =
-    length-each (sizeOf (t .count)) (λ i. rowOf (t .slots) (sizeOf (t .count)) i) (replicate 64 (noRow (t .kind))) ∙ length-replicate 64 (noRow (t .kind))
+    length-each (slotCount (t .count)) (λ i. rowOf (t .slots) (slotCount (t .count)) i) (replicate 64 (noRow (t .kind))) ∙ length-replicate 64 (noRow (t .kind))
 
 module _ (t u : Table) (k : t .kind ≡ u .kind) (c : t .count ≡ u .count) where
   one-count : comparable (boardOf t) (boardOf u) ≡ true
   unfolding boardOf
   one-count =
-      and-true (eqb (sizeOf (t .count)) (sizeOf (u .count))) _ (eq-eqb (sizeOf (t .count)) (sizeOf (u .count)) (ap sizeOf c))
-      (le-leb (sizeOf (t .count)) 64 (size-le (t .count)))
+      and-true (eqb (slotCount (t .count)) (slotCount (u .count))) _ (eq-eqb (slotCount (t .count)) (slotCount (u .count)) (ap slotCount c))
+      (le-leb (slotCount (t .count)) 64 (size-le (t .count)))
 
   pub compared-done : comparedOf (boardOf t) (boardOf u) .answer ≡ Done
   unfolding comparedOf
   compared-done = rw one-count
 
-  past : (i : ℕ) → sizeOf (t .count) ≤ i → rowAt (boardOf t .rows) i ≡ rowAt (boardOf u .rows) i
+  past : (i : ℕ) → slotCount (t .count) ≤ i → rowAt (boardOf t .rows) i ≡ rowAt (boardOf u .rows) i
   unfolding boardOf rowsOf
   past i h =
-      getD-rest (sizeOf (t .count)) (λ j. rowOf (t .slots) (sizeOf (t .count)) j) (replicate 64 (noRow (t .kind))) i _ h
+      getD-rest (slotCount (t .count)) (λ j. rowOf (t .slots) (slotCount (t .count)) j) (replicate 64 (noRow (t .kind))) i _ h
       ∙ ap (λ (q : ℕ). rowAt (replicate 64 (noRow q)) i) k
-      ∙ sym (getD-rest (sizeOf (u .count)) (λ j. rowOf (u .slots) (sizeOf (u .count)) j) (replicate 64 (noRow (u .kind))) i _ (rw c at h))
+      ∙ sym (getD-rest (slotCount (u .count)) (λ j. rowOf (u .slots) (slotCount (u .count)) j) (replicate 64 (noRow (u .kind))) i _ (rw c at h))
 
   abbrev after : Board
   after = withChanges (boardOf t) (changesOf (boardOf t) (boardOf u))

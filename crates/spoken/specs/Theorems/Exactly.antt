@@ -8,8 +8,8 @@ use lib.Dec.{eqb, leb}
 use borrow.Author.Tests.{eqb-true, leb-true, lt-ltb}
 use lib.ListN.{length}
 use Rattle.ground.specs.Truth.{and-left, and-right}
-use Rattle.counting.specs.Laws.Numbers.{count-ext}
-use Rattle.counting.specs.Words.{count}
+use Rattle.ground.specs.Counting.Laws.Numbers.{count-ext}
+use Rattle.ground.specs.Counting.Words.{count}
 use Rattle.sender.specs.declared.board.Board.{Board}
 use Rattle.sender.specs.declared.board.Row.{Row}
 use Rattle.spoken.specs.Laws.Spoken.{list-at, spoken-ordered, spoken-times, spoken-told}

@@ -10,7 +10,7 @@ use lib.ListN.{length}
 use borrow.Author.Tests.{eq-eqb, le-leb, le-ltb, lt-leb, lt-ltb, ne-eqb}
 use Rattle.ground.specs.Table.{tabulate}
 use Rattle.ground.specs.Truth.{cond-by, eq-or-ne, le-or-lt}
-use Rattle.counting.specs.Words.{count}
+use Rattle.ground.specs.Counting.Words.{count}
 use Rattle.sender.specs.declared.board.Row.{Row}
 use Rattle.spoken.specs.Said.{runsWith, tellsOf}
 use Rattle.spoken.specs.declared.lists.Change.{Change}

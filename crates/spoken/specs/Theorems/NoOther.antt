@@ -11,8 +11,8 @@ use lib.ListN.{length, take}
 use lib.Seq.{length-take-le, take-suc}
 use borrow.Author.Tests.{eq-eqb, eqb-true, le-leb, leb-true, lt-ltb, ltb-true, not-true}
 use Rattle.ground.specs.Truth.{and-left, and-right, clash, eq-or-ne, fails, or-cases}
-use Rattle.counting.specs.Laws.Tests.{every-all, every-at, none-at, some-one}
-use Rattle.counting.specs.Words.{some}
+use Rattle.ground.specs.Counting.Laws.Tests.{every-all, every-at, none-at, some-one}
+use Rattle.ground.specs.Counting.Words.{some}
 use Rattle.sender.specs.declared.board.Board.{Board}
 use Rattle.sender.specs.declared.board.Row.{Row}
 use Rattle.sender.specs.Ranks.{rowAt}

@@ -9,7 +9,7 @@ use lib.ListN.{length, length-replicate, replicate}
 use borrow.Author.Tests.{le-leb, leb-true, lt-ltb, ltb-true, not-true}
 use Rattle.ground.specs.Table.{tabulate, getD-tabulate}
 use Rattle.ground.specs.Truth.{and-left, and-right, clash, fails}
-use Rattle.counting.specs.Laws.Tests.{every-all, every-at}
+use Rattle.ground.specs.Counting.Laws.Tests.{every-all, every-at}
 use Rattle.sender.specs.declared.board.Board.{Board}
 use Rattle.sender.specs.declared.board.Row.{Row}
 use Rattle.sender.specs.Ranks.{rowAt}

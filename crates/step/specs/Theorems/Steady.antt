@@ -25,7 +25,7 @@ quiet : (a b c : Bool) → b ≡ false → (a && b && c) ≡ false
 quiet true b c e = rw e
 quiet false b c e = refl
 
-module _ (g : Group) (s : Step) (odd : Bool) (h : ℕ) (had : s .had ≡ 1) (failed : s .failed ≡ 0) (unbroken : s .breaks ≡ 0) (stands : inStep g s ≡ true) (sent : h4Counts (s .next) h ≡ true)
+module _ (g : Group) (s : Step) (odd : Bool) (h : ℕ) (had : s .heard ≡ 1) (failed : s .failed ≡ 0) (unbroken : s .breaks ≡ 0) (stands : inStep g s ≡ true) (sent : h4Counts (s .next) h ≡ true)
     (even : odd ≡ false) (mid : endsPacket (g .kind) (s .next) ≡ false) (clock : eqb (g .kind) vc12Kind ≡ false) where
   ran : ranOn g s odd h ≡ record { count = s .count; next = tagAfter (g .kind) (s .next); breaks = 0; odd = s .odd; bits = s .bits }
   unfolding inStep oddAfter
@@ -68,7 +68,7 @@ unfolding steady
 steady-taken g s flag odd h clock t w even =
     let d : ℕ = distanceIn g (s .next) in
     let b1 : Bool = not flag in
-    let b2 : Bool = b1 && eqb (s .had) 1 in
+    let b2 : Bool = b1 && eqb (s .heard) 1 in
     let b3 : Bool = b2 && eqb (s .failed) 0 in
     let b4 : Bool = b3 && eqb (s .breaks) 0 in
     let b5 : Bool = b4 && inStep g s in
@@ -80,12 +80,12 @@ steady-taken g s flag odd h clock t w even =
     let t4 : b4 ≡ true = and-left b4 (inStep g s) t5 in
     let t3 : b3 ≡ true = and-left b3 (eqb (s .breaks) 0) t4 in
     let t2 : b2 ≡ true = and-left b2 (eqb (s .failed) 0) t3 in
-    let had : s .had ≡ 1 = eqb-true (s .had) 1 (and-right b1 (eqb (s .had) 1) t2) in
+    let had : s .heard ≡ 1 = eqb-true (s .heard) 1 (and-right b1 (eqb (s .heard) 1) t2) in
     let failed : s .failed ≡ 0 = eqb-true (s .failed) 0 (and-right b2 (eqb (s .failed) 0) t3) in
     let unbroken : s .breaks ≡ 0 = eqb-true (s .breaks) 0 (and-right b3 (eqb (s .breaks) 0) t4) in
     let stands : inStep g s ≡ true = and-right b4 (inStep g s) t5 in
     let sent : h4Counts (s .next) h ≡ true = and-right b5 (h4Counts (s .next) h) t6 in
     let mid : endsPacket (g .kind) (s .next) ≡ false = mid-packet g s w in
-    taken-keeps g s flag odd h (not-true flag (and-left b1 (eqb (s .had) 1) t2)) (steps g s odd h had failed unbroken stands sent even mid clock)
+    taken-keeps g s flag odd h (not-true flag (and-left b1 (eqb (s .heard) 1) t2)) (steps g s odd h had failed unbroken stands sent even mid clock)
     (and-right b6 (flagOf (g .begun)) t7) (and-right b7 (flagOf (s .joined)) t) (mid-epoch-inside g d w)
     ∙ only-kept g s odd h had failed unbroken stands sent even mid clock (mid-epoch-goes-on g d w)

@@ -11,7 +11,7 @@ use lib.ListN.{getD, length, length-append}
 use borrow.Author.Tests.{eq-eqb, le-leb}
 use Rattle.ground.specs.Table.{length-tabulate}
 use Rattle.ground.specs.Truth.{and-true, eq-or-ne}
-use Rattle.counting.specs.Laws.Tests.{some-at}
+use Rattle.ground.specs.Counting.Laws.Tests.{some-at}
 use Rattle.packet.specs.Kinds.{epochs, mstEpochs, mstFails}
 use Rattle.packet.specs.Laws.Mst.{SpokenSoon, spoken-soon}
 use Rattle.packet.specs.Mst.{Spoken}
@@ -28,7 +28,7 @@ use Rattle.sender.specs.Laws.Runs.{run-append}
 use Rattle.sender.specs.Laws.Speaking.{BecomesActive, Pending, acts, added-pending, active-or-pending, pending-low}
 use Rattle.sender.specs.Numbering.{numberIn, slotsIn, stateIn}
 use Rattle.sender.specs.Reports.{reportOf}
-use Rattle.sender.specs.Table.{isActive, isMember, sizeOf}
+use Rattle.sender.specs.Table.{isActive, isMember, slotCount}
 use Rattle.link.specs.Demand3.{Reported, Started, Time, ownRun, standing}
 use Rattle.link.specs.History.{Allowed, History, fieldsSent, packetSent, senderAt}
 use Rattle.link.specs.Assumed.{Assumed}
@@ -288,7 +288,7 @@ module _ (k : Link) (m₀ : Moment) (a b slot t : ℕ) (j : Joined k m₀ a b (t
   -- and carries traffic in the next epoch
   slot-below : (u : ℕ) → slot < slotsIn (tab u)
   slot-below u =
-      subst (λ (n : ℕ). slot < n) (ap sizeOf (group-call found (AddSlot slot) .count) ∙ ap sizeOf (count-run (tab t) (add .earlier)) ∙ size-at h al t ∙ sym (size-at h al u)) (lone-first .pending .below)
+      subst (λ (n : ℕ). slot < n) (ap slotCount (group-call found (AddSlot slot) .count) ∙ ap slotCount (count-run (tab t) (add .earlier)) ∙ size-at h al t ∙ sym (size-at h al u)) (lone-first .pending .below)
 
   pub carries : CarriesWithin (j .out .history) slot t (bound (kindOf k) a b 0 + 1)
   carries =

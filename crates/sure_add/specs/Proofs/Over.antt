@@ -10,7 +10,7 @@ use lib.Dec.{eqb}
 use lib.ListN.{getD, length}
 use borrow.Author.Tests.{eq-eqb, eqb-true, lt-ltb}
 use Rattle.ground.specs.Truth.{and-left, and-right, and-true, eq-or-ne}
-use Rattle.counting.specs.Laws.Tests.{some-at, some-one}
+use Rattle.ground.specs.Counting.Laws.Tests.{some-at, some-one}
 use Rattle.packet.specs.Kinds.{epochs, fixedKind, mstEpochs, mstFails}
 use Rattle.packet.specs.Laws.Mst.{SpokenSoon, spoken-soon}
 use Rattle.packet.specs.Mst.{Spoken}

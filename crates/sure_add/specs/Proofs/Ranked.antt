@@ -5,8 +5,8 @@ use mathlib.Core.Bool.{true, false}
 use Prim.Native.Nat.{ℕ, _+_, _<_}
 use native.Mathlib.Omega.{arith}
 use lib.Dec.{eqb}
-use Rattle.counting.specs.Laws.Numbers.{count-le}
-use Rattle.counting.specs.Laws.Ranks.{rank, rank-lt}
+use Rattle.ground.specs.Counting.Laws.Numbers.{count-le}
+use Rattle.ground.specs.Counting.Laws.Ranks.{rank, rank-lt}
 use Rattle.packet.specs.Kinds.{fixedKind}
 use Rattle.sender.specs.declared.board.Board.{Board}
 use Rattle.sender.specs.declared.epochs.Sender.{Sender}
@@ -20,7 +20,7 @@ use Rattle.sender.specs.Laws.Sizes.{size-le}
 use Rattle.sender.specs.Laws.Speaking.{added-pending}
 use Rattle.sender.specs.Numbering.{numberIn, slotsIn, stateIn}
 use Rattle.sender.specs.Ranks.{noRank, rankAt}
-use Rattle.sender.specs.Table.{isActive, sizeOf}
+use Rattle.sender.specs.Table.{isActive, slotCount}
 use Rattle.sure_add.specs.Proofs.Over as Over
 use Rattle.sure_add.specs.Rounds.{Asked, Path, Rounds, before, tableOf}
 use Rattle.sure_add.specs.Within.{RankWithin, bound}
@@ -31,13 +31,13 @@ module _ (r : Rounds) (a b slot port restore : ℕ) (lcas : eqb (r .kind) fixedK
   slot-first = added-pending (before r) slot (sound-run (startOf (r .kind) (r .slots) .table) (r .calls) (sound-start (r .kind) (r .slots))) (asked .accepted) .below
 
   slot-below : (k : ℕ) → slot < slotsIn (tableOf r slot k)
-  slot-below = Over.along r slot (λ t. slot < slotsIn t) (λ t e mst ack so. subst (λ (n : ℕ). slot < n) (sym (ap sizeOf (group-call t (Report e mst ack) .count))) so) slot-first
+  slot-below = Over.along r slot (λ t. slot < slotsIn t) (λ t e mst ack so. subst (λ (n : ℕ). slot < n) (sym (ap slotCount (group-call t (Report e mst ack) .count))) so) slot-first
 
   ranked : (k : ℕ) → isActive (stateIn (tableOf r slot k) slot) ≡ true → (s : Sender) → s .ruling ≡ boardOf (tableOf r slot k) → rankIn s slot ≢ noRank
   ranked k active s rules none =
       let t = tableOf r slot k in
       let e : rankIn s slot ≡ rank (slotsIn t) (λ i. isActive (stateIn t i)) (numberIn t) slot =
-      ap (λ (x : Board). rankAt (x .rows) (sizeOf (x .count)) slot) rules ∙ rank-active t slot (slot-below k) active in
+      ap (λ (x : Board). rankAt (x .rows) (slotCount (x .count)) slot) rules ∙ rank-active t slot (slot-below k) active in
       let l = rank-lt (slotsIn t) (λ i. isActive (stateIn t i)) (numberIn t) slot (slot-below k) active in
       let c = count-le (slotsIn t) (λ i. isActive (stateIn t i)) in
       let z = size-le (t .count) in

@@ -5,8 +5,8 @@ use mathlib.Core.List.{List, [], _∷_}
 use Prim.Native.Nat.{ℕ, _+_, _≤_, _<_}
 use lib.Dec.{eqb}
 use lib.ListN.{getD, length}
-use Rattle.counting.specs.Laws.Tests.{some-ext}
-use Rattle.counting.specs.Words.{some}
+use Rattle.ground.specs.Counting.Laws.Tests.{some-ext}
+use Rattle.ground.specs.Counting.Words.{some}
 use Rattle.packet.specs.declared.ruling.Ruling.{Ruling}
 use Rattle.packet.specs.Kinds.{fixedKind, mstFails, mstFirst}
 use Rattle.packet.specs.Mst.{Spoken}

@@ -11,9 +11,9 @@ use lib.ListN.{getD, length, length-append}
 use borrow.Author.Tests.{eq-eqb, eqb-true, lt-ltb, ne-eqb, not-false}
 use Rattle.ground.specs.Table.{length-tabulate}
 use Rattle.ground.specs.Truth.{and-left, and-right, and-true, eq-or-ne, same-test}
-use Rattle.counting.specs.Laws.Numbers.{count-le}
-use Rattle.counting.specs.Laws.Tests.{some-at, some-one}
-use Rattle.counting.specs.Words.{some}
+use Rattle.ground.specs.Counting.Laws.Numbers.{count-le}
+use Rattle.ground.specs.Counting.Laws.Tests.{some-at, some-one}
+use Rattle.ground.specs.Counting.Words.{some}
 use Rattle.packet.specs.declared.ruling.Ruling.{Ruling}
 use Rattle.packet.specs.Kinds.{epochOf, fixedKind, mstFails}
 use Rattle.packet.specs.Mst.{Spoken}

@@ -26,7 +26,7 @@ use Rattle.link.specs.Assumed.{Assumed}
 use Rattle.link.specs.Demand3.{Started, Times}
 use Rattle.sender.specs.declared.epochs.Sender.{Sender}
 use Rattle.sender.specs.Epochs.{payloadBytes, rankIn, xOf}
-use Rattle.sender.specs.Table.{sizeOf}
+use Rattle.sender.specs.Table.{slotCount}
 use Rattle.link.specs.History.{Allowed, History, hasRank, packetSent, payloadSent, senderAt, sendingOf, xAt}
 use Rattle.link.specs.Link.{Link, roadOf}
 use Rattle.link.specs.Road.{Below, times}
@@ -178,7 +178,7 @@ module _ (c : Case) where
 
     payload-is : (x slot : ℕ) → 0 ∷ [] ≡ (if hasRank history x slot then payloadSent history 1 client x slot else 0 ∷ [])
     unfolding payloadSent payloadBytes
-    payload-is x slot = zero-in x slot (hasRank history x slot) (slot <? sizeOf (now x .table .count) && payloadRight (now x .table .kind) 1 && now x .begun)
+    payload-is x slot = zero-in x slot (hasRank history x slot) (slot <? slotCount (now x .table .count) && payloadRight (now x .table .kind) 1 && now x .begun)
 
     pub sends-is : link .sending ≡ sendingOf history 1 client (λ x slot. 0 ∷ [])
     sends-is = ap sendingBy (λ i x slot. payload-is x slot i)

@@ -15,7 +15,7 @@ use Rattle.packet.specs.declared.ruling.Ruling.{Ruling}
 use Rattle.packet.specs.Kinds.{epochs, mstFails}
 use Rattle.packet.specs.Words.{ADD}
 use Rattle.phases.specs.Sizes.{portsIn}
-use Rattle.receiver.specs.Fetch.{dueIn, fits}
+use Rattle.receiver.specs.Fetch.{dueIn, lentFits}
 use Rattle.receiver.specs.Report.{replyPort}
 use Rattle.receiver.specs.Shown.{replyOf}
 use Rattle.receiver.specs.Starting.{startAsAnswer}
@@ -149,7 +149,7 @@ module _ (c : Trial) where
   -- of the n-th report, from what stands before and after it
   abbrev pub tests : Receiver → Receiver → ℕ → List Bool
   tests x y n =
-      fits (x .rows) (x .store) output lent
+      lentFits (x .rows) (x .store) output lent
       ∷ dueIn (groupAt (x .rows)) (portsIn (groupAt (x .rows))) (x .rows)
       ∷ (portsIn (groupAt (x .rows)) == c .count)
       ∷ (groupAt (x .rows) .kind == 0)

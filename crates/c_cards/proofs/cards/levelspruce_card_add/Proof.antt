@@ -1,7 +1,7 @@
 -- The call meets its contract: 9, 1, and then what the card answers.
 -- Refused, the state is as given (`call-shut`). Otherwise the state is a card's (`opened`), and of what it is afterwards the owner row and the group's part are written (`call-kept`).
 use Rattle.c_cards.proofs.TwoGroups.{opened, call-shut, call-kept}
-use Rattle.circuits.specs.Calls.Call.{AddSlot}
+use Rattle.cards.specs.Calls.Call.{AddSlot}
 use native.Mathlib.Omega.{arith}
 use mathlib.Core.Bool.{true}
 use mathlib.Core.Path.{refl}

@@ -3,7 +3,7 @@
 use Rattle.c_face.proofs.SenderCalls.{Three, three-said}
 use Rattle.c_cards.proofs.TwoGroups.{opened, call-shut, call-unfit, call-kept}
 use Rattle.c_face.specs.Senders.{areBytes}
-use Rattle.circuits.specs.Calls.Call.{StartEpoch}
+use Rattle.cards.specs.Calls.Call.{StartEpoch}
 use native.Mathlib.Omega.{arith}
 use borrow.Author.Tests.{not-true, not-false}
 use mathlib.Core.Path.{_∙_, sym}

@@ -3,7 +3,7 @@ use mathlib.Core.Path.{_≡_, refl}
 use Prim.Native.Nat.{_≤_, _-_}
 use native.Mathlib.Omega.{arith}
 use lib.ListN.{length, getD}
-use Rattle.counting.specs.Each.{Done, done-none, done-more}
+use Rattle.ground.specs.Counting.Each.{Done, done-none, done-more}
 use Rattle.c_cards.specs.Cards.{ownersIn}
 use Rattle.c_face.proofs.Wholes.{done-whole}
 use Rattle.c_cards.proofs.cards.owners_in.Statement.{statement}

@@ -2,7 +2,7 @@
 use mathlib.Core.Path.{_∙_, refl, sym}
 use native.Mathlib.Omega.{arith}
 use borrow.Author.Tests.{eq-eqb, le-ltb, lt-ltb, ne-eqb}
-use Rattle.sender.specs.Table.{sizeOf}
+use Rattle.sender.specs.Table.{slotCount}
 use Rattle.c_cards.proofs.cards.slot_refusal.Statement.{statement}
 use Rattle.c_cards.proofs.cards.slot_refusal.Tie as tie
 
@@ -16,20 +16,20 @@ cast-if1 : tie.Need-cast-if1
 cast-if1 c = omega arith
 
 returns : tie.Need-returns
-unfolding sizeOf
+unfolding slotCount
 returns c =
     let args = c .before .before .before .args in
     rw (le-ltb (args .slot) _ (rw (c .before .size-byte .ensures) at (c .if1 .taken))) refl
 
 returns-2 : tie.Need-returns-2
-unfolding sizeOf
+unfolding slotCount
 returns-2 c =
     let at-count = c .before .before in
     let args = at-count .before .before .args in
     rw (lt-ltb (args .slot) _ (rw (at-count .size-byte .ensures) at (c .before .if1 .left)), eq-eqb (args .owner) _ (c .if2 .taken ∙ at-count .before .mark-of .ensures)) refl
 
 returns-3 : tie.Need-returns-3
-unfolding sizeOf
+unfolding slotCount
 returns-3 c =
     let at-count = c .before .before in
     let args = at-count .before .before .args in

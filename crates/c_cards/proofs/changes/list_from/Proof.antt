@@ -3,7 +3,7 @@ use mathlib.Core.Path.{_≡_, refl}
 use Prim.Native.Nat.{_≤_, _-_}
 use native.Mathlib.Omega.{arith}
 use lib.ListN.{length}
-use Rattle.counting.specs.Each.{Done, done-more, done-none}
+use Rattle.ground.specs.Counting.Each.{Done, done-more, done-none}
 use Rattle.c_cards.specs.Changes.{changeFrom, listFrom}
 use Rattle.c_face.proofs.Wholes.{done-whole}
 use Rattle.c_cards.proofs.changes.list_from.Statement.{statement}

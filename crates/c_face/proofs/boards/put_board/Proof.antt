@@ -1,7 +1,7 @@
 -- `put_board` meets its contract: the count, at most 64, and the wait, then each slot's word and number.
 -- Two pieces fill the whole buffer (`board-whole`).
 use native.Mathlib.Omega.{arith}
-use Rattle.sender.specs.Table.{sizeOf}
+use Rattle.sender.specs.Table.{slotCount}
 use Rattle.c_face.proofs.Showing.{board-whole}
 use Rattle.c_face.proofs.boards.put_board.Statement.{statement}
 use denote.Ref.{now}
@@ -26,7 +26,7 @@ same-length : tie.Need-same-length
 same-length c = omega arith
 
 returns : tie.Need-returns
-unfolding sizeOf
+unfolding slotCount
 returns c =
     let at-put-rows = c .before .before in
     let at-put-bytes = at-put-rows .before .before .before .before in

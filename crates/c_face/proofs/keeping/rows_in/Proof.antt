@@ -5,7 +5,7 @@ use lib.ListN.{length}
 use Rattle.c_face.specs.Keeping.{rowIn, rowsIn}
 use Rattle.c_face.proofs.Wholes.{done-whole}
 use Rattle.c_face.proofs.keeping.rows_in.Statement.{statement}
-use Rattle.counting.specs.Each.{Done, done-none, done-more}
+use Rattle.ground.specs.Counting.Each.{Done, done-none, done-more}
 use Rattle.c_face.proofs.keeping.rows_in.Tie as tie
 
 abbrev Inv-loop : tie.InvT-loop

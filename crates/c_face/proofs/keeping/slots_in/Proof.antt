@@ -5,7 +5,7 @@ use lib.ListN.{length}
 use Rattle.c_face.specs.Keeping.{slotIn, slotsIn}
 use Rattle.c_face.proofs.Wholes.{done-whole}
 use Rattle.c_face.proofs.keeping.slots_in.Statement.{statement}
-use Rattle.counting.specs.Each.{Done, done-none, done-more}
+use Rattle.ground.specs.Counting.Each.{Done, done-none, done-more}
 use Rattle.c_face.proofs.keeping.slots_in.Tie as tie
 
 abbrev Inv-loop : tie.InvT-loop

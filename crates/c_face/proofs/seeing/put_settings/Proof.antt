@@ -1,5 +1,5 @@
 use native.Mathlib.Omega.{arith}
-use Rattle.sender.specs.Table.{sizeOf}
+use Rattle.sender.specs.Table.{slotCount}
 use Rattle.c_face.proofs.Settings.{settings-put}
 use Rattle.c_face.proofs.seeing.put_settings.Statement.{statement}
 use denote.Ref.{now}
@@ -24,7 +24,7 @@ same-length : tie.Need-same-length
 same-length c = omega arith
 
 returns : tie.Need-returns
-unfolding sizeOf
+unfolding slotCount
 returns c =
     let at-copy = c .before .before in
     let at-one-if = at-copy .before .before .before in

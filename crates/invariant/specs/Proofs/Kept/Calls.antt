@@ -12,7 +12,7 @@ use Rattle.invariant.specs.Proofs.Kept.Settling.{SteadyOf, steady-settle
 use Rattle.invariant.specs.Proofs.Kept.Told.{lasting-told}
 use Rattle.invariant.specs.Proofs.Kept.WithinCall.{lasting-frame, lasting-passed}
 use Rattle.invariant.specs.Proofs.Settles.{settles-always}
-use Rattle.counting.specs.Laws.Tests.{every-ext}
+use Rattle.ground.specs.Counting.Laws.Tests.{every-ext}
 use Rattle.ground.specs.Truth.{and-left, and-right, clash}
 use Rattle.judge.specs.Seen.{sizeOf}
 use Rattle.phases.specs.Due.{brought, silent}

@@ -10,7 +10,7 @@ use Rattle.invariant.specs.Kept.Port.{PortKept, Waiting, Windowed}
 use Rattle.invariant.specs.Proofs.Laws.Flags.{flag-le}
 use Rattle.packet.specs.Kinds.{distanceOf, epochAfter, epochOf, frames, tagBefore}
 use Rattle.packet.specs.Laws.Distances.{arc-short}
-use Rattle.phases.specs.Beginning.{latest, within}
+use Rattle.phases.specs.Beginning.{latest, inArc}
 use Rattle.phases.specs.Passing.{groupTo}
 use Rattle.phases.specs.Settling.{clearedStep}
 use Rattle.rows.specs.declared.group.Group.{Group}
@@ -30,17 +30,17 @@ module _ (g : Group) (s : Step) (marks : List ℕ) (k : PortKept g s marks) (beg
       record {
         row = sixteen-none;
         run = k .run;
-        had = k .had;
+        heard = k .heard;
         failed = k .failed;
         joined = omega arith;
-        since = flag-le since;
+        «ever_since» = flag-le since;
         whole = omega arith;
         joined-step = λ e. absurd (false≢true e);
         since-step = λ e. on (set since e);
         failed-none = k .failed-none;
         failed-had = k .failed-had;
         count-had = k .count-had;
-        idle = λ b. record { joined = refl; since = rw (off b); later = refl; whole = refl; empty = mark-none };
+        idle = λ b. record { joined = refl; «ever_since» = rw (off b); «joined_at» = refl; whole = refl; empty = mark-none };
         goes = λ e. absurd (false≢true e);
         inside = λ i m. absurd (false≢true (sym (mark-none i) ∙ m));
         at-once = λ e. refl;
@@ -58,9 +58,9 @@ stopped-kept g s marks k origin ack =
     cleared-kept g s marks k 0 0 origin ack false (λ e. absurd (false≢true e)) (λ b. refl) (λ e. absurd (false≢true e))
 
 -- 'the latest tags of those in step lie within an arc of W-15 tags': the epoch to be gathered starts less than W frames after each of them
-pub begun-kept : (g : Group) (s : Step) (marks : List ℕ) → Windowed g → PortKept g s marks → (fore origin ack : ℕ) → within g fore s ≡ true
+pub begun-kept : (g : Group) (s : Step) (marks : List ℕ) → Windowed g → PortKept g s marks → (fore origin ack : ℕ) → inArc g fore s ≡ true
     → PortKept (groupTo g 1 0 (epochAfter (g .kind) (epochOf (g .kind) fore)) origin ack) (clearedStep s (inStep g s)) (replicate 16 0)
-unfolding within latest clearedStep
+unfolding inArc latest clearedStep
 begun-kept g s marks W k fore origin ack arc =
     cleared-kept g s marks k 1 (epochAfter (g .kind) (epochOf (g .kind) fore)) origin ack (inStep g s) (λ e. e) (λ b. absurd (true≢false b))
     (λ e.

@@ -21,14 +21,14 @@ use Rattle.store.specs.Marks.{firstMark, passedMarks}
 
 module _ (g : Group) (s : Step) (marks : List ℕ) (k : PortKept g s marks) (begun : flagOf (g .begun) ≡ true) (due : owesNothing g s marks ≡ true) where
   -- a port that has joined, or waits to, is readable
-  is-readable : (flagOf (s .joined) || flagOf (s .since)) ≡ true → readable g s ≡ true
+  is-readable : (flagOf (s .joined) || flagOf (s .«ever_since»)) ≡ true → readable g s ≡ true
   unfolding readable
   is-readable e =
-      let on : inStep g s ≡ true = ⊎-elim (λ (j : flagOf (s .joined) ≡ true). k .joined-step j) (λ (j : flagOf (s .since) ≡ true). k .since-step j) (or-cases (flagOf (s .joined)) (flagOf (s .since)) e) in
+      let on : inStep g s ≡ true = ⊎-elim (λ (j : flagOf (s .joined) ≡ true). k .joined-step j) (λ (j : flagOf (s .«ever_since») ≡ true). k .since-step j) (or-cases (flagOf (s .joined)) (flagOf (s .«ever_since»)) e) in
       rw (begun, on, e) refl
 
   -- so it has brought the epoch, or joined at a later one
-  has-brought : (flagOf (s .joined) || flagOf (s .since)) ≡ true → (firstMark marks || flagOf (s .joined) && flagOf (s .later)) ≡ true
+  has-brought : (flagOf (s .joined) || flagOf (s .«ever_since»)) ≡ true → (firstMark marks || flagOf (s .joined) && flagOf (s .«joined_at»)) ≡ true
   unfolding owesNothing
   has-brought e = rw (is-readable e) at due
 
@@ -36,23 +36,23 @@ module _ (g : Group) (s : Step) (marks : List ℕ) (k : PortKept g s marks) (beg
   pub ahead : flagOf (s .joined) ≡ true → frames (g .kind) ≤ offset g s
   ahead j =
       let o : Joined g s marks = k .goes j in
-      let later : s .later ≢ 0 → frames (g .kind) ≤ offset g s = λ n. one-ahead (g .kind) (s .later) (offset g s) n (o .passed n) in
+      let later : s .«joined_at» ≢ 0 → frames (g .kind) ≤ offset g s = λ n. one-ahead (g .kind) (s .«joined_at») (offset g s) n (o .passed n) in
       ⊎-elim
       (λ (m : firstMark marks ≡ true).
-      ⊎-elim (λ (z : s .later ≡ 0). first-ended (g .kind) (offset g s) (sym (o .marked 0 (omega arith)) ∙ sym (first-mark marks) ∙ m)) later (eq-or-ne (s .later) 0))
-      (λ (m : (flagOf (s .joined) && flagOf (s .later)) ≡ true). later (flag-on (s .later) (and-right (flagOf (s .joined)) (flagOf (s .later)) m)))
-      (or-cases (firstMark marks) (flagOf (s .joined) && flagOf (s .later)) (has-brought (rw j)))
+      ⊎-elim (λ (z : s .«joined_at» ≡ 0). first-ended (g .kind) (offset g s) (sym (o .marked 0 (omega arith)) ∙ sym (first-mark marks) ∙ m)) later (eq-or-ne (s .«joined_at») 0))
+      (λ (m : (flagOf (s .joined) && flagOf (s .«joined_at»)) ≡ true). later (flag-on (s .«joined_at») (and-right (flagOf (s .joined)) (flagOf (s .«joined_at»)) m)))
+      (or-cases (firstMark marks) (flagOf (s .joined) && flagOf (s .«joined_at»)) (has-brought (rw j)))
 
   -- and one that waits to join lets no epoch pass
-  has-joined : flagOf (s .since) ≡ true → flagOf (s .joined) ≡ true
+  has-joined : flagOf (s .«ever_since») ≡ true → flagOf (s .joined) ≡ true
   has-joined e =
       ⊎-elim (λ (j : flagOf (s .joined) ≡ true). j)
       (λ (j : flagOf (s .joined) ≡ false).
       let o = k .waits e j in
-      let brought : (flagOf (s .joined) || flagOf (s .since)) ≡ true = rw (j, e) in
+      let brought : (flagOf (s .joined) || flagOf (s .«ever_since»)) ≡ true = rw (j, e) in
       absurd (⊎-elim (λ (m : firstMark marks ≡ true). false≢true (sym (o .empty 0) ∙ sym (first-mark marks) ∙ m))
-      (λ (m : (flagOf (s .joined) && flagOf (s .later)) ≡ true). true≢false (sym (and-left (flagOf (s .joined)) (flagOf (s .later)) m) ∙ j))
-      (or-cases (firstMark marks) (flagOf (s .joined) && flagOf (s .later)) (has-brought brought))))
+      (λ (m : (flagOf (s .joined) && flagOf (s .«joined_at»)) ≡ true). true≢false (sym (and-left (flagOf (s .joined)) (flagOf (s .«joined_at»)) m) ∙ j))
+      (or-cases (firstMark marks) (flagOf (s .joined) && flagOf (s .«joined_at»)) (has-brought brought))))
       (true-or-false (flagOf (s .joined)))
 
   -- A port of which an epoch passes: its run and flags stay, its marks move up by one, and its next frame lies an epoch nearer to the oldest (`near`), by which what was marked up to there is so again.
@@ -62,10 +62,10 @@ module _ (g : Group) (s : Step) (marks : List ℕ) (k : PortKept g s marks) (beg
       record {
         row = sixteen-passed marks (k .row);
         run = k .run;
-        had = k .had;
+        heard = k .heard;
         failed = k .failed;
         joined = k .joined;
-        since = k .since;
+        «ever_since» = k .«ever_since»;
         whole = flag-le (firstMark marks);
         joined-step = k .joined-step;
         since-step = k .since-step;
@@ -86,10 +86,10 @@ module _ (g : Group) (s : Step) (marks : List ℕ) (k : PortKept g s marks) (beg
           let near : distanceIn (passedGroup g) (s .next) + frames (g .kind) ≡ offset g s = distance-passed g (passedGroup g) (s .next) refl refl (ahead j) in
           record {
             reach = let r = o .reach in omega arith;
-            within = less-later (g .kind) (s .later) (g .window) (o .within);
+            within = less-later (g .kind) (s .«joined_at») (g .window) (o .within);
             passed = λ n.
-                later-nearer (g .kind) (s .later) (offset g s) (distanceIn (passedGroup g) (s .next)) n
-                (o .passed (λ (z : s .later ≡ 0). n (let q = z in omega arith))) near;
+                later-nearer (g .kind) (s .«joined_at») (offset g s) (distanceIn (passedGroup g) (s .next)) n
+                (o .passed (λ (z : s .«joined_at» ≡ 0). n (let q = z in omega arith))) near;
             marked = λ i l.
                 mark-passed marks (k .row) i
                 ∙ o .marked (i + 1) (omega arith)

@@ -42,7 +42,7 @@ module _ (g : Group) (s : Step) (marks : List ℕ) (W : Windowed g) (k : PortKep
   unfolding readable
   unreadable e = go (flagOf (g .begun)) (inStep g s) e
     where
-      go : (a b : Bool) → b ≡ false → (a && b && (flagOf (s .joined) || flagOf (s .since))) ≡ false
+      go : (a b : Bool) → b ≡ false → (a && b && (flagOf (s .joined) || flagOf (s .«ever_since»))) ≡ false
       go true b e = rw e refl
       go false b e = refl
 
@@ -88,14 +88,14 @@ module _ (g : Group) (s : Step) (marks : List ℕ) (W : Windowed g) (k : PortKep
       -- in step now; before it was, if it had joined or waited to
       same-readable : readable g (advanced s run) ≡ readable g s
       unfolding readable inStep
-      same-readable = go (flagOf (s .joined) || flagOf (s .since)) refl
+      same-readable = go (flagOf (s .joined) || flagOf (s .«ever_since»)) refl
         where
-          was : (flagOf (s .joined) || flagOf (s .since)) ≡ true → inStep g s ≡ true
+          was : (flagOf (s .joined) || flagOf (s .«ever_since»)) ≡ true → inStep g s ≡ true
           was e =
-              ⊎-elim (λ (j : flagOf (s .joined) ≡ true). k .joined-step j) (λ (j : flagOf (s .since) ≡ true). k .since-step j)
-              (or-cases (flagOf (s .joined)) (flagOf (s .since)) e)
+              ⊎-elim (λ (j : flagOf (s .joined) ≡ true). k .joined-step j) (λ (j : flagOf (s .«ever_since») ≡ true). k .since-step j)
+              (or-cases (flagOf (s .joined)) (flagOf (s .«ever_since»)) e)
 
-          go : (b : Bool) → (flagOf (s .joined) || flagOf (s .since)) ≡ b
+          go : (b : Bool) → (flagOf (s .joined) || flagOf (s .«ever_since»)) ≡ b
               → (flagOf (g .begun) && stepped g s odd h && b) ≡ (flagOf (g .begun) && inStep g s && b)
           go true e = rw (on, was e) refl
           go false e = rw (and-false (flagOf (g .begun) && stepped g s odd h), and-false (flagOf (g .begun) && inStep g s)) refl
@@ -138,7 +138,7 @@ module _ (g : Group) (s : Step) (marks : List ℕ) (W : Windowed g) (k : PortKep
       unfolding owesNothing readable inStep
       joined-lets later m = rw (begun, on) refl
 
-      apart : flagOf (s .joined) ≡ false → flagOf (s .since) ≡ false → readable g s ≡ false
+      apart : flagOf (s .joined) ≡ false → flagOf (s .«ever_since») ≡ false → readable g s ≡ false
       unfolding readable
       apart j i = rw (j, i) (and-false (flagOf (g .begun) && inStep g s))
 
@@ -150,14 +150,14 @@ module _ (g : Group) (s : Step) (marks : List ℕ) (W : Windowed g) (k : PortKep
             begun = begun;
             heard = λ r. rw (begun, on) refl;
             owesNothing = λ f l.
-                ⊎-elim (λ (i : flagOf (s .since) ≡ true). absurd (true≢false (sym l ∙ joined-lets last (cutFrom marks last) ∙ stuck i)))
-                (λ (i : flagOf (s .since) ≡ false). lets-out (apart j i)) (true-or-false (flagOf (s .since)));
+                ⊎-elim (λ (i : flagOf (s .«ever_since») ≡ true). absurd (true≢false (sym l ∙ joined-lets last (cutFrom marks last) ∙ stuck i)))
+                (λ (i : flagOf (s .«ever_since») ≡ false). lets-out (apart j i)) (true-or-false (flagOf (s .«ever_since»)));
           }
         where
           last : ℕ
           last = epochsIn (g .kind) (offset g s)
 
-          stuck : flagOf (s .since) ≡ true → (firstMark (cutFrom marks (epochsIn (g .kind) (offset g s))) || flagOf (epochsIn (g .kind) (offset g s))) ≡ false
+          stuck : flagOf (s .«ever_since») ≡ true → (firstMark (cutFrom marks (epochsIn (g .kind) (offset g s))) || flagOf (epochsIn (g .kind) (offset g s))) ≡ false
           stuck i =
               let o = k .waits i j in
               let z : offset g s ≡ 0 = no-offset g (s .next) (g .window) (W .most) (ltb-true (offset g s) (g .window) w) (o .short) in

@@ -29,17 +29,17 @@ fresh-kept g =
     record {
       row = sixteen-none;
       run = none-kept (g .kind);
-      had = omega arith;
+      heard = omega arith;
       failed = omega arith;
       joined = omega arith;
-      since = omega arith;
+      «ever_since» = omega arith;
       whole = omega arith;
       joined-step = λ e. absurd (false≢true e);
       since-step = λ e. absurd (false≢true e);
       failed-none = λ e. refl;
       failed-had = λ e. absurd (false≢true e);
       count-had = λ l. absurd (omega arith);
-      idle = λ b. record { joined = refl; since = refl; later = refl; whole = refl; empty = mark-none };
+      idle = λ b. record { joined = refl; «ever_since» = refl; «joined_at» = refl; whole = refl; empty = mark-none };
       goes = λ e. absurd (false≢true e);
       inside = λ i m. absurd (false≢true (sym (mark-none i) ∙ m));
       at-once = λ e. refl;

@@ -36,17 +36,17 @@ lost-kept g s marks failed run f r none k =
     record {
       row = k .row;
       run = r;
-      had = omega arith;
+      heard = omega arith;
       failed = f;
       joined = omega arith;
-      since = omega arith;
+      «ever_since» = omega arith;
       whole = k .whole;
       joined-step = never;
       since-step = never;
       failed-none = λ e. none (flag-on failed e);
       failed-had = λ e. refl;
       count-had = λ l. refl;
-      idle = λ b. record { joined = refl; since = refl; later = refl; whole = k .idle b .whole; empty = k .idle b .empty };
+      idle = λ b. record { joined = refl; «ever_since» = refl; «joined_at» = refl; whole = k .idle b .whole; empty = k .idle b .empty };
       goes = never;
       inside = k .inside;
       at-once = λ e. refl;
@@ -85,23 +85,23 @@ module _ (g : Group) (s : Step) (marks : List ℕ) (W : Windowed g) (k : PortKep
       abbrev d : ℕ
       d = offset g s
 
-      dropped-keeps : (flagOf (s .since) ≡ true → flagOf (s .joined) ≡ false → Waiting g (advanced s run) marks) → (flagOf (s .joined) ≡ false) → Keeps (frameDropped g s run)
+      dropped-keeps : (flagOf (s .«ever_since») ≡ true → flagOf (s .joined) ≡ false → Waiting g (advanced s run) marks) → (flagOf (s .joined) ≡ false) → Keeps (frameDropped g s run)
       unfolding frameDropped marksBy inStep
       dropped-keeps w j =
           record {
             row = k .row;
             run = ran;
-            had = omega arith;
+            heard = omega arith;
             failed = omega arith;
             joined = k .joined;
-            since = k .since;
+            «ever_since» = k .«ever_since»;
             whole = k .whole;
             joined-step = λ e. on;
             since-step = λ e. on;
             failed-none = never;
             failed-had = λ e. refl;
             count-had = λ l. refl;
-            idle = λ b. let i = k .idle b in record { joined = i .joined; since = i .since; later = i .later; whole = i .whole; empty = i .empty };
+            idle = λ b. let i = k .idle b in record { joined = i .joined; «ever_since» = i .«ever_since»; «joined_at» = i .«joined_at»; whole = i .whole; empty = i .empty };
             goes = λ e. clash (flagOf (s .joined)) e j;
             inside = k .inside;
             at-once = k .at-once;
@@ -113,7 +113,7 @@ module _ (g : Group) (s : Step) (marks : List ℕ) (W : Windowed g) (k : PortKep
       before-keeps : flagOf (g .begun) ≡ false → Keeps (frameDropped g s run)
       before-keeps b =
           let i = k .idle b in
-          dropped-keeps (λ e n. clash (flagOf (s .since)) e (rw (i .since))) (rw (i .joined))
+          dropped-keeps (λ e n. clash (flagOf (s .«ever_since»)) e (rw (i .«ever_since»))) (rw (i .joined))
 
       -- not joined, at a frame that is no epoch start in the window
       waits-keeps : flagOf (s .joined) ≡ false → (startsEpoch (g .kind) (s .next) && inWindow g s) ≡ false → Keeps (frameDropped g s run)
@@ -129,7 +129,7 @@ module _ (g : Group) (s : Step) (marks : List ℕ) (W : Windowed g) (k : PortKep
               clash (startsEpoch (g .kind) (s .next) && inWindow g s)
               (and-true (startsEpoch (g .kind) (s .next)) (inWindow g s) (a .0) (lt-ltb d (g .window) (rw (a .1) room))) w
 
-          waiting : flagOf (s .since) ≡ true → flagOf (s .joined) ≡ false → Waiting g (advanced s run) marks
+          waiting : flagOf (s .«ever_since») ≡ true → flagOf (s .joined) ≡ false → Waiting g (advanced s run) marks
           waiting e n =
               let o = k .waits e n in
               let near = o .short in
@@ -155,16 +155,16 @@ module _ (g : Group) (s : Step) (marks : List ℕ) (W : Windowed g) (k : PortKep
             goes : Joined g s marks
             goes = k .goes j
 
-            with-marks : (m : List ℕ) → Sixteen m → ((i : ℕ) → s .later ≤ i → markIn m i ≡ leb (endOf g i) (d + 1)) → ((i : ℕ) → markIn m i ≡ true → endOf g i ≤ g .window)
+            with-marks : (m : List ℕ) → Sixteen m → ((i : ℕ) → s .«joined_at» ≤ i → markIn m i ≡ leb (endOf g i) (d + 1)) → ((i : ℕ) → markIn m i ≡ true → endOf g i ≤ g .window)
                 → PortKept g (advanced s run) m
             with-marks m row marked inside =
                 record {
                   row = row;
                   run = ran;
-                  had = omega arith;
+                  heard = omega arith;
                   failed = omega arith;
                   joined = k .joined;
-                  since = k .since;
+                  «ever_since» = k .«ever_since»;
                   whole = k .whole;
                   joined-step = λ e. on;
                   since-step = λ e. on;
@@ -188,7 +188,7 @@ module _ (g : Group) (s : Step) (marks : List ℕ) (W : Windowed g) (k : PortKep
             go : (t : Bool) → endsEpoch (g .kind) d ≡ t → PortKept g (advanced s run) (cond t (markedAt marks (epochsIn (g .kind) d)) marks)
             go true e = with-marks (markedAt marks (epochsIn (g .kind) d)) (sixteen-marked marks (k .row) (epochsIn (g .kind) d)) marked inside
               where
-                marked : (i : ℕ) → s .later ≤ i → markIn (markedAt marks (epochsIn (g .kind) d)) i ≡ leb (endOf g i) (d + 1)
+                marked : (i : ℕ) → s .«joined_at» ≤ i → markIn (markedAt marks (epochsIn (g .kind) d)) i ≡ leb (endOf g i) (d + 1)
                 marked i l =
                     ⊎-elim
                     (λ (a : 128 ≤ i).
@@ -220,10 +220,10 @@ module _ (g : Group) (s : Step) (marks : List ℕ) (W : Windowed g) (k : PortKep
             record {
               row = sixteen-cut marks (k .row) (epochsIn (g .kind) d);
               run = ran;
-              had = omega arith;
+              heard = omega arith;
               failed = omega arith;
               joined = omega arith;
-              since = k .since;
+              «ever_since» = k .«ever_since»;
               whole = k .whole;
               joined-step = λ e. on;
               since-step = λ e. on;

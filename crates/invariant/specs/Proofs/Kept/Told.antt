@@ -29,10 +29,10 @@ ack-kept g ack s marks k =
     record {
       row = k .row;
       run = k .run;
-      had = k .had;
+      heard = k .heard;
       failed = k .failed;
       joined = k .joined;
-      since = k .since;
+      «ever_since» = k .«ever_since»;
       whole = k .whole;
       joined-step = k .joined-step;
       since-step = k .since-step;

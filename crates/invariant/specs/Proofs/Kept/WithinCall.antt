@@ -13,15 +13,15 @@ use Rattle.invariant.specs.Kept.Group.{GroupKept, OkApart, PortIn, Lasti
 use Rattle.invariant.specs.Proofs.Kept.Passing.{passed-kept}
 use Rattle.invariant.specs.Kept.Port.{Windowed}
 use Rattle.invariant.specs.Proofs.Kept.Taken.{taken-kept, taken-whole}
-use Rattle.counting.specs.Laws.Tests.{every-at}
-use Rattle.counting.specs.Words.{every}
+use Rattle.ground.specs.Counting.Laws.Tests.{every-at}
+use Rattle.ground.specs.Counting.Words.{every}
 use Rattle.ground.specs.Truth.{and-right, clash, cond-by, eq-or-ne}
 use Rattle.packet.specs.Kinds.{epochAfter, epochOf, fixedKind}
 use Rattle.packet.specs.Laws.Reading.{good-word, rules-as-read}
 use Rattle.packet.specs.Theorems.Fixed.{fixed-word}
 use Rattle.packet.specs.Theorems.Tags.{epoch-after-lt, epochs-some, frames-two}
 use Rattle.packet.specs.Words.{ADD, DNU, EOS, FIXED, IDLE, NORM}
-use Rattle.phases.specs.Beginning.{begins, foremost, noTag, ready, within}
+use Rattle.phases.specs.Beginning.{begins, foremost, noTag, ready, inArc}
 use Rattle.packet.specs.declared.ruling.Ruling.{Ruling}
 use Rattle.phases.specs.Due.{brought, owesNothing}
 use Rattle.phases.specs.Laws.Cleared.{begun-group, begun-port, stopped-group, stopped-port}
@@ -65,11 +65,11 @@ ok-same n m m′ same k =
           k .apart i j bi bj (sym (same i bi .0) ∙ oi) (sym (same j bj .0) ∙ oj) (sym (same i bi .1) ∙ e ∙ same j bj .1);
     }
 
-begins-within : (g : Group) (s : List (List ℕ)) (n : ℕ) → begins g s n ≡ true → (i : ℕ) → i < n → within g (foremost g s n) (stepAt s i) ≡ true
+begins-within : (g : Group) (s : List (List ℕ)) (n : ℕ) → begins g s n ≡ true → (i : ℕ) → i < n → inArc g (foremost g s n) (stepAt s i) ≡ true
 unfolding begins
 begins-within g s n e i b =
-    every-at n (λ j. within g (foremost g s n) (stepAt s j))
-    (and-right (every n (λ j. ready g (stepAt s j)) && not (eqb (foremost g s n) (noTag g))) (every n (λ j. within g (foremost g s n) (stepAt s j))) e) i b
+    every-at n (λ j. inArc g (foremost g s n) (stepAt s j))
+    (and-right (every n (λ j. ready g (stepAt s j)) && not (eqb (foremost g s n) (noTag g))) (every n (λ j. inArc g (foremost g s n) (stepAt s j))) e) i b
 
 -- what it says of each port that an epoch is due
 pub brought-owes-nothing : (g : Group) (s : List (List ℕ)) (n : ℕ) → brought g s n ≡ true → (i : ℕ) → i < n → owesNothing g (portAt s i .step) (portAt s i .marks) ≡ true
@@ -238,7 +238,7 @@ module _ (s : List (List ℕ)) (k : Lasting s) where
       group : groupAt (begunOf g n s) ≡ groupTo g 1 0 (epochAfter (g .kind) (epochOf (g .kind) (foremost g s n))) (g .origin) (g .«rs_ack»)
       group = begun-group g n s (let e = k .rows in omega arith)
 
-      arc : (i : ℕ) → i < n → within g (foremost g s n) (portAt s i .step) ≡ true
+      arc : (i : ℕ) → i < n → inArc g (foremost g s n) (portAt s i .step) ≡ true
       arc i b = rw (port-step s i) (begins-within g s n starts i b)
 
       begun : GroupKept (groupTo g 1 0 (epochAfter (g .kind) (epochOf (g .kind) (foremost g s n))) (g .origin) (g .«rs_ack»))

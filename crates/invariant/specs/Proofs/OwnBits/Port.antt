@@ -44,7 +44,7 @@ unfolding tagIn distanceIn
 ack-bits g ack s marks byte then same b =
     record {
       marked = λ d m. rw (same d) (b .marked d m);
-      under = λ d p. rw (same d) (b .under d (record { joined = p .joined; later = p .later; from = p .from; upto = p .upto }));
+      under = λ d p. rw (same d) (b .under d (record { joined = p .joined; «joined_at» = p .«joined_at»; from = p .from; upto = p .upto }));
     }
 
 -- an epoch passed
@@ -121,7 +121,7 @@ module _ (g : Group) (s : Step) (marks : List ℕ) (failed odd : Bool) (h : ℕ)
       unmarked : markIn marks (offset g s / frames (g .kind)) ≡ false
       unmarked =
           let o = k .goes j in
-          o .marked (e / frames (g .kind)) (later-reached (g .kind) (s .later) e (o .passed)) ∙ still-comes (g .kind) e
+          o .marked (e / frames (g .kind)) (later-reached (g .kind) (s .«joined_at») e (o .passed)) ∙ still-comes (g .kind) e
 
       ended : markIn (marksBy (g .kind) marks (keeps g s run e)) (offset g s / frames (g .kind)) ≡ true → endsEpoch (g .kind) (offset g s) ≡ true
       unfolding keeps marksBy

@@ -8,8 +8,8 @@ use native.Mathlib.Nat.{not-suc-le-zero}
 use native.Mathlib.Omega.{arith}
 use lib.ListN.{length, replicate}
 use borrow.Author.Tests.{lt-leb}
-use Rattle.counting.specs.Laws.Tests.{every-all}
-use Rattle.counting.specs.Words.{every}
+use Rattle.ground.specs.Counting.Laws.Tests.{every-all}
+use Rattle.ground.specs.Counting.Words.{every}
 use Rattle.ground.specs.Truth.{clash, cond-by, eq-or-ne, fails}
 use Rattle.packet.specs.Kinds.{frames}
 use Rattle.packet.specs.Theorems.Tags.{frames-some}
@@ -174,7 +174,7 @@ unreadable : (g : Group) (q : Step) → inStep g q ≡ false → not (readable g
 unfolding readable
 unreadable g q e = rw e (go (flagOf (g .begun)))
   where
-    go : (b : Bool) → not (b && false && (flagOf (q .joined) || flagOf (q .since))) ≡ true
+    go : (b : Bool) → not (b && false && (flagOf (q .joined) || flagOf (q .«ever_since»))) ≡ true
     go true = refl
     go false = refl
 

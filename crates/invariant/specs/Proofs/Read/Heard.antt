@@ -7,8 +7,8 @@ use native.Mathlib.Omega.{arith}
 use lib.Dec.{eqb}
 use lib.ListN.{getD, length}
 use borrow.Author.Tests.{eqb-true}
-use Rattle.counting.specs.Laws.Tests.{none-at, some-none}
-use Rattle.counting.specs.Words.{some}
+use Rattle.ground.specs.Counting.Laws.Tests.{none-at, some-none}
+use Rattle.ground.specs.Counting.Words.{some}
 use Rattle.ground.specs.Truth.{and-left, and-right}
 use Rattle.packet.specs.Ruling.{fieldsIn}
 use Rattle.packet.specs.Theorems.Tags.{before-first}
@@ -19,7 +19,7 @@ use Rattle.receiver.specs.Laws.Carried.{carried-epoch, seen-good}
 use Rattle.receiver.specs.Laws.Heard.{heard-none, lowest-holds, lowest-least}
 use Rattle.receiver.specs.Laws.Passed.{passed-kind, passed-oldest}
 use Rattle.receiver.specs.Laws.Sizes.{ports-are}
-use Rattle.receiver.specs.Report.{reportBy, reportOf, rulingEpoch, seenOf}
+use Rattle.receiver.specs.Report.{reportBy, epochReport, rulingEpoch, seenOf}
 use Rattle.receiver.specs.Seen.{carriedAt, otherAt}
 use Rattle.receiver.specs.Starting.{startAsAnswer}
 use Rattle.rows.specs.declared.group.Group.{Group}
@@ -95,7 +95,7 @@ module _ (kind count P W : ℕ) (hold restore : List ℕ) (rows : List (List ℕ
 
   -- after a report it is the epoch of the report
   pub heard-reported : (out report : List ℕ) → Given now (x .store) out report → rulingEpoch (groupAt (fetchOf now (x .store) out report .rows)) ≡ reportIfDue g (portsIn g) now .epoch
-  unfolding rulingEpoch reportIfDue reportOf reportBy
+  unfolding rulingEpoch reportIfDue epochReport reportBy
   heard-reported out report o =
       rw (fetch-group now (x .store) out report o, passed-kind g, passed-oldest g, o .due) (before-first (g .kind) (g .oldest) (now-kept .lasting .group .oldest))
 

@@ -7,7 +7,7 @@ use Prim.Native.Nat.{ℕ}
 use lib.ListN.{getD, length}
 use Rattle.ground.specs.Truth.{and-left, and-right}
 use Rattle.phases.specs.Sizes.{portsIn}
-use Rattle.receiver.specs.Fetch.{dueIn, fetchOf, fits}
+use Rattle.receiver.specs.Fetch.{dueIn, fetchOf, lentFits}
 use Rattle.receiver.specs.Heard.{heardOf, saidAt}
 use Rattle.receiver.specs.Report.{rulingEpoch}
 use Rattle.receiver.specs.Starting.{startAsAnswer}
@@ -54,7 +54,7 @@ module _ (kind count P W : ℕ) (hold restore : List ℕ) (rows : List (List ℕ
   given-said done out report t =
       let x : Receiver = receiverRun start done in
       let g : Group = groupAt (x .rows) in
-      let a : Bool = fits (x .rows) (x .store) out report in
+      let a : Bool = lentFits (x .rows) (x .store) out report in
       let d : Bool = dueIn g (portsIn g) (x .rows) in
       let now : SaidIn (rulingEpoch (groupAt (fetchOf (x .rows) (x .store) out report .rows))) (heardIn (receiverAfter x (Fetch out report))) =
       subst (λ (y : Receiver). SaidIn (rulingEpoch (groupAt (y .rows))) (heardIn y)) (run-more start done (Fetch out report)) (now-said (done ++ (Fetch out report ∷ []))) in

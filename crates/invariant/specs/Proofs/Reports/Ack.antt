@@ -15,7 +15,7 @@ use Rattle.phases.specs.Laws.Lengths.{length-stopped}
 use Rattle.phases.specs.Laws.Passed.{passed-group}
 use Rattle.phases.specs.Settling.{stoppedOf}
 use Rattle.phases.specs.Sizes.{portsIn}
-use Rattle.receiver.specs.Fetch.{dueIn, fetchOf, fits}
+use Rattle.receiver.specs.Fetch.{dueIn, fetchOf, lentFits}
 use Rattle.receiver.specs.Frame.{frameOf}
 use Rattle.receiver.specs.Laws.Passed.{passed-ack}
 use Rattle.receiver.specs.Laws.Sizes.{size-is}
@@ -23,7 +23,7 @@ use Rattle.receiver.specs.Laws.Told.{reply-port}
 use Rattle.receiver.specs.Report.{replyPort}
 use Rattle.reply.specs.declared.members.Port.{Port as ReplyPort}
 use Rattle.reply.specs.Members as R
-use Rattle.reply.specs.Telling.{ackOf, turns}
+use Rattle.reply.specs.Telling.{ackOf, turnsOver}
 use Rattle.reply.specs.Theorems.Ack.{ack-kept, ack-turned}
 use Rattle.rows.specs.declared.group.Group.{Group}
 use Rattle.rows.specs.Group.{groupAt}
@@ -61,7 +61,7 @@ frame-ack s i failed h payload store =
     same = after-group s i failed h
 
 -- nor does a fetch with none due
-pub none-ack : (s : List (List ℕ)) (store out report : List ℕ) → (fits s store out report && dueIn (groupAt s) (portsIn (groupAt s)) s) ≡ false
+pub none-ack : (s : List (List ℕ)) (store out report : List ℕ) → (lentFits s store out report && dueIn (groupAt s) (portsIn (groupAt s)) s) ≡ false
     → ackIn (fetchOf s store out report .rows) ≡ ackIn s
 none-ack s store out report e = ap ackIn (fetch-none s store out report e)
 
@@ -85,9 +85,9 @@ report-port s store i b =
 pub report-turns : (s : List (List ℕ)) (store out report : List ℕ) → Given s store out report → ackIn s ≤ 1
     → (ackIn (fetchOf s store out report .rows) ≡ ackIn s) ⊎ (ackIn (fetchOf s store out report .rows) ≡ 1 - ackIn s)
 report-turns s store out report o b =
-    ⊎-elim (λ (t : turns ports n ≡ true). inr (report-ack s store out report o ∙ ack-turned ports n (ackIn s) t b))
-    (λ (t : turns ports n ≡ false). inl (report-ack s store out report o ∙ ack-kept ports n (ackIn s) t))
-    (true-or-false (turns ports n))
+    ⊎-elim (λ (t : turnsOver ports n ≡ true). inr (report-ack s store out report o ∙ ack-turned ports n (ackIn s) t b))
+    (λ (t : turnsOver ports n ≡ false). inl (report-ack s store out report o ∙ ack-kept ports n (ackIn s) t))
+    (true-or-false (turnsOver ports n))
   where
     ports : List ReplyPort
     ports = reportPorts s store

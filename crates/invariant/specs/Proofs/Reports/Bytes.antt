@@ -12,7 +12,7 @@ use Rattle.judge.specs.declared.seen.Seen.{Seen}
 use Rattle.judge.specs.Verdict.{HELD, judgeOf}
 use Rattle.packet.specs.Kinds.{frames}
 use Rattle.phases.specs.Sizes.{portsIn, sized}
-use Rattle.receiver.specs.Fetch.{dueIn, fetchOf, fits, outIfDue}
+use Rattle.receiver.specs.Fetch.{dueIn, fetchOf, lentFits, outIfDue}
 use Rattle.receiver.specs.Laws.Answers.{lent}
 use Rattle.receiver.specs.Laws.Bytes.{frames-into}
 use Rattle.receiver.specs.Laws.Sizes.{Sizes, size-is, sizes-of, some-sized}
@@ -21,12 +21,12 @@ use Rattle.rows.specs.declared.group.Group.{Group}
 use Rattle.rows.specs.Group.{groupAt}
 
 -- A fetch with a report that is not held: sixteen group frames, and the output beyond them stays.
-pub report-bytes : (s : List (List ℕ)) (store out report : List ℕ) → fits s store out report ≡ true → dueIn (groupAt s) (portsIn (groupAt s)) s ≡ true
+pub report-bytes : (s : List (List ℕ)) (store out report : List ℕ) → lentFits s store out report ≡ true → dueIn (groupAt s) (portsIn (groupAt s)) s ≡ true
     → judgeOf (groupAt s .kind) (seenAll (groupAt s) s (portsIn (groupAt s))) (portsIn (groupAt s)) ≢ HELD
     → fetchOf s store out report .out
     ≡ fillAt 0 (frames (groupAt s .kind) * frameBytes (groupAt s) (seenAll (groupAt s) s (portsIn (groupAt s))) (portsIn (groupAt s)))
     (reportByte (groupAt s) (seenAll (groupAt s) s (portsIn (groupAt s))) (portsIn (groupAt s)) store) out
-unfolding fetchOf fits outIfDue outputOf outputBy
+unfolding fetchOf lentFits outIfDue outputOf outputBy
 report-bytes s store out report f d v =
     let g : Group = groupAt s in
     let n : ℕ = portsIn (groupAt s) in

@@ -12,22 +12,22 @@ use Rattle.judge.specs.Theorems.Cause.{mark-by-cause}
 use Rattle.judge.specs.Verdict.{judgeOf}
 use Rattle.phases.specs.Sizes.{portsIn, storeFor}
 use Rattle.receiver.specs.Cause.{causeFit, causeIn, causeOut}
-use Rattle.receiver.specs.Fetch.{dueIn, fetchOf, fits, recordOf, reportIfDue}
+use Rattle.receiver.specs.Fetch.{dueIn, fetchOf, lentFits, recordOf, reportIfDue}
 use Rattle.receiver.specs.Laws.Sizes.{size-is}
 use Rattle.receiver.specs.Lengths.{fetchFits, outputFor, rowsFit}
-use Rattle.receiver.specs.Report.{reportBy, reportOf, seenAll}
+use Rattle.receiver.specs.Report.{reportBy, epochReport, seenAll}
 use Rattle.rows.specs.Group.{groupAt}
 use Rattle.invariant.specs.Reports.{Given}
 
 module _ (s : List (List ℕ)) (store out report : List ℕ) where
   pub report-cause : Given s store out report
       → getD (fetchOf s store out report .report) 3 0 ≡ causeOf (groupAt s .kind) (seenAll (groupAt s) s (portsIn (groupAt s))) (portsIn (groupAt s))
-  unfolding fetchOf reportIfDue recordOf reportOf reportBy
+  unfolding fetchOf reportIfDue recordOf epochReport reportBy
   report-cause o = rw (o .fitting, o .due, size-is (portsIn (groupAt s)) (ports-at-most-64 (groupAt s))) refl
 
   report-mark : Given s store out report
       → getD (fetchOf s store out report .report) 0 0 ≡ judgeOf (groupAt s .kind) (seenAll (groupAt s) s (portsIn (groupAt s))) (portsIn (groupAt s))
-  unfolding fetchOf reportIfDue recordOf reportOf reportBy
+  unfolding fetchOf reportIfDue recordOf epochReport reportBy
   report-mark o = rw (o .fitting, o .due, size-is (portsIn (groupAt s)) (ports-at-most-64 (groupAt s))) refl
 
   pub mark-cause : Given s store out report → getD (fetchOf s store out report .report) 0 0 ≡ markOf (groupAt s .kind) (getD (fetchOf s store out report .report) 3 0)
@@ -36,12 +36,12 @@ module _ (s : List (List ℕ)) (store out report : List ℕ) where
       ∙ mark-by-cause (groupAt s .kind) (seenAll (groupAt s) s (portsIn (groupAt s))) (portsIn (groupAt s))
       ∙ ap (markOf (groupAt s .kind)) (sym (report-cause o))
 
-  pub none-cause : fits s store out report ≡ true → dueIn (groupAt s) (portsIn (groupAt s)) s ≡ false → getD (fetchOf s store out report .report) 3 0 ≡ 0
+  pub none-cause : lentFits s store out report ≡ true → dueIn (groupAt s) (portsIn (groupAt s)) s ≡ false → getD (fetchOf s store out report .report) 3 0 ≡ 0
   unfolding fetchOf reportIfDue recordOf
   none-cause f d = rw (f, d) refl
 
-  rows-fit : fits s store out report ≡ true → rowsFit (portsIn (groupAt s)) (length s) ≡ true
-  unfolding fits fetchFits
+  rows-fit : lentFits s store out report ≡ true → rowsFit (portsIn (groupAt s)) (length s) ≡ true
+  unfolding lentFits fetchFits
   rows-fit e =
       let g = groupAt s in
       let n = portsIn (groupAt s) in

@@ -20,10 +20,10 @@ use Rattle.packet.specs.Ruling.{refused}
 use Rattle.packet.specs.Theorems.Fixed.{fixed-other}
 use Rattle.packet.specs.Words.{FIXED}
 use Rattle.phases.specs.Sizes.{knownKind, portsIn}
-use Rattle.receiver.specs.Fetch.{dueIn, fetchOf, fits, reportIfDue}
+use Rattle.receiver.specs.Fetch.{dueIn, fetchOf, lentFits, reportIfDue}
 use Rattle.receiver.specs.Laws.Seen.{seen-at}
 use Rattle.receiver.specs.Laws.Sizes.{ports-are, size-is, sizes-of, some-sized}
-use Rattle.receiver.specs.Report.{reportBy, reportOf, rulingEpoch, seenAll, seenOf}
+use Rattle.receiver.specs.Report.{reportBy, epochReport, rulingEpoch, seenAll, seenOf}
 use Rattle.receiver.specs.Shown.{replyOf}
 use Rattle.receiver.specs.Starting.{groupWith, startAsAnswer}
 use Rattle.rows.specs.declared.group.Group.{Group}
@@ -61,7 +61,7 @@ module _ (s : List (List ℕ)) (fixed : groupAt s .kind ≡ fixedKind) (due : du
   all-fixed i b good = ap (λ (p : Seen). p .word) (seen-at g s n i (ports-at-most-64 g) b) ∙ seen-fixed i
 
   mark-is : reportIfDue g n s .mark ≡ fixedVerdict seen n
-  unfolding reportIfDue reportOf reportBy
+  unfolding reportIfDue epochReport reportBy
   mark-is = rw due (ap (λ (m : ℕ). judgeOf (g .kind) seen m) (size-is n (ports-at-most-64 g)) ∙ ap (λ (kind : ℕ). judgeOf kind seen n) fixed ∙ fixed-judged seen n)
 
   pub fixed-sure : Standing seen n → reportIfDue g n s .mark ≡ SURE
@@ -79,7 +79,7 @@ module _ (s : List (List ℕ)) (fixed : groupAt s .kind ≡ fixedKind) (due : du
   not-held : reportIfDue g n s .mark ≡ SURE → judgeOf (g .kind) seen n ≢ HELD
   not-held e h = let clash : _≡_ {A = ℕ} SURE HELD = sym e ∙ mark-is ∙ sym (fixed-judged seen n) ∙ sym (ap (λ (kind : ℕ). judgeOf kind seen n) fixed) ∙ h in omega arith
 
-  pub fixed-bytes : (store out report : List ℕ) → fits s store out report ≡ true → reportIfDue g n s .mark ≡ SURE → ByNumber s store out (fetchOf s store out report .out)
+  pub fixed-bytes : (store out report : List ℕ) → lentFits s store out report ≡ true → reportIfDue g n s .mark ≡ SURE → ByNumber s store out (fetchOf s store out report .out)
   unfolding seenOf portAt
   fixed-bytes store out report f e =
       let o = fixed-order e in

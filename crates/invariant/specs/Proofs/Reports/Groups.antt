@@ -18,7 +18,7 @@ use Rattle.phases.specs.Laws.Lengths.{length-passed}
 use Rattle.phases.specs.Laws.Passed.{passed-group}
 use Rattle.phases.specs.Passing.{passedGroup}
 use Rattle.phases.specs.Sizes.{portsIn}
-use Rattle.receiver.specs.Fetch.{dueIn, fetchOf, fits, rowsIfDue}
+use Rattle.receiver.specs.Fetch.{dueIn, fetchOf, lentFits, rowsIfDue}
 use Rattle.receiver.specs.Frame.{frameOf, frameRefusal, takenIn}
 use Rattle.receiver.specs.Laws.Answers.{lent}
 use Rattle.receiver.specs.Laws.Outcomes.{fetch-cases}
@@ -67,7 +67,7 @@ frame-holds s i failed h payload store begun goes =
 
 pub fetch-group : (s : List (List ℕ)) (store out report : List ℕ) → Given s store out report
     → groupAt (fetchOf s store out report .rows) ≡ withAck (passedGroup (groupAt s)) (ackAfter s store)
-unfolding fetchOf rowsIfDue reportedOf fits
+unfolding fetchOf rowsIfDue reportedOf lentFits
 fetch-group s store out report o =
     let n : ℕ = portsIn (groupAt s) in
     let p : List (List ℕ) = passedRows s store in
@@ -80,6 +80,6 @@ fetch-group s store out report o =
     ∙ ap (λ (x : Group). withAck x (ackOf (replyPorts (groupAt p) p n) (sizeOf n) (x .«rs_ack»))) passed
     ∙ ap (λ (b : ℕ). withAck (passedGroup (groupAt s)) (ackOf (replyPorts (groupAt p) p n) (sizeOf n) b)) (passed-ack (groupAt s)))
 
-pub fetch-none : (s : List (List ℕ)) (store out report : List ℕ) → (fits s store out report && dueIn (groupAt s) (portsIn (groupAt s)) s) ≡ false → fetchOf s store out report .rows ≡ s
+pub fetch-none : (s : List (List ℕ)) (store out report : List ℕ) → (lentFits s store out report && dueIn (groupAt s) (portsIn (groupAt s)) s) ≡ false → fetchOf s store out report .rows ≡ s
 fetch-none s store out report e =
     fetch-cases s store out report (λ r. r ≡ s) refl (λ f d. absurd (true≢false (sym (rw (f, d) refl) ∙ e)))

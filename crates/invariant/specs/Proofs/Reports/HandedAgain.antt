@@ -32,7 +32,7 @@ use Rattle.phases.specs.Laws.Sizes.{SameSizes}
 use Rattle.phases.specs.Passing.{passedGroup, passedOf, passedStep}
 use Rattle.phases.specs.Sizes.{portsIn, storeFor}
 use Rattle.phases.specs.Theorems.Settled.{passed-begun}
-use Rattle.receiver.specs.Fetch.{dueIn, fetchOf, fits, rowsIfDue}
+use Rattle.receiver.specs.Fetch.{dueIn, fetchOf, lentFits, rowsIfDue}
 use Rattle.receiver.specs.Frame.{FrameOutcome, frameOf, frameRefusal, oddIn, storeBy, takenFrame, takenIn}
 use Rattle.receiver.specs.Laws.Answers.{Fitting, fitting-none, unrefused}
 use Rattle.receiver.specs.Laws.Frames.{frame-other}
@@ -190,11 +190,11 @@ module _ (i : ℕ) (run : Run) (gathering : List ℕ) (joined : ℕ) (on : flagO
   fetch-still : (far : ℕ) (s : List (List ℕ)) → Kept s → i < groupAt s .count → (store out report : List ℕ) → StillIn far s → StillIn far (fetchOf s store out report .rows)
   fetch-still far s k b store out report o =
       ⊎-elim
-      (λ (e : (fits s store out report && dueIn (groupAt s) (portsIn (groupAt s)) s) ≡ true).
+      (λ (e : (lentFits s store out report && dueIn (groupAt s) (portsIn (groupAt s)) s) ≡ true).
       report-still far far s k b store out report
-      (record { fitting = and-left (fits s store out report) (dueIn (groupAt s) (portsIn (groupAt s)) s) e; due = and-right (fits s store out report) (dueIn (groupAt s) (portsIn (groupAt s)) s) e }) o (omega arith))
-      (λ (e : (fits s store out report && dueIn (groupAt s) (portsIn (groupAt s)) s) ≡ false). rw (fetch-none s store out report e) o)
-      (true-or-false (fits s store out report && dueIn (groupAt s) (portsIn (groupAt s)) s))
+      (record { fitting = and-left (lentFits s store out report) (dueIn (groupAt s) (portsIn (groupAt s)) s) e; due = and-right (lentFits s store out report) (dueIn (groupAt s) (portsIn (groupAt s)) s) e }) o (omega arith))
+      (λ (e : (lentFits s store out report && dueIn (groupAt s) (portsIn (groupAt s)) s) ≡ false). rw (fetch-none s store out report e) o)
+      (true-or-false (lentFits s store out report && dueIn (groupAt s) (portsIn (groupAt s)) s))
 
   run-still : (far : ℕ) (x : Receiver) (calls : List ReceiverCall) → Kept (x .rows) → i < groupAt (x .rows) .count → Others i calls → Unstopped x calls → StillIn far (x .rows)
       → StillIn far (receiverRun x calls .rows)
@@ -231,7 +231,7 @@ module _ (i : ℕ) (run : Run) (gathering : List ℕ) (joined : ℕ) (on : flagO
       go true e rest some =
           let s : List (List ℕ) = x .rows in
           let v : Given (x .rows) (x .store) out report =
-          record { fitting = and-left (fits s (x .store) out report) (dueIn (groupAt s) (portsIn (groupAt s)) s) e; due = and-right (fits s (x .store) out report) (dueIn (groupAt s) (portsIn (groupAt s)) s) e } in
+          record { fitting = and-left (lentFits s (x .store) out report) (dueIn (groupAt s) (portsIn (groupAt s)) s) e; due = and-right (lentFits s (x .store) out report) (dueIn (groupAt s) (portsIn (groupAt s)) s) e } in
           run-still less y calls (call-kept x (Fetch out report) k) (rw (call-sizes x (Fetch out report) k .count) b) a u
           (report-still far less s k b (x .store) out report v o l)
       go false e rest some = rest some

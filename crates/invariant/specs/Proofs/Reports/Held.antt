@@ -13,10 +13,10 @@ use Rattle.judge.specs.Theorems.Held.{refused}
 use Rattle.judge.specs.Verdict.{HELD, judgeOf}
 use Rattle.packet.specs.Kinds.{frames}
 use Rattle.phases.specs.Sizes.{portsIn}
-use Rattle.receiver.specs.Fetch.{FetchOutcome, dueIn, fetchOf, fits, outIfDue, reportIfDue}
+use Rattle.receiver.specs.Fetch.{FetchOutcome, dueIn, fetchOf, lentFits, outIfDue, reportIfDue}
 use Rattle.receiver.specs.Laws.Seen.{seen-at}
 use Rattle.receiver.specs.Laws.Sizes.{size-is, sizes-of, some-sized}
-use Rattle.receiver.specs.Report.{outputBy, outputOf, reportBy, reportOf, seenAll}
+use Rattle.receiver.specs.Report.{outputBy, outputOf, reportBy, epochReport, seenAll}
 use Rattle.rows.specs.declared.group.Group.{Group}
 use Rattle.rows.specs.Group.{groupAt}
 use Rattle.invariant.specs.Reports.{HeldReport, Refused}
@@ -43,11 +43,11 @@ module _ (s : List (List ℕ)) (i : ℕ) (o : Refused s i) where
   pub held-out : (store out report : List ℕ) → fetchOf s store out report .out ≡ out
   unfolding fetchOf outIfDue outputOf outputBy
   held-out store out report =
-      cond-by (λ (o : FetchOutcome). o .out ≡ out) (fits s store out report) _ _
+      cond-by (λ (o : FetchOutcome). o .out ≡ out) (lentFits s store out report) _ _
       (λ e. rw judged (cond-by (λ (l : List ℕ). l ≡ out) (dueIn g n s) out out (λ d. refl) (λ d. refl))) (λ e. refl)
 
   pub held-report : dueIn g n s ≡ true → HeldReport (reportIfDue g n s) (g .oldest)
-  unfolding reportIfDue reportOf reportBy
+  unfolding reportIfDue epochReport reportBy
   held-report d = rw (d, judged) (record { mark = refl; epoch-is = refl; none = refl; empty = none (frames (g .kind)) (g .payload) })
     where
       none : (L P : ℕ) → 0 * L * P ≡ 0

@@ -16,10 +16,10 @@ use Rattle.phases.specs.Beginning.{foremost}
 use Rattle.phases.specs.Laws.Cleared.{begun-group}
 use Rattle.phases.specs.Sizes.{portsIn}
 use Rattle.phases.specs.Theorems.Settled.{passed-begun}
-use Rattle.receiver.specs.Fetch.{dueIn, fetchOf, fits, reportIfDue}
+use Rattle.receiver.specs.Fetch.{dueIn, fetchOf, lentFits, reportIfDue}
 use Rattle.receiver.specs.Frame.{frameOf}
 use Rattle.receiver.specs.Laws.Passed.{passed-gathered, passed-kind, passed-oldest}
-use Rattle.receiver.specs.Report.{reportBy, reportOf}
+use Rattle.receiver.specs.Report.{reportBy, epochReport}
 use Rattle.rows.specs.declared.group.Group.{Group}
 use Rattle.rows.specs.Group.{groupAt}
 use Rattle.step.specs.Arrival.{flagOf}
@@ -28,7 +28,7 @@ use Rattle.invariant.specs.Reports.{Gathers, Unstopped, epochGiven, give
 
 -- a report's epoch is the oldest one
 given-epoch : (g : Group) (n : ℕ) (s : List (List ℕ)) → dueIn g n s ≡ true → reportIfDue g n s .epoch ≡ g .oldest
-unfolding reportIfDue reportOf reportBy
+unfolding reportIfDue epochReport reportBy
 given-epoch g n s d = rw d refl
 
 -- what a call leaves of it
@@ -53,7 +53,7 @@ pub given-goes : (x : Receiver) (out report : List ℕ) → gives x out report �
 given-goes x out report e =
     let s : List (List ℕ) = x .rows in
     let g : Group = groupAt (x .rows) in
-    let a : Bool = fits s (x .store) out report in
+    let a : Bool = lentFits s (x .store) out report in
     let d : dueIn (groupAt (x .rows)) (portsIn (groupAt (x .rows))) (x .rows) ≡ true = and-right a (dueIn g (portsIn g) s) e in
     let o = due-says g (portsIn g) s d in (
       given-epoch g (portsIn g) s d ∙ rw (o .gathered) refl,

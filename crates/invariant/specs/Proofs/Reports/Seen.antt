@@ -4,8 +4,8 @@ use mathlib.Core.Bool.{Bool, _&&_, _||_}
 use mathlib.Core.List.{List}
 use Prim.Native.Nat.{ℕ, _≤_, _<_}
 use lib.Dec.{eqb, ltb}
-use Rattle.counting.specs.Laws.Numbers.{count-ext}
-use Rattle.counting.specs.Laws.Tests.{the-ext}
+use Rattle.ground.specs.Counting.Laws.Numbers.{count-ext}
+use Rattle.ground.specs.Counting.Laws.Tests.{last-that-ext}
 use Rattle.ground.specs.Table.{tabulate-ext}
 use Rattle.judge.specs.declared.seen.Seen.{Seen}
 use Rattle.judge.specs.Order.{activeIn, hasRank, orderOf, portOf, rankOf}
@@ -70,7 +70,7 @@ module _ (g : Group) (s t : List (List ℕ)) (n : ℕ) (h : n ≤ 64) (same : Sa
 
   port-same : (r : ℕ) → portOf S n r ≡ portOf T n r
   unfolding portOf
-  port-same r = the-ext n (hasRank S n r) (hasRank T n r) (λ j b. rw (active-same j b, number-same j b, rank-same (seenAt T j .number)) refl)
+  port-same r = last-that-ext n (hasRank S n r) (hasRank T n r) (λ j b. rw (active-same j b, number-same j b, rank-same (seenAt T j .number)) refl)
 
   pub order-same : orderOf S n ≡ orderOf T n
   unfolding orderOf

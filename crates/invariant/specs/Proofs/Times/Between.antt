@@ -18,7 +18,7 @@ use Rattle.phases.specs.Laws.Lengths.{length-passed}
 use Rattle.phases.specs.Passing.{notedBy, passedGroup, passedOf, passedPort, passedPorts}
 use Rattle.phases.specs.Settling.{beginBy, begunOf, clearedPort, clearedPorts, gatherBy, settledOf, stopBy, stoppedOf}
 use Rattle.phases.specs.Sizes.{portsIn}
-use Rattle.receiver.specs.Fetch.{dueIn, fetchOf, fits, rowsIfDue}
+use Rattle.receiver.specs.Fetch.{dueIn, fetchOf, lentFits, rowsIfDue}
 use Rattle.receiver.specs.Frame.{FrameOutcome, frameOf, portRows, settledBy, storeBy, takenIn}
 use Rattle.receiver.specs.Laws.Answers.{lent}
 use Rattle.receiver.specs.Laws.Outcomes.{frame-cases}
@@ -143,7 +143,7 @@ module _ (j : ℕ) where
       frame-cases s i failed h payload store (λ (o : FrameOutcome). Keeps s (o .rows)) (λ e. refl) (λ e f. refl)
       (λ e f. cond-keeps s (t .settles) _ after (settled-keeps n (storeBy (groupAt s) i t h payload store) after ∙ kept) kept)
 
-  pub none-standing : (s : List (List ℕ)) (store out report : List ℕ) → (fits s store out report && dueIn (groupAt s) (portsIn (groupAt s)) s) ≡ false
+  pub none-standing : (s : List (List ℕ)) (store out report : List ℕ) → (lentFits s store out report && dueIn (groupAt s) (portsIn (groupAt s)) s) ≡ false
       → Keeps s (fetchOf s store out report .rows)
   none-standing s store out report e = ap (λ (r : List (List ℕ)). standingIn r j) (fetch-none s store out report e)
 
@@ -151,7 +151,7 @@ module _ (j : ℕ) where
   pub report-standing : (s : List (List ℕ)) (store out report : List ℕ) → Given s store out report → j < portsIn (groupAt s)
       → standingIn (fetchOf s store out report .rows) j
       ≡ (let left = getD (standingsAfter s store) j noStanding in left .state ∷ left .number ∷ (memberAt s j .«hold_off») ∷ (memberAt s j .restore) ∷ left .elapsed ∷ [])
-  unfolding fetchOf rowsIfDue reportedOf fits withState
+  unfolding fetchOf rowsIfDue reportedOf lentFits withState
   report-standing s store out report o b =
       let n : ℕ = portsIn (groupAt s) in
       let p : List (List ℕ) = passedRows s store in

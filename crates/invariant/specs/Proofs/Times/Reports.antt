@@ -5,8 +5,8 @@ use mathlib.Core.List.{List}
 use Prim.Native.Nat.{ℕ, zero, suc, _<_}
 use native.Mathlib.Omega.{arith}
 use lib.ListN.{getD, length-replicate, replicate}
-use Rattle.counting.specs.Each.{each, getD-each}
-use Rattle.counting.specs.Laws.Tests.{some-ext}
+use Rattle.ground.specs.Counting.Each.{each, getD-each}
+use Rattle.ground.specs.Counting.Laws.Tests.{some-ext}
 use Rattle.ground.specs.Truth.{smaller-le}
 use Rattle.invariant.specs.Proofs.Times.Rows.{SameButTimes, cond-same, group-same, marks-same, member-same, packets-same, put-group, put-member, step-same, untimed}
 use Rattle.invariant.specs.Proofs.Times.Settling.{brought-same, passed-same}
@@ -14,12 +14,12 @@ use Rattle.judge.specs.declared.seen.Seen.{Seen}
 use Rattle.judge.specs.Seen.{sizeOf}
 use Rattle.phases.specs.Passing.{groupTo, passedOf}
 use Rattle.phases.specs.Sizes.{portsIn}
-use Rattle.receiver.specs.Fetch.{FetchOutcome, dueIn, fetchOf, fits, outIfDue, recordOf, reportIfDue, rowsIfDue}
+use Rattle.receiver.specs.Fetch.{FetchOutcome, dueIn, fetchOf, lentFits, outIfDue, recordOf, reportIfDue, rowsIfDue}
 use Rattle.receiver.specs.Report.{noPort, noSeen, replyPort, replyPorts, reportedOf, seenAll, seenOf, statePut, statesPut, statesWorkedOut, withState}
 use Rattle.reply.specs.declared.members.Port.{Port}
 use Rattle.reply.specs.declared.waiting.Standing.{Standing}
 use Rattle.reply.specs.Members.{portAt}
-use Rattle.reply.specs.Telling.{ackOf, hasChanged, hasLeft, turns}
+use Rattle.reply.specs.Telling.{ackOf, hasChanged, hasLeft, turnsOver}
 use Rattle.reply.specs.Waiting.{noStanding, standingsOf}
 use Rattle.rows.specs.declared.group.Group.{Group}
 use Rattle.rows.specs.declared.member.Member.{Member}
@@ -62,8 +62,8 @@ module _ (g : Group) (n : ℕ) {s t : List (List ℕ)} (h : SameButTimes s t) wh
       )
       refl
 
-  turns-same : turns (replyPorts g s n) (sizeOf n) ≡ turns (replyPorts g t n) (sizeOf n)
-  unfolding turns replyPorts
+  turns-same : turnsOver (replyPorts g s n) (sizeOf n) ≡ turnsOver (replyPorts g t n) (sizeOf n)
+  unfolding turnsOver replyPorts
   turns-same =
       some-ext (sizeOf n) (λ i. moves (portAt (replyPorts g s n) i)) (λ i. moves (portAt (replyPorts g t n) i))
       (λ i b. ap moves (port-listed n (replyPort g s) i b) ∙ moves-same i ∙ ap moves (sym (port-listed n (replyPort g t) i b)))
@@ -122,8 +122,8 @@ both true h k = h
 both false h k = k
 
 module _ {s t : List (List ℕ)} (h : SameButTimes s t) (store out report : List ℕ) where
-  fits-same : fits s store out report ≡ fits t store out report
-  unfolding fits
+  fits-same : lentFits s store out report ≡ lentFits t store out report
+  unfolding lentFits
   fits-same = rw (group-same h, h .long) refl
 
   pub fetch-same : SameFetch (fetchOf s store out report) (fetchOf t store out report)
@@ -132,6 +132,6 @@ module _ {s t : List (List ℕ)} (h : SameButTimes s t) (store out report : List
       let g = groupAt t in
       let n = portsIn (groupAt t) in
       rw (fits-same, group-same h)
-      (both (fits t store out report)
+      (both (lentFits t store out report)
       (record { answer = refl; rows = rows-same g n h store; out = out-same g n h store out; report = ap recordOf (report-same g n h) })
       (record { answer = refl; rows = h; out = refl; report = refl }))

@@ -4,11 +4,11 @@ use mathlib.Core.Bool.{Bool, false, true, not, _&&_}
 use mathlib.Core.List.{List}
 use Prim.Native.Nat.{ℕ, zero, suc}
 use lib.ListN.{replicate}
-use Rattle.counting.specs.Laws.Tests.{every-ext}
+use Rattle.ground.specs.Counting.Laws.Tests.{every-ext}
 use Rattle.invariant.specs.Proofs.Times.Rows.{SameButTimes, cond-same, group-same, marks-same, member-same, packets-same, put-group, put-marks, put-member, put-packets, put-step, step-same, untimed}
 use Rattle.packet.specs.declared.ruling.Ruling.{Ruling}
 use Rattle.packet.specs.Kinds.{epochAfter, epochOf}
-use Rattle.phases.specs.Beginning.{begins, foremost, ready, within}
+use Rattle.phases.specs.Beginning.{begins, foremost, ready, inArc}
 use Rattle.phases.specs.Due.{brought, owesNothing, silent}
 use Rattle.phases.specs.Passing.{groupTo, notedBy, passedGroup, passedOf, passedPort, passedPorts, passedStep, ruledBy}
 use Rattle.phases.specs.Settling.{beginBy, begunOf, clearedPort, clearedPorts, clearedStep, gatherBy, settledOf, stopBy, stoppedOf}
@@ -51,7 +51,7 @@ module _ (g : Group) where
         rw (
           foremost-same n,
           every-ext n (λ i. ready g (stepAt s i)) (λ i. ready g (stepAt t i)) (λ i b. rw (step-same h i) refl),
-          every-ext n (λ i. within g (foremost g t n) (stepAt s i)) (λ i. within g (foremost g t n) (stepAt t i)) (λ i b. rw (step-same h i) refl),
+          every-ext n (λ i. inArc g (foremost g t n) (stepAt s i)) (λ i. inArc g (foremost g t n) (stepAt t i)) (λ i b. rw (step-same h i) refl),
         )
         refl
 

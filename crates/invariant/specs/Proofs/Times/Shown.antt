@@ -6,7 +6,7 @@ use mathlib.Core.List.{List, []}
 use Prim.Native.Nat.{ℕ, zero, suc, _≤_, _<_}
 use lib.Dec.{ltb}
 use lib.ListN.{getD, length, List·getD-eq-default}
-use Rattle.counting.specs.Each.{each, length-each}
+use Rattle.ground.specs.Counting.Each.{each, length-each}
 use Rattle.ground.specs.Drawn.{getD-drawn}
 use Rattle.ground.specs.Truth.{le-or-lt}
 use Rattle.invariant.specs.Proofs.Times.Rows.{SameButTimes, group-same, member-same, step-same}

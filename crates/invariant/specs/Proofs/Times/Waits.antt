@@ -9,7 +9,7 @@ use native.Mathlib.Omega.{arith}
 use lib.Dec.{leb}
 use lib.ListN.{List·getD-eq-default, getD, length}
 use borrow.Author.Tests.{leb-true, le-ltb, lt-ltb}
-use Rattle.counting.specs.Laws.Tests.{every-at}
+use Rattle.ground.specs.Counting.Laws.Tests.{every-at}
 use Rattle.ground.specs.Truth.{and-left, and-right, fails, le-or-lt}
 use Rattle.invariant.specs.Calls.{Fetch, Frame, Receiver, ReceiverCall, receiverAfter, receiverRun, startedWith}
 use Rattle.invariant.specs.Kept.Group.{Kept}
@@ -24,7 +24,7 @@ use Rattle.invariant.specs.Reports.{Given, gives, reportPorts}
 use Rattle.invariant.specs.Times.{standingIn, waitingIn}
 use Rattle.invariant.specs.Waits.{Claimant, InARow, Unclaimed, Zeros, sawOf, sawWith}
 use Rattle.phases.specs.Sizes.{portsIn, startSized}
-use Rattle.receiver.specs.Fetch.{dueIn, fetchOf, fits}
+use Rattle.receiver.specs.Fetch.{dueIn, fetchOf, lentFits}
 use Rattle.receiver.specs.Laws.Fresh.{started-port}
 use Rattle.receiver.specs.Laws.Sizes.{ports-are, size-is, sizes-of}
 use Rattle.receiver.specs.Starting.{freshMember, groupWith, sizedAnswer, startAsAnswer, startAsRows, startRight, timeOf, timerMost, timesWithin}
@@ -241,7 +241,7 @@ CountedOf i hold restore x saw = CountedIn i hold restore (x .rows) saw
 
 given : (x : Receiver) (out report : List ℕ) → gives x out report ≡ true → Given (x .rows) (x .store) out report
 given x out report e =
-    let a : Bool = fits (x .rows) (x .store) out report in
+    let a : Bool = lentFits (x .rows) (x .store) out report in
     let d : Bool = dueIn (groupAt (x .rows)) (portsIn (groupAt (x .rows))) (x .rows) in
     record { fitting = and-left a d e; due = and-right a d e }
 

@@ -4,7 +4,7 @@ use mathlib.Core.Path.{_≡_, refl, sym, _∙_}
 use mathlib.Core.Bool.{false}
 use Prim.Native.Nat.{_≤_, _-_}
 use native.Mathlib.Omega.{arith}
-use Rattle.counting.specs.Words.{some}
+use Rattle.ground.specs.Counting.Words.{some}
 use Rattle.judge.specs.Cause.{applies}
 use Rattle.judge.proofs.Blaming.{blamed-first, blamed-none, none-more}
 use borrow.Author.Needs.{needs}

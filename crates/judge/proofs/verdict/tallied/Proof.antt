@@ -5,9 +5,9 @@ use Prim.Native.Nat.{_≤_, _-_}
 use native.Mathlib.Omega.{arith}
 use lib.ListN.{length}
 use Rattle.judge.specs.Tally.{tallyOf}
-use Rattle.counting.specs.Words.{count}
+use Rattle.ground.specs.Counting.Words.{count}
 use Rattle.judge.specs.declared.verdict.Tally.{Tally}
-use Rattle.counting.specs.Laws.Numbers.{count-le}
+use Rattle.ground.specs.Counting.Laws.Numbers.{count-le}
 use Rattle.judge.specs.Seen.{numberedSeen, seenAt}
 use borrow.Author.Needs.{needs}
 use Rattle.judge.proofs.verdict.tallied.Statement.{statement}

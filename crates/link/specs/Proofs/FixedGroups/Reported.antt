@@ -5,7 +5,7 @@ use mathlib.Core.Bool.{true}
 use mathlib.Core.List.{List}
 use Prim.Native.Nat.{ℕ, suc, _+_, _/_, _<_}
 use native.Mathlib.Omega.{arith}
-use Rattle.counting.specs.Laws.Tests.{every-all}
+use Rattle.ground.specs.Counting.Laws.Tests.{every-all}
 use Rattle.ground.specs.Table.{tabulate-ext}
 use Rattle.packet.specs.Laws.Changes.{fixed-unchanged}
 use Rattle.link.specs.Demand3.{Stands, Started, Time, ownRun, standing}

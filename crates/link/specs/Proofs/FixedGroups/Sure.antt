@@ -10,7 +10,7 @@ use Rattle.judge.specs.Marked.{AllFixed, Standing}
 use Rattle.judge.specs.Numbers.{numberAt}
 use Rattle.judge.specs.Order.{activeIn, portOf}
 use Rattle.judge.specs.Seen.{seenAt}
-use Rattle.counting.specs.Laws.Numbers.{count-all}
+use Rattle.ground.specs.Counting.Laws.Numbers.{count-all}
 use Rattle.judge.specs.Theorems.Fixed.{fixed-judged, fixed-members, fixed-port, stands-sure}
 use Rattle.packet.specs.Kinds.{fixedKind, frames}
 use Rattle.packet.specs.Laws.Changes.{fixed-unchanged}

@@ -4,15 +4,15 @@ use mathlib.Core.Bool.{true, not}
 use Prim.Native.Nat.{ℕ, suc, _*_, _/_, _≤_, _<_}
 use native.Mathlib.Omega.{arith}
 use borrow.Author.Tests.{ne-eqb}
-use Rattle.counting.specs.Laws.Numbers.{count-le}
-use Rattle.counting.specs.Laws.Ranks.{rank, rank-lt}
+use Rattle.ground.specs.Counting.Laws.Numbers.{count-le}
+use Rattle.ground.specs.Counting.Laws.Ranks.{rank, rank-lt}
 use Rattle.sender.specs.declared.board.Board.{Board}
 use Rattle.sender.specs.Epochs.{rankIn}
 use Rattle.sender.specs.Laws.Carrying.{rank-active}
 use Rattle.sender.specs.Laws.Sizes.{size-le}
 use Rattle.sender.specs.Numbering.{numberIn, slotsIn, stateIn}
 use Rattle.sender.specs.Ranks.{noRank, rankAt}
-use Rattle.sender.specs.Table.{isActive, sizeOf}
+use Rattle.sender.specs.Table.{isActive, slotCount}
 use Rattle.packet.specs.Laws.Clock.{by}
 use Rattle.link.specs.History.{Allowed, History, hasRank, senderAt}
 use Rattle.link.specs.Proofs.Histories.Ruling.{rules}
@@ -27,7 +27,7 @@ module _ (h : History) (al : Allowed h) where
   ranked t slot b a =
       let tab = senderAt h t .table in
       let e : rankIn (senderAt h (suc t)) slot ≡ rank (slotsIn tab) (λ i. isActive (stateIn tab i)) (numberIn tab) slot =
-      ap (λ (x : Board). rankAt (x .rows) (sizeOf (x .count)) slot) (rules h al t ∙ board-at h al t) ∙ rank-active tab slot b a in
+      ap (λ (x : Board). rankAt (x .rows) (slotCount (x .count)) slot) (rules h al t ∙ board-at h al t) ∙ rank-active tab slot b a in
       let l = rank-lt (slotsIn tab) (λ i. isActive (stateIn tab i)) (numberIn tab) slot b a in
       let c = count-le (slotsIn tab) (λ i. isActive (stateIn tab i)) in
       let z = size-le (tab .count) in

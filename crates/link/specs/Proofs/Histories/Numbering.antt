@@ -4,8 +4,8 @@ use mathlib.Core.Bool.{Bool, true, false, _&&_, _||_}
 use Prim.Native.Nat.{ℕ, _≤_, _<_}
 use lib.Dec.{eqb}
 use borrow.Author.Tests.{eq-eqb, eqb-true}
-use Rattle.counting.specs.Laws.Numbers.{count-ext}
-use Rattle.counting.specs.Words.{Apart, One, count}
+use Rattle.ground.specs.Counting.Laws.Numbers.{count-ext}
+use Rattle.ground.specs.Counting.Words.{Apart, One, count}
 use Rattle.ground.specs.Truth.{and-left, and-right, and-true}
 use Rattle.packet.specs.Words.{DNU, EOS, FIXED, NORM}
 use Rattle.sender.specs.Board.{highest, rowOf, wordOf}
@@ -19,7 +19,7 @@ use Rattle.sender.specs.Laws.Carrying.{board-row, row-number}
 use Rattle.sender.specs.Laws.Numbered.{placed-member}
 use Rattle.sender.specs.Numbering.{Demand2, isPlaced, numberIn, placed, sends, slotsIn, stateIn}
 use Rattle.sender.specs.Ranks.{rowAt}
-use Rattle.sender.specs.Table.{isActive, sizeOf}
+use Rattle.sender.specs.Table.{isActive, slotCount}
 use Rattle.sender.specs.Theorems.Demand2.{sound-demand2}
 use Rattle.link.specs.History.{Allowed, History, numberSent, wordSent}
 use Rattle.link.specs.Proofs.Histories.Ruling.{activeWord}
@@ -120,7 +120,7 @@ module _ (h : History) (a : Allowed h) (i : ℕ) where
   source = sender-at-sound h i .outgoing .source
 
   source-size : slotsIn source ≡ h .slots
-  source-size = ap sizeOf (sender-at-sound h i .outgoing .slots) ∙ size-at h a i
+  source-size = ap slotCount (sender-at-sound h i .outgoing .slots) ∙ size-at h a i
 
   word-shown : (s : ℕ) → s < slotsIn source → wordSent h i s ≡ sends source s
   unfolding packetFields

@@ -13,7 +13,7 @@ use Rattle.sender.specs.declared.epochs.Sender.{Sender}
 use Rattle.sender.specs.declared.table.Answer.the-variants.{Done}
 use Rattle.sender.specs.Epochs.{packetAnswer, packetBytes, packetFields}
 use Rattle.sender.specs.Outcomes.{written}
-use Rattle.sender.specs.Table.{sizeOf}
+use Rattle.sender.specs.Table.{slotCount}
 use Rattle.sender.specs.Theorems.Packets.{packet-done, written-done}
 use Rattle.step.specs.Sent.{SentWith}
 use Rattle.link.specs.History.{Allowed, History, callsTo, fieldsSent, packetSent, senderAt}
@@ -22,14 +22,14 @@ use Rattle.link.specs.Proofs.Laws.Counts.{tag-epoch, tag-place}
 use Rattle.link.specs.Sending.{epochNumber, epochStart}
 
 -- what a sender writes whose packet is not refused
-module _ (s : Sender) (slot : ℕ) (h4 : List ℕ) (below : slot < sizeOf (s .table .count)) (room : length h4 ≡ frames (s .table .kind)) (begun : s .begun ≡ true) where
+module _ (s : Sender) (slot : ℕ) (h4 : List ℕ) (below : slot < slotCount (s .table .count)) (room : length h4 ≡ frames (s .table .kind)) (begun : s .begun ≡ true) where
   bytes-are : packetBytes s slot h4 ≡ sentBytes (s .table .kind) (packetFields s slot) h4
   unfolding packetBytes
-  bytes-are = rw (lt-ltb slot (sizeOf (s .table .count)) below, eq-eqb (length h4) (frames (s .table .kind)) room, begun) refl
+  bytes-are = rw (lt-ltb slot (slotCount (s .table .count)) below, eq-eqb (length h4) (frames (s .table .kind)) room, begun) refl
 
   answer-is : packetAnswer s slot h4 ≡ written (sentAnswer (s .table .kind) (packetFields s slot) h4)
   unfolding packetAnswer
-  answer-is = rw (lt-ltb slot (sizeOf (s .table .count)) below, eq-eqb (length h4) (frames (s .table .kind)) room, begun) refl
+  answer-is = rw (lt-ltb slot (slotCount (s .table .count)) below, eq-eqb (length h4) (frames (s .table .kind)) room, begun) refl
 
 -- its epoch is the history's, and its GID the one lent
 pub packet-epoch : (h : History) → Allowed h → (i slot : ℕ) → fieldsSent h i slot .epoch ≡ epochNumber (h .kind) (h .first) i
@@ -41,7 +41,7 @@ unfolding packetFields
 packet-gid h a i slot = sender-in h a i .gid
 
 module _ (h : History) (a : Allowed h) (i slot : ℕ) (b : slot < h .slots) where
-  below : slot < sizeOf (senderAt h i .table .count)
+  below : slot < slotCount (senderAt h i .table .count)
   below = rw (size-at h a i) b
 
   module _ (h4 : List ℕ) (long : length h4 ≡ frames (h .kind)) where

@@ -8,21 +8,22 @@ use lib.ListN.{length, length-replicate, replicate}
 use borrow.Author.Tests.{lt-ltb, ne-eqb}
 use Rattle.packet.specs.Kinds.{payloadRight}
 use Rattle.ground.specs.Table.{length-tabulate}
-use Rattle.payload.specs.Laws.Fits.{Sizes, spread-one-done}
+use Rattle.payload.specs.Answers.{Sizes}
+use Rattle.payload.specs.Laws.Fits.{spread-one-done}
 use Rattle.payload.specs.Order.{memberByte, memberFrame}
 use Rattle.payload.specs.Spreading.{spreadOne}
 use Rattle.sender.specs.declared.epochs.Sender.{Sender}
 use Rattle.sender.specs.Epochs.{payloadBytes, rankIn, xOf}
 use Rattle.sender.specs.Ranks.{noRank}
-use Rattle.sender.specs.Table.{sizeOf}
+use Rattle.sender.specs.Table.{slotCount}
 use Rattle.link.specs.History.{Allowed, Handed, History, hasRank, payloadSent, senderAt, xAt}
 use Rattle.link.specs.Sending.{Client, epochAt}
 use Rattle.link.specs.Proofs.Histories.Ruling.{x-le}
 use Rattle.link.specs.Proofs.Histories.Senders.{sender-in, size-at}
 
-bytes-are : (s : Sender) (slot P : ℕ) (frame member : List ℕ) → slot < sizeOf (s .table .count) → payloadRight (s .table .kind) P ≡ true → s .begun ≡ true → payloadBytes s slot P frame member ≡ spreadOne (xOf s) P (rankIn s slot) frame member
+bytes-are : (s : Sender) (slot P : ℕ) (frame member : List ℕ) → slot < slotCount (s .table .count) → payloadRight (s .table .kind) P ≡ true → s .begun ≡ true → payloadBytes s slot P frame member ≡ spreadOne (xOf s) P (rankIn s slot) frame member
 unfolding payloadBytes
-bytes-are s slot P frame member below own begun = rw (lt-ltb slot (sizeOf (s .table .count)) below, own, begun) refl
+bytes-are s slot P frame member below own begun = rw (lt-ltb slot (slotCount (s .table .count)) below, own, begun) refl
 
 module _ (h : History) (a : Allowed h) (P : ℕ) (client : Client) (c : Handed h P client) (x : ℕ) where
   abbrev X : ℕ

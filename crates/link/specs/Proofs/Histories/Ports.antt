@@ -7,7 +7,7 @@ use lib.Dec.{eqb, ltb}
 use Rattle.ground.specs.Truth.{and-left, or-left}
 use Rattle.packet.specs.Words.{DNU, EOS, IDLE}
 use Rattle.sender.specs.Ranks.{noRank}
-use Rattle.counting.specs.Words.{Apart, One, count}
+use Rattle.ground.specs.Counting.Words.{Apart, One, count}
 use Rattle.link.specs.Sending.{Pairing, Reached}
 use Rattle.link.specs.Proofs.Histories.Numbering.{Numbered, numberedWord}
 use Rattle.link.specs.Proofs.Histories.Reaching.{AllReach, count-paired}

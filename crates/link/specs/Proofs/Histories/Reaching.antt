@@ -4,10 +4,10 @@ use mathlib.Core.Bool.{Bool, true, _&&_}
 use Prim.Native.Nat.{ℕ, _<_}
 use lib.Dec.{eqb}
 use borrow.Author.Tests.{eq-eqb, eqb-true}
-use Rattle.counting.specs.Laws.Numbers.{count-all, count-ext}
-use Rattle.counting.specs.Laws.Ranks.{all-taken, count-taken, taken}
-use Rattle.counting.specs.Laws.Tests.{some-at, some-one}
-use Rattle.counting.specs.Words.{count}
+use Rattle.ground.specs.Counting.Laws.Numbers.{count-all, count-ext}
+use Rattle.ground.specs.Counting.Laws.Ranks.{all-taken, count-taken, taken}
+use Rattle.ground.specs.Counting.Laws.Tests.{some-at, some-one}
+use Rattle.ground.specs.Counting.Words.{count}
 use Rattle.ground.specs.Truth.{and-left, and-right, and-true, same-test}
 use Rattle.link.specs.Sending.{Pairing, Reached}
 

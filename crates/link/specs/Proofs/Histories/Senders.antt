@@ -23,7 +23,7 @@ use Rattle.sender.specs.Epochs.SenderCall.{OnTable, StartEpoch}
 use Rattle.sender.specs.Laws.Kept.{group-call}
 use Rattle.sender.specs.Laws.Runs.{sender-append}
 use Rattle.sender.specs.Laws.Sizes.{size-large, size-small}
-use Rattle.sender.specs.Table.{sizeOf}
+use Rattle.sender.specs.Table.{slotCount}
 use Rattle.link.specs.History.{Allowed, History, callsBefore, callsTo, senderAt, startedOn}
 use Rattle.link.specs.Sending.{epochNumber}
 
@@ -148,10 +148,10 @@ module _ (h : History) (a : Allowed h) where
   sender-in (suc i) = next-in i (senderAt h i) (sender-in i)
 
   -- how many slots there are
-  slots-are : sizeOf (h .slots) ≡ h .slots
+  slots-are : slotCount (h .slots) ≡ h .slots
   slots-are =
       let most = a .most in
       ⊎-elim (λ (g : 64 ≤ h .slots). size-large (h .slots) g ∙ (omega arith)) (λ (g : h .slots < 64). size-small (h .slots) g) (le-or-lt 64 (h .slots))
 
-  pub size-at : (i : ℕ) → sizeOf (senderAt h i .table .count) ≡ h .slots
-  size-at i = ap sizeOf (sender-in i .count) ∙ slots-are
+  pub size-at : (i : ℕ) → slotCount (senderAt h i .table .count) ≡ h .slots
+  size-at i = ap slotCount (sender-in i .count) ∙ slots-are

@@ -5,9 +5,9 @@ use mathlib.Core.List.{List}
 use Prim.Native.Nat.{ℕ, suc, _+_, _<_}
 use lib.Dec.{eqb, ltb}
 use borrow.Author.Tests.{eq-eqb, eqb-true}
-use Rattle.counting.specs.Laws.Numbers.{count-ext}
-use Rattle.counting.specs.Laws.Ranks.{rank}
-use Rattle.counting.specs.Words.{count}
+use Rattle.ground.specs.Counting.Laws.Numbers.{count-ext}
+use Rattle.ground.specs.Counting.Laws.Ranks.{rank}
+use Rattle.ground.specs.Counting.Words.{count}
 use Rattle.judge.specs.declared.seen.Seen.{Seen}
 use Rattle.judge.specs.Laws.Numbers.{all-active}
 use Rattle.judge.specs.Marked.{Tidy}

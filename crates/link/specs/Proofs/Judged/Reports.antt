@@ -8,7 +8,7 @@ use native.Mathlib.Omega.{arith}
 use lib.Dec.{eqb}
 use lib.ListN.{drop, length}
 use borrow.Author.Tests.{eq-eqb}
-use Rattle.counting.specs.Laws.Tests.{every-at, every-lacks}
+use Rattle.ground.specs.Counting.Laws.Tests.{every-at, every-lacks}
 use Rattle.ground.specs.Finite.{same-bytes}
 use Rattle.ground.specs.Truth.{and-true}
 use Rattle.judge.specs.declared.seen.Seen.{Seen}

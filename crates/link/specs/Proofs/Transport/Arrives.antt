@@ -67,8 +67,8 @@ pub record Goes (r : Road) (m : Moment) (coming : ℕ → ℕ) (i p : ℕ) (t : 
   pub answer : t .answer ≡ 0
   pub stepped : Stepped r (coming p + 1) (t .step)
   pub counted : t .counted ≡ true
-  pub since : t .step .since ≡ stepAt (m .rows) p .since
-  pub later : t .step .later ≡ 0
+  pub «ever_since» : t .step .«ever_since» ≡ stepAt (m .rows) p .«ever_since»
+  pub «joined_at» : t .step .«joined_at» ≡ 0
   pub whole : t .step .whole ≡ stepAt (m .rows) p .whole
   pub joined : t .step .joined ≡ cond (ltb (i * L r) (coming p + 1)) 1 0
   pub marks-row : Sixteen (marksBy (r .kind) (marksAt (m .rows) p) t)
@@ -154,8 +154,8 @@ module _ (r : Road) (fair : Fair r) (m : Moment) (coming : ℕ → ℕ) (i : ℕ
         answer = refl;
         stepped = stepped-keeps r fair g p (coming p) s odd (o .lined .kind-is) b late even stepped-then (coming p - i * L r);
         counted = refl;
-        since = refl;
-        later = o .later p b;
+        «ever_since» = refl;
+        «joined_at» = o .«joined_at» p b;
         whole = refl;
         joined = j ∙ rw (lt-ltb (i * L r) (coming p + 1) (omega arith)) refl;
         marks-row = kept-sixteen (coming p - i * L r);
@@ -175,8 +175,8 @@ module _ (r : Road) (fair : Fair r) (m : Moment) (coming : ℕ → ℕ) (i : ℕ
         answer = refl;
         stepped = stepped-joining r fair g p (coming p) s odd (o .lined .kind-is) b late even stepped-then 0;
         counted = refl;
-        since = refl;
-        later = none-in (g .kind);
+        «ever_since» = refl;
+        «joined_at» = none-in (g .kind);
         whole = refl;
         joined = rw (lt-ltb (i * L r) (coming p + 1) (omega arith)) refl;
         marks-row = sixteen-cut row (o .marks-row p b) (epochsIn (g .kind) 0);
@@ -196,8 +196,8 @@ module _ (r : Road) (fair : Fair r) (m : Moment) (coming : ℕ → ℕ) (i : ℕ
         answer = refl;
         stepped = stepped-dropped r fair g p (coming p) s odd (o .lined .kind-is) b late even stepped-then;
         counted = refl;
-        since = refl;
-        later = o .later p b;
+        «ever_since» = refl;
+        «joined_at» = o .«joined_at» p b;
         whole = refl;
         joined = j ∙ rw (le-ltb (i * L r) (coming p + 1) (omega arith)) refl;
         marks-row = o .marks-row p b;

@@ -99,7 +99,7 @@ near-back kind c x y w some any apart other round near =
 
 -- 'every port has had a frame and is in step or flagged failed'
 
-ready-is : (g : Group) (s : Step) → s .had ≡ 1 → inStep g s ≡ true → ready g s ≡ true
+ready-is : (g : Group) (s : Step) → s .heard ≡ 1 → inStep g s ≡ true → ready g s ≡ true
 unfolding ready
 ready-is g s h e = rw (e, h) refl
 
@@ -107,7 +107,7 @@ ready-back : (g : Group) (s : Step) → s .failed ≡ 0 → ready g s ≡ true �
 unfolding ready
 ready-back g s e t =
     ⊎-elim (λ (a : inStep g s ≡ true). a) (λ (a : flagOf (s .failed) ≡ true). absurd (true≢false (sym a ∙ rw e refl)))
-    (or-cases (inStep g s) (flagOf (s .failed)) (and-right (flagOf (s .had)) (inStep g s || flagOf (s .failed)) t))
+    (or-cases (inStep g s) (flagOf (s .failed)) (and-right (flagOf (s .heard)) (inStep g s || flagOf (s .failed)) t))
 
 module _ (r : Road) where
   -- the port whose next frame is the one at x is in step
@@ -142,8 +142,8 @@ module _ (r : Road) (f : Fair r) where
         let e : r .offset + coming q ≡ r .offset + (coming q - 1) + 1 = omega arith in
         rw (o .kind-is, heard-next r q (coming q) (stepAt (m .rows) q) (heard q b) far, e) (tag-before (r .kind) (r .offset + (coming q - 1)))
 
-    had-is : (q : ℕ) → q < r .ports → r .first q < coming q → stepAt (m .rows) q .had ≡ 1
-    had-is q b late = heard q b .had ∙ rw (lt-ltb (r .first q) (coming q) late) refl
+    had-is : (q : ℕ) → q < r .ports → r .first q < coming q → stepAt (m .rows) q .heard ≡ 1
+    had-is q b late = heard q b .heard ∙ rw (lt-ltb (r .first q) (coming q) late) refl
 
     -- 'A fresh receiver begins' where all ports are in step and none is further behind than the spread.
     pub must-begin : ((q : ℕ) → q < r .ports → InStep r q (coming q)) → ((p q : ℕ) → p < r .ports → q < r .ports → coming p + L r ≤ coming q + r .window)
@@ -313,8 +313,8 @@ module _ (r : Road) (f : Fair r) where
               in-step = all-in;
               stepped = λ q b. rw (step-begun q b) (stepped-begun q b);
               live = λ q b. rw (gathering-begun q b) (live q b);
-              since = λ q b. rw (step-begun q b) refl;
-              later = λ q b. rw (step-begun q b) refl;
+              «ever_since» = λ q b. rw (step-begun q b) refl;
+              «joined_at» = λ q b. rw (step-begun q b) refl;
               behind = λ q b. (let w = none-behind q b .1 in let v = top-is in let a = next-soon in omega arith);
               ahead = λ q b. (let w = nobody-there q b in omega arith);
               marks-row = λ q b. rw (marks-begun q b) sixteen-none;

@@ -6,8 +6,8 @@ use Prim.Native.Nat.{ℕ, _+_, _*_, _≤_, _<_}
 use native.Mathlib.Omega.{arith}
 use lib.Dec.{leb}
 use borrow.Author.Tests.{le-leb, leb-false, leb-true, lt-leb}
-use Rattle.counting.specs.Laws.Tests.{every-all, every-at, every-ext, every-fails, every-lacks}
-use Rattle.counting.specs.Words.{every}
+use Rattle.ground.specs.Counting.Laws.Tests.{every-all, every-at, every-ext, every-fails, every-lacks}
+use Rattle.ground.specs.Counting.Words.{every}
 use Rattle.ground.specs.Truth.{or-right}
 use Rattle.phases.specs.Due.{brought, owesNothing, silent}
 use Rattle.rows.specs.Group.{groupAt}
@@ -38,7 +38,7 @@ module _ (r : Road) (fair : Fair r) (m : Moment) (coming : ℕ → ℕ) (i : ℕ
   pub all-read : (p : ℕ) → p < r .ports → readable (groupAt (m .rows)) (stepAt (m .rows) p) ≡ true
   unfolding readable inStep
   all-read p b =
-      rw (o .begun, o .lined .kind-is, o .stepped p b .count, o .since p b)
+      rw (o .begun, o .lined .kind-is, o .stepped p b .count, o .«ever_since» p b)
       (or-right (flagOf (stepAt (m .rows) p .joined)) true refl)
 
   first-come : (p : ℕ) → p < r .ports → firstMark (marksAt (m .rows) p) ≡ leb (i * L r + L r) (coming p)
@@ -52,7 +52,7 @@ module _ (r : Road) (fair : Fair r) (m : Moment) (coming : ℕ → ℕ) (i : ℕ
   owes-is : (p : ℕ) → p < r .ports → owesNothing (groupAt (m .rows)) (stepAt (m .rows) p) (marksAt (m .rows) p) ≡ leb (i * L r + L r) (coming p)
   unfolding owesNothing
   owes-is p b =
-      rw (all-read p b, o .later p b, first-come p b, and-false (flagOf (stepAt (m .rows) p .joined)), or-false (leb (i * L r + L r) (coming p))) refl
+      rw (all-read p b, o .«joined_at» p b, first-come p b, and-false (flagOf (stepAt (m .rows) p .joined)), or-false (leb (i * L r + L r) (coming p))) refl
 
   brought-is : brought (groupAt (m .rows)) (m .rows) (r .ports) ≡ every (r .ports) (λ p. leb (i * L r + L r) (coming p))
   unfolding brought

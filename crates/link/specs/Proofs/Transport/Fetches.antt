@@ -24,10 +24,10 @@ use Rattle.phases.specs.Due.{brought}
 use Rattle.phases.specs.Laws.Lengths.{length-passed}
 use Rattle.phases.specs.Passing.{passedOf}
 use Rattle.phases.specs.Sizes.{storeFor}
-use Rattle.receiver.specs.Fetch.{dueIn, fetchOf, fits, outIfDue, reportIfDue, rowsIfDue, recordOf}
+use Rattle.receiver.specs.Fetch.{dueIn, fetchOf, lentFits, outIfDue, reportIfDue, rowsIfDue, recordOf}
 use Rattle.receiver.specs.Laws.Sizes.{size-is}
 use Rattle.receiver.specs.Lengths.{fetchFits, outputFor, rowsFit}
-use Rattle.receiver.specs.Report.{framesInto, noSeen, outputBy, outputOf, reportBy, reportOf, reportedOf, rulingEpoch, seenAll, seenOf, statesWorkedOut}
+use Rattle.receiver.specs.Report.{framesInto, noSeen, outputBy, outputOf, reportBy, epochReport, reportedOf, rulingEpoch, seenAll, seenOf, statesWorkedOut}
 use Rattle.rows.specs.declared.group.Group.{Group}
 use Rattle.rows.specs.Group.{groupAt}
 use Rattle.rows.specs.Rows.{rowsFor}
@@ -84,8 +84,8 @@ fetched-answers r m = refl
 module _ (r : Road) (fair : Fair r) where
   -- A fetch is not refused.
   module _ (m : Moment) (l : Lined r m) where
-    pub fits-now : fits (m .rows) (m .store) (outputAt r m) (lentAt r m) ≡ true
-    unfolding fits fetchFits rowsFit storeFor outputFor
+    pub fits-now : lentFits (m .rows) (m .store) (outputAt r m) (lentAt r m) ≡ true
+    unfolding lentFits fetchFits rowsFit storeFor outputFor
     fits-now =
         rw (
           ports-are r fair m l,
@@ -167,7 +167,7 @@ module _ (r : Road) (fair : Fair r) where
       order = orderOf seen (r .ports)
 
       record-is : recordAt r m ≡ recordOf (reportBy g mark cause order)
-      unfolding fetchOf reportIfDue reportOf
+      unfolding fetchOf reportIfDue epochReport
       record-is =
           let is : fetchOf (m .rows) (m .store) (outputAt r m) (lentAt r m) .report ≡ recordOf (reportBy g mark cause order) =
           rw (fits-now m lined, ports-are r fair m lined, due-now, seen-is, size-is (r .ports) few, lined .kind-is) refl in

@@ -194,8 +194,8 @@ module _ (r : Road) (fair : Fair r) (m : Moment) (coming coming′ : ℕ → ℕ
         in-step = by-port (λ q. startFrom (r .kind) (r .offset) (r .first q) + L r * 2 ≤ coming′ q) (let e = f .next in let a = o .in-step p b in omega arith) (λ q c d. rw (f .others q d) (o .in-step q c));
         stepped = stepped-after;
         live = live-after;
-        since = by-port (λ q. stepAt (after .rows) q .since ≡ 1) (rw step-after (went .since ∙ o .since p b)) (λ q c d. rw (step-others q d) (o .since q c));
-        later = by-port (λ q. stepAt (after .rows) q .later ≡ 0) (rw step-after (went .later)) (λ q c d. rw (step-others q d) (o .later q c));
+        «ever_since» = by-port (λ q. stepAt (after .rows) q .«ever_since» ≡ 1) (rw step-after (went .«ever_since» ∙ o .«ever_since» p b)) (λ q c d. rw (step-others q d) (o .«ever_since» q c));
+        «joined_at» = by-port (λ q. stepAt (after .rows) q .«joined_at» ≡ 0) (rw step-after (went .«joined_at»)) (λ q c d. rw (step-others q d) (o .«joined_at» q c));
         behind = by-port (λ q. i * L r < coming′ q + r .window) (let e = f .next in let a = o .behind p b in omega arith) (λ q c d. rw (f .others q d) (o .behind q c));
         ahead = by-port (λ q. coming′ q ≤ i * L r + r .window) (let e = f .next in omega arith) (λ q c d. rw (f .others q d) (o .ahead q c));
         marks-row = by-port (λ q. Sixteen (marksAt (after .rows) q)) (rw marks-after (went .marks-row)) (λ q c d. rw (marks-others q d) (o .marks-row q c));

@@ -115,12 +115,12 @@ module _ (r : Road) where
         (le-or-lt x (r .first p))
 
     -- a step record that the step rule has counted on
-    heard-on : (t : Step) → t .had ≡ 1 → t .failed ≡ 0 → runOf t ≡ runOn (r .kind) (runOf s) odd (r .h4 p x) → Heard r p (x + 1) t
+    heard-on : (t : Step) → t .heard ≡ 1 → t .failed ≡ 0 → runOf t ≡ runOn (r .kind) (runOf s) odd (r .h4 p x) → Heard r p (x + 1) t
     heard-on t had failed run =
         let low = o .from in
         record {
           from = omega arith;
-          had = had ∙ rw (lt-ltb (r .first p) (x + 1) (omega arith)) refl;
+          heard = had ∙ rw (lt-ltb (r .first p) (x + 1) (omega arith)) refl;
           failed = failed;
           run = run ∙ heard-goes;
         }

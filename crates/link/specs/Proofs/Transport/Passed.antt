@@ -134,8 +134,8 @@ module _ (r : Road) (fair : Fair r) (m m′ : Moment) (coming : ℕ → ℕ) (i 
         in-step = o .in-step;
         stepped = λ p b. rw (t .steps p b) (stepped-passed r (coming p) (stepAt (m .rows) p) (firstMark (marksAt (m .rows) p)) (o .stepped p b));
         live = λ p b. rw (t .gathering p b) (o .live p b);
-        since = λ p b. rw (t .steps p b) (step-since (stepAt (m .rows) p) (firstMark (marksAt (m .rows) p)) ∙ o .since p b);
-        later = λ p b. rw (t .steps p b) (step-later (stepAt (m .rows) p) (firstMark (marksAt (m .rows) p)) ∙ rw (o .later p b) refl);
+        «ever_since» = λ p b. rw (t .steps p b) (step-since (stepAt (m .rows) p) (firstMark (marksAt (m .rows) p)) ∙ o .«ever_since» p b);
+        «joined_at» = λ p b. rw (t .steps p b) (step-later (stepAt (m .rows) p) (firstMark (marksAt (m .rows) p)) ∙ rw (o .«joined_at» p b) refl);
         behind = λ p b.
             let h = all p b in
             let w : 0 < r .window = rw (o .lined .window-is) at wide in

@@ -51,7 +51,7 @@ module _ (r : Road) (f : Fair r) (hold restore : List ℕ) (hold-times : Times h
   unfolding heardRun
   started-heard p =
       let none : ltb (r .first p) (r .first p) ≡ false = le-ltb (r .first p) (r .first p) (omega arith) in
-      record { from = omega arith; had = rw none refl; failed = refl; run = rw none refl }
+      record { from = omega arith; heard = rw none refl; failed = refl; run = rw none refl }
 
   started-before : Before r (record { rows = started; store = store; answers = []; told = [] }) (r .first)
   unfolding started group

@@ -53,8 +53,8 @@ module _ (r : Road) where
         in-step = o .in-step;
         stepped = λ p b. rw (a .steps p b) (o .stepped p b);
         live = λ p b. rw (a .gathering p b) (o .live p b);
-        since = λ p b. rw (a .steps p b) (o .since p b);
-        later = λ p b. rw (a .steps p b) (o .later p b);
+        «ever_since» = λ p b. rw (a .steps p b) (o .«ever_since» p b);
+        «joined_at» = λ p b. rw (a .steps p b) (o .«joined_at» p b);
         behind = o .behind;
         ahead = o .ahead;
         marks-row = λ p b. rw (a .marks p b) (o .marks-row p b);

@@ -54,12 +54,12 @@ use denote.Exit.{yes}
 use Rattle.orders.specs.Orders.{turnsOf, finishOf, outcomeBy, storedBy, orderedOf, answersOf}
 use Rattle.orders.specs.Singles.{noCommand}
 use Rattle.orders.specs.declared.commands.Command.{Command}
-use Rattle.circuits.specs.declared.card.Card.{Card}
+use Rattle.cards.specs.declared.card.Card.{Card}
 use Rattle.orders.specs.declared.lists.Ordered.{Ordered}
 use Rattle.orders.proofs.commands.Command as T′
 use Rattle.orders.proofs.commands.Command.Laws as L′
-use Rattle.circuits.proofs.card.Card as TC
-use Rattle.circuits.proofs.card.Card.Laws as LC
+use Rattle.cards.proofs.card.Card as TC
+use Rattle.cards.proofs.card.Card.Laws as LC
 use Rattle.orders.proofs.lists.Ordered as TO
 use Rattle.orders.proofs.lists.Ordered.Laws as LO
 use Rattle.orders.proofs.Turned.{cardAt, listAt, list-length, card-next, list-next, turns-left, turns-right, place-fits, card-left, list-left}

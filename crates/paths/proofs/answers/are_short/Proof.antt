@@ -5,7 +5,7 @@ use native.Mathlib.Numerals.{add-one}
 use native.Mathlib.Omega.{arith}
 use lib.Dec.{leb}
 use lib.ListN.{length}
-use Rattle.counting.specs.Words.{every}
+use Rattle.ground.specs.Counting.Words.{every}
 use Rattle.paths.specs.Answers.{areShort}
 use Rattle.paths.specs.Paths.{delayAt}
 use borrow.Author.Needs.{needs}

@@ -10,12 +10,12 @@ delay-at-requires c κs = search needs
 delay-at-requires-2 : tie.Need-delay-at-requires-2
 delay-at-requires-2 c κs = search needs
 
-apart-requires : tie.Need-apart-requires
-apart-requires c κs = search needs
+delays-apart-requires : tie.Need-delays-apart-requires
+delays-apart-requires c κs = search needs
 
 returns : tie.Need-returns
 unfolding agree
-returns c = rw (c .apart .ensures, c .before .delay-at2 .ensures, c .before .before .delay-at .ensures) refl
+returns c = rw (c .delays-apart .ensures, c .before .delay-at2 .ensures, c .before .before .delay-at .ensures) refl
 
 pub do-agree-spec : {M : Type 1} → statement M
-do-agree-spec = tie.close (tie.spec delay-at-requires delay-at-requires-2 apart-requires returns)
+do-agree-spec = tie.close (tie.spec delay-at-requires delay-at-requires-2 delays-apart-requires returns)

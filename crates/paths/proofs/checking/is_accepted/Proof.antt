@@ -5,14 +5,14 @@ use native.Mathlib.Numerals.{add-one}
 use native.Mathlib.Omega.{arith}
 use lib.ListN.{length}
 use borrow.Author.Tests.{eq-eqb, ne-eqb}
-use Rattle.counting.specs.Words.{every}
-use Rattle.paths.specs.Checking.{accepts, fits}
+use Rattle.ground.specs.Counting.Words.{every}
+use Rattle.paths.specs.Checking.{accepts, entryFits}
 use borrow.Author.Needs.{needs}
 use Rattle.paths.proofs.checking.is_accepted.Statement.{statement}
 use Rattle.paths.proofs.checking.is_accepted.Tie as tie
 
 abbrev Inv-loop : tie.InvT-loop
-Inv-loop delays k room set all₀ a₀ all a = (a ≤ length set) × (all ≡ every a (fits delays set room))
+Inv-loop delays k room set all₀ a₀ all a = (a ≤ length set) × (all ≡ every a (entryFits delays set room))
 
 abbrev μ-loop : tie.MeasureT-loop
 μ-loop delays k room set all₀ a₀ all a = length set - a

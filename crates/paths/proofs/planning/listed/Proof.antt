@@ -3,8 +3,8 @@ use mathlib.Core.Path.{_≡_, refl}
 use Prim.Native.Nat.{_+_, _≤_, _-_}
 use native.Mathlib.Omega.{arith}
 use lib.ListN.{length}
-use Rattle.counting.specs.Laws.Numbers.{count-fits, count-more}
-use Rattle.counting.specs.Words.{count as countOf}
+use Rattle.ground.specs.Counting.Laws.Numbers.{count-fits, count-more}
+use Rattle.ground.specs.Counting.Words.{count as countOf}
 use Rattle.paths.specs.Laws.Listing.{length-listed}
 use Rattle.paths.specs.Planning.{inStretch, listedPlan, padded}
 use Rattle.paths.specs.Planning.{listed as listedTo}

@@ -4,8 +4,8 @@ use mathlib.Core.Path.{_≡_, refl, sym, _∙_}
 use mathlib.Core.Bool.{Bool, true, false, not}
 use native.Mathlib.Omega.{arith}
 use borrow.Author.Tests.{not-true, not-false}
-use Rattle.counting.specs.Laws.Tests.{every-fails, every-on}
-use Rattle.counting.specs.Words.{every}
+use Rattle.ground.specs.Counting.Laws.Tests.{every-fails, every-on}
+use Rattle.ground.specs.Counting.Words.{every}
 use Rattle.rows.specs.Step.{stepAt}
 use Rattle.step.specs.Arrival.{readable}
 use Rattle.phases.specs.Due.{silent}

@@ -21,17 +21,17 @@ sized-by kind count P W =
     kept true = refl
     kept false = refl
 
-is-within-requires : tie.Need-is-within-requires
-is-within-requires c κs = omega arith
+is-sized-as-requires : tie.Need-is-sized-as-requires
+is-sized-as-requires c κs = omega arith
 
 returns : tie.Need-returns
-returns c = rw (← sized-by _ _ _ _, ← c .before .is-within .ensures, c .if1 .taken) refl
+returns c = rw (← sized-by _ _ _ _, ← c .before .is-sized-as .ensures, c .if1 .taken) refl
 
-is-within-requires-2 : tie.Need-is-within-requires-2
-is-within-requires-2 c κs = omega arith
+is-sized-as-requires-2 : tie.Need-is-sized-as-requires-2
+is-sized-as-requires-2 c κs = omega arith
 
 returns-2 : tie.Need-returns-2
-returns-2 c = rw (← sized-by _ _ _ _, ← c .before .before .is-within .ensures, c .before .if1 .left) (c .is-within2 .ensures)
+returns-2 c = rw (← sized-by _ _ _ _, ← c .before .before .is-sized-as .ensures, c .before .if1 .left) (c .is-sized-as2 .ensures)
 
 pub is-sized-spec : {M : Type 1} → statement M
-is-sized-spec = tie.close (tie.spec is-within-requires returns is-within-requires-2 returns-2)
+is-sized-spec = tie.close (tie.spec is-sized-as-requires returns is-sized-as-requires-2 returns-2)

@@ -4,8 +4,8 @@ use mathlib.Core.Path.{_≡_, refl, sym, ap, _∙_}
 use mathlib.Core.Bool.{Bool, true, false}
 use native.Mathlib.Omega.{arith}
 use borrow.Author.Tests.{not-true, not-false}
-use Rattle.counting.specs.Laws.Tests.{every-fails, every-on}
-use Rattle.counting.specs.Words.{every}
+use Rattle.ground.specs.Counting.Laws.Tests.{every-fails, every-on}
+use Rattle.ground.specs.Counting.Words.{every}
 use Rattle.rows.specs.Step.{stepAt}
 use Rattle.phases.specs.Beginning.{ready}
 use Rattle.phases.proofs.starting.all_ready.Statement.{statement}

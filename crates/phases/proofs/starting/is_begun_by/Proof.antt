@@ -19,12 +19,12 @@ foremost-requires c κs = omega arith
 no-tag-requires : tie.Need-no-tag-requires
 no-tag-requires c κs = omega arith
 
-all-within-requires : tie.Need-all-within-requires
-all-within-requires c κs = omega arith
+all-in-arc-requires : tie.Need-all-in-arc-requires
+all-in-arc-requires c κs = omega arith
 
 returns-2 : tie.Need-returns-2
 unfolding begins
-returns-2 c = rw (← c .before .before .before .before .all-ready .ensures, not-false (c .before .before .before .before .all-ready .result) (c .before .before .before .if1 .left), ← c .before .before .foremost .ensures, ← c .before .no-tag .ensures, ← c .all-within .ensures) refl
+returns-2 c = rw (← c .before .before .before .before .all-ready .ensures, not-false (c .before .before .before .before .all-ready .result) (c .before .before .before .if1 .left), ← c .before .before .foremost .ensures, ← c .before .no-tag .ensures, ← c .all-in-arc .ensures) refl
 
 pub is-begun-by-spec : {M : Type 1} → statement M
 is-begun-by-spec =
@@ -34,5 +34,5 @@ is-begun-by-spec =
     returns
     foremost-requires
     no-tag-requires
-    all-within-requires
+    all-in-arc-requires
     returns-2)

@@ -4,7 +4,7 @@ use Prim.Native.Nat.{ℕ, _≤_, _-_}
 use mathlib.Core.Path.{_≡_, refl, sym, _∙_}
 use mathlib.Core.Bool.{true, false}
 use native.Mathlib.Omega.{arith}
-use Rattle.counting.specs.Words.{some}
+use Rattle.ground.specs.Counting.Words.{some}
 use Rattle.receiver.specs.Heard.{goodAt}
 use Rattle.receiver.specs.Laws.Heard.{heard-first, heard-none}
 use Rattle.receiver.proofs.Reading.{good-is, none-more}

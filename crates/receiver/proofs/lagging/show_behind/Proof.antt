@@ -3,7 +3,7 @@ use Prim.Native.Nat.{_≤_, _-_}
 use native.Mathlib.Omega.{arith}
 use lib.ListN.{length}
 use borrow.Author.Needs.{needs}
-use Rattle.counting.specs.Each.{Done, done-none, done-more, done-all}
+use Rattle.ground.specs.Counting.Each.{Done, done-none, done-more, done-all}
 use Rattle.receiver.specs.Behind.{behindBy}
 use Rattle.rows.specs.Step.{stepAt}
 use Rattle.receiver.proofs.lagging.show_behind.Statement.{statement}

@@ -5,7 +5,7 @@ use native.Mathlib.Numerals.{add-one}
 use native.Mathlib.Omega.{arith}
 use lib.Dec.{leb}
 use lib.ListN.{getD, length}
-use Rattle.counting.specs.Words.{every}
+use Rattle.ground.specs.Counting.Words.{every}
 use Rattle.receiver.specs.Starting.{timesWithin}
 use borrow.Author.Needs.{needs}
 use Rattle.receiver.proofs.starting.times_within.Statement.{statement}

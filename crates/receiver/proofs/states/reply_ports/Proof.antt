@@ -4,7 +4,7 @@ use Prim.Native.Nat.{_≤_, _-_}
 use native.Mathlib.Omega.{arith}
 use lib.ListN.{length}
 use borrow.Author.Needs.{needs}
-use Rattle.counting.specs.Each.{Done, done-none, done-more, done-all}
+use Rattle.ground.specs.Counting.Each.{Done, done-none, done-more, done-all}
 use Rattle.judge.specs.Laws.Sizes.{size-le}
 use Rattle.receiver.specs.Report.{replyPort, replyPorts}
 use Rattle.receiver.proofs.Lists.{each-both}

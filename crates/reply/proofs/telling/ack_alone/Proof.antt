@@ -1,5 +1,5 @@
 use mathlib.Core.Path.{_∙_, refl}
-use Rattle.reply.specs.Telling.{ackOf, turns}
+use Rattle.reply.specs.Telling.{ackOf, turnsOver}
 use borrow.Author.Needs.{needs}
 use Rattle.reply.proofs.telling.ack_alone.Statement.{statement}
 use Rattle.reply.proofs.telling.ack_alone.Tie as tie
@@ -14,7 +14,7 @@ turned-requires : tie.Need-turned-requires
 turned-requires c κs = search needs
 
 returns : tie.Need-returns
-unfolding ackOf turns
+unfolding ackOf turnsOver
 returns c = c .turned .ensures ∙ rw (c .before .has-left .ensures, c .before .before .has-changed .ensures) refl
 
 pub ack-alone-spec : {M : Type 1} → statement M

@@ -5,18 +5,18 @@ use native.Mathlib.Numerals.{add-one}
 use native.Mathlib.Omega.{arith}
 use lib.ListN.{length}
 use borrow.Author.Needs.{needs}
-use Rattle.reply.specs.Telling.{turns}
+use Rattle.reply.specs.Telling.{turnsOver}
 use Rattle.reply.proofs.telling.is_turning.Statement.{statement}
 use Rattle.reply.proofs.telling.is_turning.Tie as tie
 
 abbrev Inv-loop : tie.InvT-loop
-Inv-loop n ports turning₀ i₀ turning i = (length ports ≡ 64) × (i ≤ n) × (turning ≡ turns ports i)
+Inv-loop n ports turning₀ i₀ turning i = (length ports ≡ 64) × (i ≤ n) × (turning ≡ turnsOver ports i)
 
 abbrev μ-loop : tie.MeasureT-loop
 μ-loop n ports turning₀ i₀ turning i = n - i
 
 loop-holds : tie.Need-loop-holds Inv-loop μ-loop
-unfolding turns
+unfolding turnsOver
 loop-holds c = (omega arith, omega arith, refl)
 
 mul-port : tie.Need-mul-port Inv-loop μ-loop
@@ -38,7 +38,7 @@ loop-less : tie.Need-loop-less Inv-loop μ-loop
 loop-less c = search needs
 
 loop-again : tie.Need-loop-again Inv-loop μ-loop
-unfolding turns
+unfolding turnsOver
 loop-again c = (c .before .before .before .before .loop .inv .0, omega arith, rw (c .before .before .before .before .loop .inv .2, c .before .has-changed .ensures, c .has-left .ensures, add-one))
 
 returns : tie.Need-returns Inv-loop μ-loop

@@ -4,7 +4,7 @@ use Prim.Native.Nat.{_≤_, _-_}
 use native.Mathlib.Omega.{arith}
 use lib.ListN.{length}
 use borrow.Author.Needs.{needs}
-use Rattle.counting.specs.Each.{Done, done-none, done-more, done-all}
+use Rattle.ground.specs.Counting.Each.{Done, done-none, done-more, done-all}
 use Rattle.reply.specs.Members.{portAt}
 use Rattle.reply.specs.Waiting.{standingBy}
 use Rattle.reply.proofs.waiting.standings_by.Statement.{statement}

@@ -8,8 +8,8 @@ use lib.ListN.{length}
 use borrow.Author.Needs.{needs}
 use Rattle.sender.specs.Board.{highest}
 use Rattle.sender.specs.Table.{isActive, slotAt}
-use Rattle.counting.specs.Laws.Tests.{some-more}
-use Rattle.counting.specs.Words.{some}
+use Rattle.ground.specs.Counting.Laws.Tests.{some-more}
+use Rattle.ground.specs.Counting.Words.{some}
 use Rattle.sender.proofs.board.is_highest.Statement.{statement}
 use Rattle.sender.proofs.board.is_highest.Tie as tie
 

@@ -6,7 +6,7 @@ use lib.ListN.{length, replicate}
 use borrow.Author.Needs.{needs}
 use Rattle.sender.specs.Board.{rowOf, rowsOf}
 use Rattle.sender.specs.declared.board.Row.{Row}
-use Rattle.counting.specs.Each.{Done, done-none, done-more, done-all, each}
+use Rattle.ground.specs.Counting.Each.{Done, done-none, done-more, done-all, each}
 use Rattle.sender.proofs.board.rows_of.Statement.{statement}
 use Rattle.sender.proofs.board.rows_of.Tie as tie
 

@@ -6,7 +6,7 @@ use lib.ListN.{length}
 use borrow.Author.Needs.{needs}
 use Rattle.sender.specs.Commands.{fallen, fallenIn}
 use Rattle.sender.specs.Table.{slotAt}
-use Rattle.counting.specs.Each.{Done, done-none, done-more, done-next, done-all}
+use Rattle.ground.specs.Counting.Each.{Done, done-none, done-more, done-next, done-all}
 use Rattle.sender.proofs.commands.fall_in.Statement.{statement}
 use Rattle.sender.proofs.commands.fall_in.Tie as tie
 

@@ -6,7 +6,7 @@ use lib.ListN.{length}
 use borrow.Author.Needs.{needs}
 use Rattle.ground.specs.Flags.{oneIf}
 use Rattle.sender.specs.Table.{isMember, membersOf, slotAt}
-use Rattle.counting.specs.Laws.Numbers.{count-more, count-fits}
+use Rattle.ground.specs.Counting.Laws.Numbers.{count-more, count-fits}
 use Rattle.sender.proofs.table.members.Statement.{statement}
 use Rattle.sender.proofs.table.members.Tie as tie
 

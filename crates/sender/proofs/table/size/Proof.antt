@@ -1,14 +1,14 @@
-use mathlib.Core.Path.{sym}
 use native.Mathlib.Omega.{arith}
-use Rattle.sender.specs.Laws.Sizes.{size-small, size-large}
+use Rattle.sender.specs.Table.{slotCount}
 use Rattle.sender.proofs.table.size.Statement.{statement}
 use Rattle.sender.proofs.table.size.Tie as tie
 
-returns : tie.Need-returns
-returns c = sym (size-small _ (omega arith))
+size-of-requires : tie.Need-size-of-requires
+size-of-requires c κs = omega arith
 
-returns-2 : tie.Need-returns-2
-returns-2 c = sym (size-large _ (omega arith))
+returns : tie.Need-returns
+unfolding slotCount
+returns c = c .size-of .ensures
 
 pub size-spec : {M : Type 1} → statement M
-size-spec = tie.close (tie.spec returns returns-2)
+size-spec = tie.close (tie.spec size-of-requires returns)

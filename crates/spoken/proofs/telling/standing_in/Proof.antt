@@ -3,7 +3,7 @@ use mathlib.Core.Path.{_≡_, refl}
 use Prim.Native.Nat.{_-_, _≤_}
 use native.Mathlib.Omega.{arith}
 use lib.ListN.{length}
-use Rattle.counting.specs.Each.{Done, done-more, done-none, done-table}
+use Rattle.ground.specs.Counting.Each.{Done, done-more, done-none, done-table}
 use Rattle.spoken.specs.SpeakingRuns.{standing, standingAt}
 use borrow.Author.Needs.{needs}
 use Rattle.spoken.proofs.telling.standing_in.Statement.{statement}

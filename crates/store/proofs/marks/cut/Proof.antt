@@ -4,7 +4,7 @@ use Prim.Native.Nat.{_≤_, _-_}
 use native.Mathlib.Omega.{arith}
 use lib.ListN.{length, getD}
 use borrow.Author.Needs.{needs}
-use Rattle.counting.specs.Each.{Done, done-none, done-more, done-table}
+use Rattle.ground.specs.Counting.Each.{Done, done-none, done-more, done-table}
 use Rattle.store.specs.Marks.{cutByte, cutFrom}
 use Rattle.store.proofs.marks.cut.Statement.{statement}
 use Rattle.store.proofs.marks.cut.Tie as tie

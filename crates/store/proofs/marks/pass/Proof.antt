@@ -4,7 +4,7 @@ use Prim.Native.Nat.{_≤_, _-_}
 use native.Mathlib.Omega.{arith}
 use lib.ListN.{length}
 use borrow.Author.Needs.{needs}
-use Rattle.counting.specs.Each.{Done, done-none, done-more, done-table}
+use Rattle.ground.specs.Counting.Each.{Done, done-none, done-more, done-table}
 use Rattle.store.specs.Marks.{passedMarks}
 use Rattle.store.proofs.Rows.{passedAt, passed-in, passed-last}
 use Rattle.store.proofs.marks.pass.Statement.{statement}

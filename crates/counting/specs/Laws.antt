@@ -1,4 +1,0 @@
--- What some, every, how many, the one that and the greatest say.
-pub mod Numbers
-pub mod Ranks
-pub mod Tests
