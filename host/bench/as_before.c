@@ -10,12 +10,12 @@
 enum { PACKET = LEVELSPRUCE_PACKET_BYTES, FIELDS = LEVELSPRUCE_FIELDS_BYTES, ROW = LEVELSPRUCE_ROW_BYTES };
 
 uint8_t before_packet_read(const uint8_t *h4, size_t h4_length, uint8_t *fields, size_t fields_length);
-uint8_t before_packet_write(uint32_t epoch, uint32_t word, uint32_t gid, uint32_t mst, uint32_t rs_ack, uint32_t sq, uint32_t reserved,
-                            uint8_t *h4, size_t h4_length);
-uint8_t before_receiver_frame(uint8_t (*state)[ROW], size_t state_length, uint32_t port, uint32_t failed, uint8_t h4,
-                              const uint8_t *payload, size_t payload_length, uint8_t *store, size_t store_length);
-uint8_t before_receiver_fetch(uint8_t (*state)[ROW], size_t state_length, const uint8_t *store, size_t store_length, uint8_t *out,
-                              size_t out_length, uint8_t *report, size_t report_length);
+uint8_t before_packet_write(uint32_t epoch, uint32_t word, uint32_t gid, uint32_t mst, uint32_t rs_ack, uint32_t sq, uint32_t reserved, uint8_t *h4,
+                            size_t h4_length);
+uint8_t before_receiver_frame(uint8_t (*state)[ROW], size_t state_length, uint32_t port, uint32_t failed, uint8_t h4, const uint8_t *payload,
+                              size_t payload_length, uint8_t *store, size_t store_length);
+uint8_t before_receiver_fetch(uint8_t (*state)[ROW], size_t state_length, const uint8_t *store, size_t store_length, uint8_t *out, size_t out_length,
+                              uint8_t *report, size_t report_length);
 
 static uint64_t seed = 1;
 
@@ -51,7 +51,7 @@ static void reading(void)
     enum { CASES = 8000000 };
     long right = 0;
     for (long i = 0; i < CASES; i++) {
-        uint8_t h4[PACKET], fields[FIELDS] = {0}, before[FIELDS] = {0}, answer;
+        uint8_t h4[PACKET], fields[FIELDS] = { 0 }, before[FIELDS] = { 0 }, answer;
         for (int k = 0; k < PACKET; k++)
             h4[k] = (uint8_t)below(256);
         if (i % 2 == 0)
@@ -69,11 +69,10 @@ static void reading(void)
 static void writing(void)
 {
     enum { CASES = 8000000 };
-    static const uint32_t words[] = {LEVELSPRUCE_WORD_ADD, LEVELSPRUCE_WORD_NORM, LEVELSPRUCE_WORD_EOS, LEVELSPRUCE_WORD_IDLE,
-                                     LEVELSPRUCE_WORD_DNU};
+    static const uint32_t words[] = { LEVELSPRUCE_WORD_ADD, LEVELSPRUCE_WORD_NORM, LEVELSPRUCE_WORD_EOS, LEVELSPRUCE_WORD_IDLE, LEVELSPRUCE_WORD_DNU };
     long right = 0;
     for (long i = 0; i < CASES; i++) {
-        uint32_t f[] = {below(256), words[below(5)], below(2), below(256), below(2), below(256), below(LEVELSPRUCE_RESERVED_MOST + 1ul)};
+        uint32_t f[] = { below(256), words[below(5)], below(2), below(256), below(2), below(256), below(LEVELSPRUCE_RESERVED_MOST + 1ul) };
         uint8_t h4[PACKET], before[PACKET], answer;
         if (i % 8 == 0)
             f[below(7)] = below(UINT64_C(1) << below(33));
@@ -81,8 +80,7 @@ static void writing(void)
         memcpy(before, h4, sizeof h4);
         answer = levelspruce_packet_write(f[0], f[1], f[2], f[3], f[4], f[5], f[6], h4, sizeof h4);
         right += answer == LEVELSPRUCE_ANSWER_DONE;
-        same(before_packet_write(f[0], f[1], f[2], f[3], f[4], f[5], f[6], before, sizeof before) == answer
-             && memcmp(h4, before, PACKET) == 0, "writing", i);
+        same(before_packet_write(f[0], f[1], f[2], f[3], f[4], f[5], f[6], before, sizeof before) == answer && memcmp(h4, before, PACKET) == 0, "writing", i);
     }
     printf("as before\twritten\tdrawn %d\tanswered 0 %ld\n", CASES, right);
 }
@@ -109,7 +107,7 @@ static void receiving(void)
 {
     enum { CASES = 4000 };
     const size_t rows = LEVELSPRUCE_RECEIVER_ROWS(PORTS);
-    long marks[LEVELSPRUCE_MARK_SURE + 1] = {0};
+    long marks[LEVELSPRUCE_MARK_SURE + 1] = { 0 };
     for (long i = 0; i < CASES; i++) {
         struct lent now, before;
         uint32_t first = below(256);
@@ -121,9 +119,10 @@ static void receiving(void)
             for (uint32_t port = 0; port < PORTS; port++) {
                 uint8_t payload = (uint8_t)below(256);
                 if (frame % 16 == 0) {
-                    same(levelspruce_packet_write((first + frame / 16) % 256, port == 0 ? LEVELSPRUCE_WORD_NORM : LEVELSPRUCE_WORD_EOS, 0,
-                                                  below(256), below(2), port, below(LEVELSPRUCE_RESERVED_MOST + 1ul), sent[port], PACKET)
-                         == LEVELSPRUCE_ANSWER_DONE, "sending", i);
+                    same(levelspruce_packet_write((first + frame / 16) % 256, port == 0 ? LEVELSPRUCE_WORD_NORM : LEVELSPRUCE_WORD_EOS, 0, below(256), below(2),
+                                                  port, below(LEVELSPRUCE_RESERVED_MOST + 1ul), sent[port], PACKET)
+                             == LEVELSPRUCE_ANSWER_DONE,
+                         "sending", i);
                     /* of the nibbles outside the multiframe number */
                     if (below(16) == 0)
                         sent[port][below(8)] ^= (uint8_t)(0x10 << below(4));
@@ -131,22 +130,22 @@ static void receiving(void)
                 draw_high_bits(&now, port);
                 memcpy(before.rows, now.rows, sizeof now.rows);
                 same(levelspruce_receiver_frame(now.rows, rows, port, 0, sent[port][frame % 16], &payload, 1, now.store, sizeof now.store)
-                     == before_receiver_frame(before.rows, rows, port, 0, sent[port][frame % 16], &payload, 1, before.store,
-                                              sizeof before.store)
-                     && memcmp(&now, &before, sizeof now) == 0, "a frame", i);
+                             == before_receiver_frame(before.rows, rows, port, 0, sent[port][frame % 16], &payload, 1, before.store, sizeof before.store)
+                         && memcmp(&now, &before, sizeof now) == 0,
+                     "a frame", i);
                 draw_high_bits(&now, port);
                 memcpy(before.rows, now.rows, sizeof now.rows);
-                same(levelspruce_receiver_fetch(now.rows, rows, now.store, sizeof now.store, now.out, sizeof now.out, now.report,
-                                                sizeof now.report)
-                     == before_receiver_fetch(before.rows, rows, before.store, sizeof before.store, before.out, sizeof before.out,
-                                              before.report, sizeof before.report)
-                     && memcmp(&now, &before, sizeof now) == 0, "a fetch", i);
+                same(levelspruce_receiver_fetch(now.rows, rows, now.store, sizeof now.store, now.out, sizeof now.out, now.report, sizeof now.report)
+                             == before_receiver_fetch(before.rows, rows, before.store, sizeof before.store, before.out, sizeof before.out, before.report,
+                                                      sizeof before.report)
+                         && memcmp(&now, &before, sizeof now) == 0,
+                     "a fetch", i);
                 marks[now.report[LEVELSPRUCE_REPORT_MARK]]++;
             }
         }
     }
-    printf("as before\treceivers with any high bits beside the nibbles\tdrawn %d\tsure %ld\theld %ld\n", CASES,
-           marks[LEVELSPRUCE_MARK_SURE], marks[LEVELSPRUCE_MARK_HELD]);
+    printf("as before\treceivers with any high bits beside the nibbles\tdrawn %d\tsure %ld\theld %ld\n", CASES, marks[LEVELSPRUCE_MARK_SURE],
+           marks[LEVELSPRUCE_MARK_HELD]);
 }
 
 int main(void)

@@ -18,15 +18,16 @@ static uint8_t card_turn(int i)
     uint32_t slot = (uint32_t)i % SLOTS;
 
     return levelspruce_card_remove(card, sizeof card, G, slot) | levelspruce_card_lapse(card, sizeof card, G) | levelspruce_card_add(card, sizeof card, G, slot)
-        | levelspruce_card_report(card, sizeof card, G, 7, 0, 0) | levelspruce_card_lapse(card, sizeof card, G);
+         | levelspruce_card_report(card, sizeof card, G, 7, 0, 0) | levelspruce_card_lapse(card, sizeof card, G);
 }
 
 static uint8_t sender_turn(int i)
 {
     uint32_t slot = (uint32_t)i % SLOTS;
 
-    return levelspruce_sender_remove(sender, sizeof sender, slot) | levelspruce_sender_lapse(sender, sizeof sender) | levelspruce_sender_add(sender, sizeof sender, slot)
-        | levelspruce_sender_report(sender, sizeof sender, 7, 0, 0) | levelspruce_sender_lapse(sender, sizeof sender);
+    return levelspruce_sender_remove(sender, sizeof sender, slot) | levelspruce_sender_lapse(sender, sizeof sender)
+         | levelspruce_sender_add(sender, sizeof sender, slot) | levelspruce_sender_report(sender, sizeof sender, 7, 0, 0)
+         | levelspruce_sender_lapse(sender, sizeof sender);
 }
 
 static uint8_t card_epoch(int i)
@@ -106,10 +107,10 @@ static void begin(void)
 
     for (slot = 0; slot < SLOTS; slot++)
         answers |= levelspruce_card_claim(card, sizeof card, G, slot) | levelspruce_card_add(card, sizeof card, G, slot)
-            | levelspruce_sender_add(sender, sizeof sender, slot);
+                 | levelspruce_sender_add(sender, sizeof sender, slot);
     for (epoch = 0; epoch < SLOTS / 8; epoch++)
         answers |= levelspruce_card_report(card, sizeof card, G, epoch, 0, 0) | levelspruce_card_lapse(card, sizeof card, G)
-            | levelspruce_sender_report(sender, sizeof sender, epoch, 0, 0) | levelspruce_sender_lapse(sender, sizeof sender);
+                 | levelspruce_sender_report(sender, sizeof sender, epoch, 0, 0) | levelspruce_sender_lapse(sender, sizeof sender);
     if (answers != LEVELSPRUCE_ANSWER_DONE)
         exit(1);
 }

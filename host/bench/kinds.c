@@ -1,7 +1,7 @@
 /* kinds KIND PORTS P W EPOCHS [broken]: frame and fetch of a receiver of a kind, in so many epochs of steady traffic: the medians of the epochs
- * in nanoseconds a call, and the share of one processor that its real time takes. All ports are active, with no delays, and every report is sure. With 'broken' every
- * other frame of H4 has another MFI1, so that none goes the short way. Time is that for which the process had a processor.
- * host/bench/instructions counts the instructions of the same runs. Only calls that older objects have too are made.
+ * in nanoseconds a call, and the share of one processor that its real time takes. All ports are active, with no delays, and every report is sure. With 'broken'
+ * every other frame of H4 has another MFI1, so that none goes the short way. Time is that for which the process had a processor. host/bench/instructions counts
+ * the instructions of the same runs. Only calls that older objects have too are made.
  */
 #define _POSIX_C_SOURCE 200809L
 #include "levelspruce.h"
@@ -42,7 +42,7 @@ static void *memory(size_t bytes)
 /* H4's packet with its CRC bit by bit: SQ, MFI2 and the word, all else 0 */
 static void pack_h4(uint8_t *to, uint32_t epoch, uint32_t word, uint32_t sq)
 {
-    unsigned nibbles[16] = {[6] = sq / 16, [7] = sq % 16, [8] = epoch / 16, [9] = epoch % 16, [10] = word}, rest = 0;
+    unsigned nibbles[16] = { [6] = sq / 16, [7] = sq % 16, [8] = epoch / 16, [9] = epoch % 16, [10] = word }, rest = 0;
 
     for (int k = 0; k < 14; k++)
         for (int bit = 3; bit >= 0; bit--)
@@ -137,7 +137,10 @@ int main(int words, char **word)
     }
     frames = median(frame_times, epochs);
     fetched = median(fetch_times, epochs);
-    printf("%s\tports %u\tP %u\tW %u\tframe %.1f ns\tfetch %.0f ns\tshare of a processor %.4f\n", kind == VC12 ? "VC-12" : broken ? "H4, broken" : "H4", ports,
-           payload, window, frames / (by.frames * ports), fetched, (frames + fetched) / 1e9 / by.epoch_seconds);
+    printf("%s\tports %u\tP %u\tW %u\tframe %.1f ns\tfetch %.0f ns\tshare of a processor %.4f\n",
+           kind == VC12 ? "VC-12"
+           : broken     ? "H4, broken"
+                        : "H4",
+           ports, payload, window, frames / (by.frames * ports), fetched, (frames + fetched) / 1e9 / by.epoch_seconds);
     return 0;
 }

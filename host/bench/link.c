@@ -29,8 +29,8 @@ int tally_open(struct tally *t, const char *out, int doubtful)
     return 0;
 }
 
-void tally_report(struct tally *t, uint64_t epoch, const struct report *report, const uint8_t *bytes, const struct sending *sending,
-                  struct client *client, struct says *says)
+void tally_report(struct tally *t, uint64_t epoch, const struct report *report, const uint8_t *bytes, const struct sending *sending, struct client *client,
+                  struct says *says)
 {
     const struct carried *carried = comparing ? sending_carried(sending, epoch) : NULL;
 
@@ -82,7 +82,7 @@ static void measure(const char *name, char *slots, char *payload)
     static struct link l;
     static double times[ROUNDS];
     double each; /* the milliseconds of an epoch */
-    char *words[] = {"--slots", slots, "--payload", payload, "--quiet"};
+    char *words[] = { "--slots", slots, "--payload", payload, "--quiet" };
     uint64_t time = 0, epochs;
     uint32_t slot;
     struct tally before;
@@ -118,8 +118,8 @@ static void measure(const char *name, char *slots, char *payload)
     link_close(&l);
 
     each = median(times, ROUNDS) / 1e6;
-    printf("link\t%s\tW %d\tcalls %s\tepochs %lu\tepoch %.3f ms\ttimes real time %.2f\n", name, WINDOW, CALLS,
-           (unsigned long)(ROUNDS * epochs), each, 2 / each);
+    printf("link\t%s\tW %d\tcalls %s\tepochs %lu\tepoch %.3f ms\ttimes real time %.2f\n", name, WINDOW, CALLS, (unsigned long)(ROUNDS * epochs), each,
+           2 / each);
     fflush(stdout);
 }
 

@@ -59,7 +59,7 @@ int main(void)
     }
     if (memcmp(answers, all_done, sizeof answers) != 0)
         return 1;
-    printf("order\tcommands\t%d\tproved ns\t%.0f\tsingle calls ns\t%.0f\tratio to single calls\t%.2f\n", COMMANDS, median(ours, ROUNDS),
-           median(beside, ROUNDS), median(ratios, ROUNDS));
+    printf("order\tcommands\t%d\tproved ns\t%.0f\tsingle calls ns\t%.0f\tratio to single calls\t%.2f\n", COMMANDS, median(ours, ROUNDS), median(beside, ROUNDS),
+           median(ratios, ROUNDS));
     return 0;
 }

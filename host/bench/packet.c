@@ -23,19 +23,19 @@ static const struct form {
     call *read;
     calls *read_many;
 } forms[] = {
-    {"proved", levelspruce_packet_read, NULL},
+    { "proved", levelspruce_packet_read, NULL },
 #ifdef MANY
-    {"proved, 64 in a call", NULL, bench_packets_read},
+    { "proved, 64 in a call", NULL, bench_packets_read },
 #endif
 #ifdef BEFORE
-    {"before", before_packet_read, NULL},
+    { "before", before_packet_read, NULL },
 #endif
-    {"Rust bit by bit", rust_bits_read, NULL},
-    {"gcc", gcc_read, NULL},
+    { "Rust bit by bit", rust_bits_read, NULL },
+    { "gcc", gcc_read, NULL },
 #ifdef CLANG
-    {"clang", clang_read, NULL},
+    { "clang", clang_read, NULL },
 #endif
-    {"the reference in Rust", rust_read, NULL},
+    { "the reference in Rust", rust_read, NULL },
 };
 
 #ifdef MANY
@@ -95,13 +95,13 @@ static void measure(const char *which, uint8_t answer)
 
 int main(void)
 {
-    static const uint32_t words[] = {LEVELSPRUCE_WORD_ADD, LEVELSPRUCE_WORD_NORM, LEVELSPRUCE_WORD_EOS, LEVELSPRUCE_WORD_IDLE,
-                                     LEVELSPRUCE_WORD_DNU};
+    static const uint32_t words[] = { LEVELSPRUCE_WORD_ADD, LEVELSPRUCE_WORD_NORM, LEVELSPRUCE_WORD_EOS, LEVELSPRUCE_WORD_IDLE, LEVELSPRUCE_WORD_DNU };
     uint32_t seed = 1;
     for (int i = 0; i < PACKETS; i++) {
         seed = seed * 1664525 + 1013904223;
         if (levelspruce_packet_write(seed >> 24, words[(seed >> 8) % 5], seed >> 23 & 1, seed >> 15 & 0xFF, seed >> 22 & 1, i % 256,
-                                     seed % (LEVELSPRUCE_RESERVED_MOST + 1), packets[i], sizeof packets[i]) != 0)
+                                     seed % (LEVELSPRUCE_RESERVED_MOST + 1), packets[i], sizeof packets[i])
+            != 0)
             return 1;
     }
     measure("as written", LEVELSPRUCE_ANSWER_DONE);

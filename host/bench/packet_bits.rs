@@ -29,11 +29,8 @@ fn read(h4: &[u8], fields: &mut [u8]) -> u8 {
         1 | 2 | 3 | 5 | 15 => {}
         _ => return 6,
     }
-    let reserved = u32::from(h4[2] >> 5) << 23
-        | u32::from(two(h4, 3)) << 15
-        | u32::from(h4[5] >> 4) << 11
-        | u32::from(h4[11] >> 5) << 8
-        | u32::from(two(h4, 12));
+    let reserved =
+        u32::from(h4[2] >> 5) << 23 | u32::from(two(h4, 3)) << 15 | u32::from(h4[5] >> 4) << 11 | u32::from(h4[11] >> 5) << 8 | u32::from(two(h4, 12));
     fields[..6].copy_from_slice(&[two(h4, 8), word, h4[11] >> 4 & 1, two(h4, 0), h4[2] >> 4 & 1, two(h4, 6)]);
     fields[6..].copy_from_slice(&reserved.to_be_bytes());
     0

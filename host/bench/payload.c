@@ -33,12 +33,12 @@ struct form {
 };
 
 static const struct form forms[] = {
-    {"proved", levelspruce_spread, levelspruce_join},
-    {"gcc", gcc_spread, gcc_join},
+    { "proved", levelspruce_spread, levelspruce_join },
+    { "gcc", gcc_spread, gcc_join },
 #ifdef CLANG
-    {"clang", clang_spread, clang_join},
+    { "clang", clang_spread, clang_join },
 #endif
-    {"memcpy", by_memcpy, by_memcpy}, /* the last: for X of 1 alone */
+    { "memcpy", by_memcpy, by_memcpy }, /* the last: for X of 1 alone */
 };
 
 enum { FORMS = sizeof forms / sizeof *forms, ROUNDS = 101, MOST = 64 * 2340, BYTES_A_ROUND = 400000, BEHIND = 64, UNTOUCHED = 0xA5 };
@@ -121,7 +121,7 @@ static double measure(int join, uint32_t x, uint32_t p)
 
 int main(void)
 {
-    static const uint32_t counts[] = {1, 2, 3, 4, 5, 6, 7, 8, 16, 32, 63, 64}, payloads[] = {136, 756, 2340};
+    static const uint32_t counts[] = { 1, 2, 3, 4, 5, 6, 7, 8, 16, 32, 63, 64 }, payloads[] = { 136, 756, 2340 };
     uint32_t seed = 1;
     for (size_t i = 0; i < MOST; i++) {
         seed = seed * 1664525 + 1013904223;

@@ -18,7 +18,8 @@ static double round_of(int check, uint32_t k)
 
     for (int i = 0; i < CALLS; i++)
         if ((check ? levelspruce_paths_check(delays, LEVELSPRUCE_PATHS_MOST, k, LEVELSPRUCE_WINDOW_MOST, plan + LEVELSPRUCE_PLAN_EACH, k, accepted, 1)
-                   : levelspruce_paths_plan(delays, LEVELSPRUCE_PATHS_MOST, k, LEVELSPRUCE_WINDOW_MOST, plan, sizeof plan)) != 0)
+                   : levelspruce_paths_plan(delays, LEVELSPRUCE_PATHS_MOST, k, LEVELSPRUCE_WINDOW_MOST, plan, sizeof plan))
+            != 0)
             exit(1);
     return (now(CLOCK_MONOTONIC) - begun) / CALLS;
 }

@@ -384,9 +384,6 @@ fn main() {
     for window in [64, 2048] {
         let proved = second(Proved::start(&sent, window, 0), &sent, window);
         let fast = second(Fast::start(&sent, window, 0), &sent, window);
-        println!(
-            "one second of 64 VC-4 ports\tW {window}\tproved {proved:.2} of a processor\tfast {fast:.2} of a processor\tto fast {:.2}",
-            proved / fast
-        );
+        println!("one second of 64 VC-4 ports\tW {window}\tproved {proved:.2} of a processor\tfast {fast:.2} of a processor\tto fast {:.2}", proved / fast);
     }
 }

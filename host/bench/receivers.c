@@ -49,7 +49,7 @@ static void find(void *from, const char *name, void *call)
 /* a packet with its CRC bit by bit: SQ, MFI2 and the word, all else 0 */
 static void pack(uint8_t *to, uint32_t epoch, uint32_t word, uint32_t sq)
 {
-    unsigned nibbles[PACKET] = {[6] = sq / 16, [7] = sq % 16, [8] = epoch / 16, [9] = epoch % 16, [10] = word}, rest = 0;
+    unsigned nibbles[PACKET] = { [6] = sq / 16, [7] = sq % 16, [8] = epoch / 16, [9] = epoch % 16, [10] = word }, rest = 0;
     for (int k = 0; k < 14; k++)
         for (int bit = 3; bit >= 0; bit--)
             rest = (rest << 1 & 0xFF) ^ ((rest >> 7 ^ nibbles[k] >> bit) & 1 ? 0x07 : 0);
@@ -82,8 +82,8 @@ static void hand(struct library *l, uint32_t from, uint32_t to, uint8_t answer)
 {
     for (uint32_t tag = from; tag < to; tag++)
         for (uint32_t port = 0; port < ports; port++)
-            if (l->frame(l->rows, row_count, port, 0, h4[(size_t)(tag % TAGS) * ports + port], sent + (size_t)port * payload, payload,
-                         l->store, store_bytes) != answer)
+            if (l->frame(l->rows, row_count, port, 0, h4[(size_t)(tag % TAGS) * ports + port], sent + (size_t)port * payload, payload, l->store, store_bytes)
+                != answer)
                 must(NULL, "the answer of a frame");
 }
 
@@ -142,7 +142,7 @@ static double clock_cost(void)
 
 static void measure(void)
 {
-    static const char *what[CALLS] = {"frame", "fetch", "none due"};
+    static const char *what[CALLS] = { "frame", "fetch", "none due" };
     double cost = clock_cost();
     int warm = (int)(window / EPOCH / EPOCHS + 1); /* the first time round brings the store into memory */
     row_count = LEVELSPRUCE_RECEIVER_ROWS(ports);
@@ -183,9 +183,9 @@ static void measure(void)
 int main(int words, char **word)
 {
     static const uint32_t sizes[][3] = {
-        {1, 756, 64},  {1, 756, 2048},  {2, 756, 64},  {8, 756, 64},  {8, 756, 2048},  {64, 756, 64},  {64, 756, 2048},
-        {1, 2340, 64}, {1, 2340, 2048}, {8, 2340, 64}, {8, 2340, 2048}, {64, 2340, 64}, {64, 2340, 2048},
-        {1, 136, 64},  {8, 136, 64},    {64, 136, 64}, {64, 1, 64},
+        { 1, 756, 64 },     { 1, 756, 2048 }, { 2, 756, 64 },    { 8, 756, 64 },  { 8, 756, 2048 },  { 64, 756, 64 },
+        { 64, 756, 2048 },  { 1, 2340, 64 },  { 1, 2340, 2048 }, { 8, 2340, 64 }, { 8, 2340, 2048 }, { 64, 2340, 64 },
+        { 64, 2340, 2048 }, { 1, 136, 64 },   { 8, 136, 64 },    { 64, 136, 64 }, { 64, 1, 64 },
     };
     if (words < 3 || words - 2 > MOST || (rounds = atoi(word[1])) < 1)
         must(NULL, "receivers ROUNDS LIBRARY..");

@@ -71,7 +71,7 @@ INSIDE size_t join_three(size_t p, const uint8_t *m, uint8_t *f)
     const sixteen first = _mm_set_epi32(0, 0xffffff, 0, 0xffffff), second = _mm_set_epi32(0xffffff, 0, 0xffffff, 0);
     size_t j = 0;
     for (; j + 17 <= p; j += 16) {
-        sixteen v[4] = {load(m + j), load(m + p + j), load(m + 2 * p + j), load(m + p + j)};
+        sixteen v[4] = { load(m + j), load(m + p + j), load(m + 2 * p + j), load(m + p + j) };
         shuffle(v, 2, 2);
         for (size_t k = 0; k < 4; k++) {
             sixteen pair = _mm_or_si128(_mm_and_si128(v[k], first), _mm_srli_epi64(_mm_and_si128(v[k], second), 8));

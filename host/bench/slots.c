@@ -29,7 +29,8 @@ int main(int words, char **word)
     for (slot = 0; slot < SLOTS; slot++)
         must(levelspruce_sender_add(sender, sizeof sender, slot) == 0, "the answer of an add");
     for (uint32_t epoch = 0; epoch < EPOCHS; epoch++) /* each report says that all is well, and turns RS-Ack */
-        must(levelspruce_sender_report(sender, sizeof sender, epoch, 0, epoch % 2) == 0 && levelspruce_sender_start_epoch(sender, sizeof sender, 0, 0xFF, 0) == 0,
+        must(levelspruce_sender_report(sender, sizeof sender, epoch, 0, epoch % 2) == 0
+                 && levelspruce_sender_start_epoch(sender, sizeof sender, 0, 0xFF, 0) == 0,
              "the answer of a report or of an epoch's start");
     must(levelspruce_sender_ranks(sender, sizeof sender, ranks, sizeof ranks) == 0 && ranks[LEVELSPRUCE_RANKS_X] == SLOTS, "64 active slots");
     frame = malloc((size_t)SLOTS * payload), alone = malloc((size_t)SLOTS * payload), spread = malloc((size_t)SLOTS * payload);

@@ -45,8 +45,7 @@ static int compared(size_t bl, size_t al, size_t cl)
     lend(&changes, NULL, 0);
     remember(&before);
     remember(&after);
-    answer = levelspruce_board_changes(bl ? lent_bytes(&before) : NULL, bl, al ? lent_bytes(&after) : NULL, al,
-                                       cl ? lent_bytes(&changes) : NULL, cl);
+    answer = levelspruce_board_changes(bl ? lent_bytes(&before) : NULL, bl, al ? lent_bytes(&after) : NULL, al, cl ? lent_bytes(&changes) : NULL, cl);
     return untouched(&before) && untouched(&after) && stands(&changes, answer == 0 ? cl : 0) ? answer : -1;
 }
 
@@ -143,8 +142,7 @@ static void examples(void)
     check("P9's changes applied a second time", applied(BOARD, CHANGES) == 2 && same_board());
     board(&before, 2, 0, p10_before);
     board(&after, 2, 0, p10_after);
-    check("P10: a word alone", compared(BOARD, BOARD, CHANGES) == 0
-          && says("slot\t0\twas\tNORM\t0\tnow\tEOS\t0\nslot\t1\twas\tEOS\t1\tnow\tDNU\t1\n"));
+    check("P10: a word alone", compared(BOARD, BOARD, CHANGES) == 0 && says("slot\t0\twas\tNORM\t0\tnow\tEOS\t0\nslot\t1\twas\tEOS\t1\tnow\tDNU\t1\n"));
     board(&after, 2, 0, p10_before);
     check("equal boards are silent", compared(BOARD, BOARD, CHANGES) == 0 && changes_are((const uint8_t[]){ 0 }, 1) && says(""));
     board(&before, 2, 9, p10_before);
@@ -274,8 +272,9 @@ static void runs(void)
     show(&after, 0, I, 255);
     for (i = 1; i < 64; i++)
         show(&after, i, i < 63 ? N : E, (uint8_t)(i - 1));
-    check("the first of 64 is removed in four lines", runs_say("slot\t0\twas\tNORM\t0\tnow\tIDLE\t255\nslots\t1\tto\t62\twas\tNORM\t1\tto\t62\tnow\tNORM\t0\tto\t61\n"
-          "slot\t63\twas\tEOS\t63\tnow\tEOS\t62\nwait\topen\n"));
+    check("the first of 64 is removed in four lines",
+          runs_say("slot\t0\twas\tNORM\t0\tnow\tIDLE\t255\nslots\t1\tto\t62\twas\tNORM\t1\tto\t62\tnow\tNORM\t0\tto\t61\n"
+                   "slot\t63\twas\tEOS\t63\tnow\tEOS\t62\nwait\topen\n"));
     check("and a whole board is told so", whole_says("slots\t0\tto\t62\tNORM\t0\tto\t62\nslot\t63\tEOS\t63\nwait\t0\n"));
     carrying(&before, 6);
     carrying(&after, 6);

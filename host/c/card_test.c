@@ -17,11 +17,14 @@ enum { STATE = LEVELSPRUCE_CARD_BYTES, SENDER = LEVELSPRUCE_SENDER_BYTES, ROW = 
 enum { A = LEVELSPRUCE_WORD_ADD, N = LEVELSPRUCE_WORD_NORM, E = LEVELSPRUCE_WORD_EOS, I = LEVELSPRUCE_WORD_IDLE };
 enum { START, CLAIM, RELEASE, ADD, REMOVE, REPORT, LAPSE, EPOCH, PACKET, PAYLOAD, BOARD, GOING, RANKS, OWNED, CALLS };
 
-static const char *const call_name[CALLS] = { "start", "claim", "release", "add", "remove", "report", "lapse", "start of an epoch", "packet",
-                                              "payload", "board", "board going", "ranks", "owned" };
+static const char *const call_name[CALLS] = { "start",  "claim",   "release", "add",         "remove", "report", "lapse", "start of an epoch",
+                                              "packet", "payload", "board",   "board going", "ranks",  "owned" };
 
-static const size_t result_bytes[CALLS] = { [PACKET] = LEVELSPRUCE_PACKET_BYTES, [BOARD] = LEVELSPRUCE_BOARD_BYTES, [GOING] = LEVELSPRUCE_BOARD_BYTES,
-                                            [RANKS] = LEVELSPRUCE_RANKS_BYTES, [OWNED] = LEVELSPRUCE_OWNED_BYTES };
+static const size_t result_bytes[CALLS] = { [PACKET] = LEVELSPRUCE_PACKET_BYTES,
+                                            [BOARD] = LEVELSPRUCE_BOARD_BYTES,
+                                            [GOING] = LEVELSPRUCE_BOARD_BYTES,
+                                            [RANKS] = LEVELSPRUCE_RANKS_BYTES,
+                                            [OWNED] = LEVELSPRUCE_OWNED_BYTES };
 static const size_t wrong[] = { 0, 1, SENDER, STATE - 1, STATE + 1 };
 static const uint32_t wide[] = { 256, 257, 65537, UINT32_MAX };
 static const uint32_t no_group[] = { 2, 3, 256, UINT32_MAX };
@@ -74,7 +77,9 @@ static int ask(int which, uint32_t g, uint32_t a, uint32_t b, uint32_t c, size_t
     answer = call(which, g, a, b, c, sl, fl, ol);
     changes = which <= EPOCH && (answer == 0 || (which == START && answer == 4 && sl == STATE));
     return untouched(&frame) && stands(&out, which > EPOCH && answer == 0 ? ol : 0) && stands(&state, changes ? STATE : 0)
-        && (which == START || !changes || part_stands(1 - g)) ? answer : -1;
+                && (which == START || !changes || part_stands(1 - g))
+             ? answer
+             : -1;
 }
 
 /* With right lengths; payload takes a slot, P and X. */
@@ -92,8 +97,8 @@ static int joined(uint32_t g, uint32_t slot)
 /* A card of four slots: the first two are active in group 0, the last two in group 1, and no wait is open. */
 static int active(void)
 {
-    return done(START, 4, 0, 0, 0) && joined(0, 0) && joined(1, 2) && joined(0, 1) && joined(1, 3) && done(REPORT, 0, 0, 0, 0)
-        && done(REPORT, 1, 0, 0, 0) && done(LAPSE, 0, 0, 0, 0) && done(LAPSE, 1, 0, 0, 0);
+    return done(START, 4, 0, 0, 0) && joined(0, 0) && joined(1, 2) && joined(0, 1) && joined(1, 3) && done(REPORT, 0, 0, 0, 0) && done(REPORT, 1, 0, 0, 0)
+        && done(LAPSE, 0, 0, 0, 0) && done(LAPSE, 1, 0, 0, 0);
 }
 
 static int board_is(int which, uint32_t g, int count, int wait, const uint8_t *rows)
@@ -118,8 +123,8 @@ static int owns(uint32_t g, int count, const uint8_t *each)
 
 static int empties(uint32_t count)
 {
-    return active() && say(START, count, 256, 256, 0) == 4 && say(CLAIM, 0, 0, 0, 0) == 1 && say(CLAIM, 1, 0, 0, 0) == 1
-        && board_is(BOARD, 0, 0, 0, NULL) && board_is(BOARD, 1, 0, 0, NULL);
+    return active() && say(START, count, 256, 256, 0) == 4 && say(CLAIM, 0, 0, 0, 0) == 1 && say(CLAIM, 1, 0, 0, 0) == 1 && board_is(BOARD, 0, 0, 0, NULL)
+        && board_is(BOARD, 1, 0, 0, NULL);
 }
 
 static void starting(void)
@@ -130,7 +135,7 @@ static void starting(void)
 
     for (i = 0; i < COUNT(wrong); i++)
         lengths = lengths && ask(START, 0, 256, 0, 0, wrong[i], 0, 0) == 4 && ask(START, 65, 0, 0, 0, wrong[i], 0, 0) == 4
-            && ask(START, 2, 0, 0, 0, wrong[i], 0, 0) == 9 && ask(START, 2, 256, 256, 0, wrong[i], 0, 0) == 9;
+               && ask(START, 2, 0, 0, 0, wrong[i], 0, 0) == 9 && ask(START, 2, 256, 256, 0, wrong[i], 0, 0) == 9;
     for (i = 0; i < COUNT(wide); i++) {
         eight = eight && say(START, 2, wide[i], 0, 0) == 8 && say(START, 2, 0, wide[i], 0) == 8;
         empty = empty && empties(wide[i]);
@@ -139,9 +144,10 @@ static void starting(void)
     check("start answers 9 for a wrong length, after 4 and before 8", lengths);
     check("start answers 8 for either first epoch above 255", eight);
     check("1 and 64 slots start, IDLE and unowned in both groups", done(START, 1, 255, 0, 0) && board_is(BOARD, 0, 1, 0, BYTES(I, 255))
-          && board_is(GOING, 1, 1, 0, BYTES(I, 255)) && owns(0, 1, BYTES(0)) && owns(1, 1, BYTES(0)) && done(START, 64, 0, 0, 0) && joined(1, 63));
+                                                                       && board_is(GOING, 1, 1, 0, BYTES(I, 255)) && owns(0, 1, BYTES(0))
+                                                                       && owns(1, 1, BYTES(0)) && done(START, 64, 0, 0, 0) && joined(1, 63));
     check("each group has its own first epoch", done(START, 2, 7, 200, 0) && done(RANKS, 0, 0, 0, 0) && out.now[GUARD + LEVELSPRUCE_RANKS_EPOCH] == 7
-          && done(RANKS, 1, 0, 0, 0) && out.now[GUARD + LEVELSPRUCE_RANKS_EPOCH] == 200);
+                                                    && done(RANKS, 1, 0, 0, 0) && out.now[GUARD + LEVELSPRUCE_RANKS_EPOCH] == 200);
     empty = done(START, 3, 9, 8, 0);
     memcpy(first, lent_bytes(&state), STATE);
     noise(lent_bytes(&state), STATE, 77);
@@ -162,7 +168,7 @@ static void first_tests(void)
                 && ask(which, 2, UINT32_MAX, UINT32_MAX, UINT32_MAX, wrong[i], 0, 0) == 9;
         for (i = 0; i < COUNT(no_group); i++)
             one = one && ask(which, no_group[i], 0, 1, 0, STATE, 0, which == PAYLOAD ? 1 : result_bytes[which]) == 1
-                && ask(which, no_group[i], UINT32_MAX, UINT32_MAX, UINT32_MAX, STATE, 0, 0) == 1;
+               && ask(which, no_group[i], UINT32_MAX, UINT32_MAX, UINT32_MAX, STATE, 0, 0) == 1;
         sprintf(name, "%s answers 9 for a wrong state length, before all else", call_name[which]);
         check(name, nine);
         sprintf(name, "%s answers 1 for a group other than the two, before all that follows", call_name[which]);
@@ -187,20 +193,22 @@ static void owning(void)
     for (which = CLAIM; which <= REMOVE; which++)
         far = far && done(START, 64, 0, 0, 0) && far_slots_are_1(which, 64) && done(START, 2, 0, 0, 0) && far_slots_are_1(which, 2);
     check("claim, release, add and remove answer 1 for a slot not below the count", far);
-    check("claim 0 3, claim 1 3, claim 0 3: 0 14 14", done(START, 64, 0, 0, 0) && say(CLAIM, 0, 3, 0, 0) == 0 && say(CLAIM, 1, 3, 0, 0) == 14
-          && say(CLAIM, 0, 3, 0, 0) == 14);
-    check("add 1 3 after it, and add 0 4, which is nobody's: 14", say(ADD, 1, 3, 0, 0) == 14 && say(ADD, 0, 4, 0, 0) == 14 && say(REMOVE, 1, 3, 0, 0) == 14
-          && say(REMOVE, 0, 4, 0, 0) == 14);
+    check("claim 0 3, claim 1 3, claim 0 3: 0 14 14",
+          done(START, 64, 0, 0, 0) && say(CLAIM, 0, 3, 0, 0) == 0 && say(CLAIM, 1, 3, 0, 0) == 14 && say(CLAIM, 0, 3, 0, 0) == 14);
+    check("add 1 3 after it, and add 0 4, which is nobody's: 14",
+          say(ADD, 1, 3, 0, 0) == 14 && say(ADD, 0, 4, 0, 0) == 14 && say(REMOVE, 1, 3, 0, 0) == 14 && say(REMOVE, 0, 4, 0, 0) == 14);
     check("add 0 3, release 0 3: 0 15", done(ADD, 0, 3, 0, 0) && say(RELEASE, 0, 3, 0, 0) == 15);
-    check("release answers 14 for the other's slot, used or not, and for nobody's", say(RELEASE, 1, 3, 0, 0) == 14 && say(RELEASE, 0, 4, 0, 0) == 14
-          && done(CLAIM, 1, 5, 0, 0) && say(RELEASE, 0, 5, 0, 0) == 14);
+    check("release answers 14 for the other's slot, used or not, and for nobody's",
+          say(RELEASE, 1, 3, 0, 0) == 14 && say(RELEASE, 0, 4, 0, 0) == 14 && done(CLAIM, 1, 5, 0, 0) && say(RELEASE, 0, 5, 0, 0) == 14);
     check("release answers 15 for active and DNU", active() && say(RELEASE, 0, 0, 0, 0) == 15 && done(REPORT, 0, 0, 0xFF, 0) && say(RELEASE, 0, 0, 0, 0) == 15);
-    check("with a wait open 14 comes before 3, and 3 before 2", active() && done(REMOVE, 0, 0, 0, 0) && say(ADD, 0, 2, 0, 0) == 14 && say(REMOVE, 0, 2, 0, 0) == 14
-          && say(ADD, 0, 0, 0, 0) == 3 && say(REMOVE, 0, 0, 0, 0) == 3 && say(ADD, 0, 1, 0, 0) == 3);
+    check("with a wait open 14 comes before 3, and 3 before 2", active() && done(REMOVE, 0, 0, 0, 0) && say(ADD, 0, 2, 0, 0) == 14
+                                                                    && say(REMOVE, 0, 2, 0, 0) == 14 && say(ADD, 0, 0, 0, 0) == 3
+                                                                    && say(REMOVE, 0, 0, 0, 0) == 3 && say(ADD, 0, 1, 0, 0) == 3);
     check("neither claim nor release waits", done(RELEASE, 0, 0, 0, 0) && done(CLAIM, 0, 0, 0, 0) && done(RELEASE, 0, 0, 0, 0));
-    check("a released slot is claimed by the other, and again by the first", done(CLAIM, 1, 0, 0, 0) && say(CLAIM, 0, 0, 0, 0) == 14 && done(RELEASE, 1, 0, 0, 0)
-          && done(CLAIM, 0, 0, 0, 0));
-    check("2 is a state that does not allow it", active() && say(ADD, 0, 0, 0, 0) == 2 && done(REMOVE, 0, 0, 0, 0) && done(LAPSE, 0, 0, 0, 0) && say(REMOVE, 0, 0, 0, 0) == 2);
+    check("a released slot is claimed by the other, and again by the first",
+          done(CLAIM, 1, 0, 0, 0) && say(CLAIM, 0, 0, 0, 0) == 14 && done(RELEASE, 1, 0, 0, 0) && done(CLAIM, 0, 0, 0, 0));
+    check("2 is a state that does not allow it",
+          active() && say(ADD, 0, 0, 0, 0) == 2 && done(REMOVE, 0, 0, 0, 0) && done(LAPSE, 0, 0, 0, 0) && say(REMOVE, 0, 0, 0, 0) == 2);
     check("each group reads its own slots", active() && owns(0, 4, BYTES(1, 1, 0, 0)) && owns(1, 4, BYTES(0, 0, 1, 1)));
 }
 
@@ -214,20 +222,23 @@ static void reports(void)
         epoch = epoch && say(EPOCH, 1, wide[i], 0, 0) == 8 && say(EPOCH, 0, 0, wide[i], 0) == 8 && say(EPOCH, 1, 0, 0, wide[i]) == 8;
     }
     check("report answers 8 for a number above 255", report);
-    check("the start of an epoch answers 8 for a GID or RS-Ack above 1 or an MST above 255", epoch && say(EPOCH, 0, 2, 0, 0) == 8
-          && say(EPOCH, 1, 0, 0, 2) == 8 && done(EPOCH, 1, 1, 255, 1));
-    check("waits are each group's own", active() && done(REMOVE, 0, 0, 0, 0) && done(REMOVE, 1, 2, 0, 0) && done(LAPSE, 0, 0, 0, 0) && say(LAPSE, 0, 0, 0, 0) == 2
-          && say(ADD, 1, 2, 0, 0) == 3 && done(ADD, 0, 0, 0, 0) && done(LAPSE, 1, 0, 0, 0) && done(ADD, 1, 2, 0, 0));
+    check("the start of an epoch answers 8 for a GID or RS-Ack above 1 or an MST above 255",
+          epoch && say(EPOCH, 0, 2, 0, 0) == 8 && say(EPOCH, 1, 0, 0, 2) == 8 && done(EPOCH, 1, 1, 255, 1));
+    check("waits are each group's own", active() && done(REMOVE, 0, 0, 0, 0) && done(REMOVE, 1, 2, 0, 0) && done(LAPSE, 0, 0, 0, 0)
+                                            && say(LAPSE, 0, 0, 0, 0) == 2 && say(ADD, 1, 2, 0, 0) == 3 && done(ADD, 0, 0, 0, 0) && done(LAPSE, 1, 0, 0, 0)
+                                            && done(ADD, 1, 2, 0, 0));
 }
 
 static void examples(void)
 {
-    check("P8 in both groups, interleaved", done(START, 4, 0, 0, 0) && joined(0, 0) && joined(1, 2) && joined(1, 3) && joined(0, 1) && done(REPORT, 1, 0, 0xBF, 0)
-          && done(REPORT, 0, 0, 0xBF, 0) && say(REMOVE, 0, 0, 0, 0) == 3 && say(REMOVE, 1, 2, 0, 0) == 3
-          && board_is(BOARD, 0, 4, 1, BYTES(A, 1, E, 0, I, 255, I, 255)) && board_is(BOARD, 1, 4, 1, BYTES(I, 255, I, 255, A, 1, E, 0)));
-    check("P9 in group 0 while group 1 reports", done(START, 4, 0, 0, 0) && joined(0, 0) && joined(0, 1) && joined(1, 3) && joined(0, 2) && done(REPORT, 0, 0, 0, 0)
-          && done(REPORT, 1, 0, 0xFF, 1) && done(LAPSE, 0, 0, 0, 0) && board_is(BOARD, 0, 4, 0, BYTES(N, 0, N, 1, E, 2, I, 255)) && done(REMOVE, 0, 1, 0, 0)
-          && done(REPORT, 1, 0, 0, 1) && board_is(BOARD, 0, 4, 1, BYTES(N, 0, I, 255, E, 1, I, 255)));
+    check("P8 in both groups, interleaved", done(START, 4, 0, 0, 0) && joined(0, 0) && joined(1, 2) && joined(1, 3) && joined(0, 1)
+                                                && done(REPORT, 1, 0, 0xBF, 0) && done(REPORT, 0, 0, 0xBF, 0) && say(REMOVE, 0, 0, 0, 0) == 3
+                                                && say(REMOVE, 1, 2, 0, 0) == 3 && board_is(BOARD, 0, 4, 1, BYTES(A, 1, E, 0, I, 255, I, 255))
+                                                && board_is(BOARD, 1, 4, 1, BYTES(I, 255, I, 255, A, 1, E, 0)));
+    check("P9 in group 0 while group 1 reports", done(START, 4, 0, 0, 0) && joined(0, 0) && joined(0, 1) && joined(1, 3) && joined(0, 2)
+                                                     && done(REPORT, 0, 0, 0, 0) && done(REPORT, 1, 0, 0xFF, 1) && done(LAPSE, 0, 0, 0, 0)
+                                                     && board_is(BOARD, 0, 4, 0, BYTES(N, 0, N, 1, E, 2, I, 255)) && done(REMOVE, 0, 1, 0, 0)
+                                                     && done(REPORT, 1, 0, 0, 1) && board_is(BOARD, 0, 4, 1, BYTES(N, 0, I, 255, E, 1, I, 255)));
 }
 
 static void results(void)
@@ -238,25 +249,27 @@ static void results(void)
         nine = nine && ask(which, 0, 0, 0, 0, STATE, 0, 0) == 9 && ask(which, 1, 0, 0, 0, STATE, 0, result_bytes[which] - 1) == 9
             && ask(which, 1, 0, 0, 0, STATE, 0, result_bytes[which] + 1) == 9;
     check("boards, ranks and owned slots answer 9 for a wrong length of the result", nine);
-    check("packet and payload answer 2 before the group's first epoch, whatever the other's", done(EPOCH, 1, 0, 0, 0) && say(PACKET, 0, 0, 0, 0) == 2
-          && say(PAYLOAD, 0, 0, 3, 0) == 2 && say(PACKET, 1, 2, 0, 0) == 0);
+    check("packet and payload answer 2 before the group's first epoch, whatever the other's",
+          done(EPOCH, 1, 0, 0, 0) && say(PACKET, 0, 0, 0, 0) == 2 && say(PAYLOAD, 0, 0, 3, 0) == 2 && say(PACKET, 1, 2, 0, 0) == 0);
     for (which = 0; which < 2; which++) /* before the first epoch of group 0, and in it */
         order = order && say(PACKET, 0, 4, 0, 0) == 1 && ask(PACKET, 0, UINT32_MAX, 0, 0, STATE, 0, 0) == 1 && ask(PACKET, 0, 2, 0, 0, STATE, 0, 0) == 14
-            && ask(PACKET, 0, 0, 0, 0, STATE, 0, 0) == 9 && ask(PACKET, 0, 0, 0, 0, STATE, 0, 15) == 9 && ask(PACKET, 0, 0, 0, 0, STATE, 0, 17) == 9
-            && ask(PAYLOAD, 0, 256, 0, 0, STATE, 1, 0) == 1 && ask(PAYLOAD, 0, 2, 0, 0, STATE, 1, 0) == 14 && ask(PAYLOAD, 0, 0, 0, 0, STATE, 1, 0) == 4
-            && ask(PAYLOAD, 0, 0, 2341, 0, STATE, 1, 1) == 4 && ask(PAYLOAD, 0, 0, 3, 0, STATE, 1, 3) == 9 && ask(PAYLOAD, 0, 0, 3, 0, STATE, 0, 2) == 9
-            && done(EPOCH, 0, 1, 0xAB, 0);
+             && ask(PACKET, 0, 0, 0, 0, STATE, 0, 0) == 9 && ask(PACKET, 0, 0, 0, 0, STATE, 0, 15) == 9 && ask(PACKET, 0, 0, 0, 0, STATE, 0, 17) == 9
+             && ask(PAYLOAD, 0, 256, 0, 0, STATE, 1, 0) == 1 && ask(PAYLOAD, 0, 2, 0, 0, STATE, 1, 0) == 14 && ask(PAYLOAD, 0, 0, 0, 0, STATE, 1, 0) == 4
+             && ask(PAYLOAD, 0, 0, 2341, 0, STATE, 1, 1) == 4 && ask(PAYLOAD, 0, 0, 3, 0, STATE, 1, 3) == 9 && ask(PAYLOAD, 0, 0, 3, 0, STATE, 0, 2) == 9
+             && done(EPOCH, 0, 1, 0xAB, 0);
     check("packet and payload answer 1, 14, 4 and 9 in this order, before 2", order);
 }
 
 /* What a host has to know: the packets of an epoch are fixed at its start, and ownership changes at once. */
 static void releases(void)
 {
-    check("a slot released within an epoch stands on the board going out, and its packet is 14", active() && done(EPOCH, 0, 0, 0xFF, 0) && done(REMOVE, 0, 1, 0, 0)
-          && done(RELEASE, 0, 1, 0, 0) && board_is(GOING, 0, 4, 0, BYTES(N, 0, E, 1, I, 255, I, 255)) && board_is(BOARD, 0, 4, 1, BYTES(E, 0, I, 255, I, 255, I, 255))
-          && say(PACKET, 0, 1, 0, 0) == 14 && say(PAYLOAD, 0, 1, 3, 0) == 14 && done(PACKET, 0, 0, 0, 0));
-    check("claimed by the other it sends IDLE for it, until that group's next epoch", done(EPOCH, 1, 0, 0xFF, 0) && joined(1, 1) && done(PACKET, 1, 1, 0, 0)
-          && board_is(GOING, 1, 4, 0, BYTES(I, 255, I, 255, N, 0, E, 1)) && done(EPOCH, 1, 0, 0xFF, 0) && board_is(GOING, 1, 4, 0, BYTES(I, 255, A, 2, N, 0, E, 1)));
+    check("a slot released within an epoch stands on the board going out, and its packet is 14",
+          active() && done(EPOCH, 0, 0, 0xFF, 0) && done(REMOVE, 0, 1, 0, 0) && done(RELEASE, 0, 1, 0, 0)
+              && board_is(GOING, 0, 4, 0, BYTES(N, 0, E, 1, I, 255, I, 255)) && board_is(BOARD, 0, 4, 1, BYTES(E, 0, I, 255, I, 255, I, 255))
+              && say(PACKET, 0, 1, 0, 0) == 14 && say(PAYLOAD, 0, 1, 3, 0) == 14 && done(PACKET, 0, 0, 0, 0));
+    check("claimed by the other it sends IDLE for it, until that group's next epoch",
+          done(EPOCH, 1, 0, 0xFF, 0) && joined(1, 1) && done(PACKET, 1, 1, 0, 0) && board_is(GOING, 1, 4, 0, BYTES(I, 255, I, 255, N, 0, E, 1))
+              && done(EPOCH, 1, 0, 0xFF, 0) && board_is(GOING, 1, 4, 0, BYTES(I, 255, A, 2, N, 0, E, 1)));
 }
 
 /* What the group shows and sends is what a sender of its own does, byte by byte. */
@@ -264,9 +277,11 @@ static int same_as(const uint8_t *sender, uint32_t g, uint32_t count)
 {
     uint8_t board[LEVELSPRUCE_BOARD_BYTES], ranks[LEVELSPRUCE_RANKS_BYTES], h4[LEVELSPRUCE_PACKET_BYTES];
     uint32_t slot;
-    int held = levelspruce_sender_board(sender, SENDER, board, sizeof board) == 0 && done(BOARD, g, 0, 0, 0) && memcmp(lent_bytes(&out), board, sizeof board) == 0
-        && levelspruce_sender_board_going(sender, SENDER, board, sizeof board) == 0 && done(GOING, g, 0, 0, 0) && memcmp(lent_bytes(&out), board, sizeof board) == 0
-        && levelspruce_sender_ranks(sender, SENDER, ranks, sizeof ranks) == 0 && done(RANKS, g, 0, 0, 0) && memcmp(lent_bytes(&out), ranks, sizeof ranks) == 0;
+    int held = levelspruce_sender_board(sender, SENDER, board, sizeof board) == 0 && done(BOARD, g, 0, 0, 0)
+            && memcmp(lent_bytes(&out), board, sizeof board) == 0 && levelspruce_sender_board_going(sender, SENDER, board, sizeof board) == 0
+            && done(GOING, g, 0, 0, 0) && memcmp(lent_bytes(&out), board, sizeof board) == 0
+            && levelspruce_sender_ranks(sender, SENDER, ranks, sizeof ranks) == 0 && done(RANKS, g, 0, 0, 0)
+            && memcmp(lent_bytes(&out), ranks, sizeof ranks) == 0;
 
     for (slot = 0; held && slot < count; slot++)
         if (levelspruce_sender_packet(sender, SENDER, slot, h4, sizeof h4) == 0)
@@ -328,7 +343,8 @@ static void fetch(struct circuit *c)
     uint8_t got[LEVELSPRUCE_OUTPUT_BYTES(PORTS, P)], report[LEVELSPRUCE_REPORT_BYTES];
 
     if (levelspruce_receiver_fetch(c->rows, LEVELSPRUCE_RECEIVER_ROWS(c->ports), c->store, LEVELSPRUCE_STORE_BYTES(c->ports, P, W), got,
-                                   LEVELSPRUCE_OUTPUT_BYTES(c->ports, P), report, sizeof report) != 0)
+                                   LEVELSPRUCE_OUTPUT_BYTES(c->ports, P), report, sizeof report)
+        != 0)
         c->wrong++;
     else if (report[LEVELSPRUCE_REPORT_MARK] == LEVELSPRUCE_MARK_SURE && report[LEVELSPRUCE_REPORT_X] == c->ports
              && memcmp(got, c->sent[report[LEVELSPRUCE_REPORT_EPOCH]], LEVELSPRUCE_EPOCH_FRAMES * c->ports * P) == 0)
@@ -355,8 +371,10 @@ static int goes_out(struct circuit *c, uint32_t seed)
         for (i = 0; i < c->ports; i++) {
             uint8_t answer;
 
-            held = held && levelspruce_card_payload(lent_bytes(&state), STATE, c->group, c->slots[i], P, sent + k * x * P, (size_t)x * P, member, sizeof member) == 0;
-            answer = levelspruce_receiver_frame(c->rows, LEVELSPRUCE_RECEIVER_ROWS(c->ports), i, 0, h4[i][k], member, P, c->store, LEVELSPRUCE_STORE_BYTES(c->ports, P, W));
+            held = held
+                && levelspruce_card_payload(lent_bytes(&state), STATE, c->group, c->slots[i], P, sent + k * x * P, (size_t)x * P, member, sizeof member) == 0;
+            answer = levelspruce_receiver_frame(c->rows, LEVELSPRUCE_RECEIVER_ROWS(c->ports), i, 0, h4[i][k], member, P, c->store,
+                                                LEVELSPRUCE_STORE_BYTES(c->ports, P, W));
             held = held && (answer == LEVELSPRUCE_ANSWER_DONE || answer == LEVELSPRUCE_ANSWER_STEP);
             fetch(c);
         }
@@ -387,14 +405,16 @@ static void received(void)
         if (epoch % 3 == 0)
             held = held && goes_out(&second, epoch + 2001);
     }
-    check("two groups on one card, each received by ports for its own slots: every report is sure, with its client's bytes", held && first.wrong == 0 && second.wrong == 0
-          && first.sure >= EPOCHS - 4 && second.sure >= EPOCHS + EPOCHS / 3 - 4);
+    check("two groups on one card, each received by ports for its own slots: every report is sure, with its client's bytes",
+          held && first.wrong == 0 && second.wrong == 0 && first.sure >= EPOCHS - 4 && second.sure >= EPOCHS + EPOCHS / 3 - 4);
 }
 
 /* Each call on these bytes gives one of its answers (a bit for each number), and changes only what it may. */
 static int copes(const uint8_t *junk)
 {
-    static const unsigned answers[CALLS] = { 0x1, 0x4003, 0xC003, 0x400F, 0x400F, 0x3, 0x7, 0x3, 0x4307, 0x4017, 0x3, 0x3, 0x3, 0x3 }; /* 9 and 4 where the junk is of VC-12 */
+    static const unsigned answers[CALLS] = {
+        0x1, 0x4003, 0xC003, 0x400F, 0x400F, 0x3, 0x7, 0x3, 0x4307, 0x4017, 0x3, 0x3, 0x3, 0x3
+    }; /* 9 and 4 where the junk is of VC-12 */
     static const uint32_t slots[] = { 0, 1, 31, 63, 64, 255, UINT32_MAX };
     size_t i;
     uint32_t g;
@@ -408,8 +428,9 @@ static int copes(const uint8_t *junk)
                         memcpy(lent_bytes(&state), junk, STATE);
                     if (which == PAYLOAD && g < LEVELSPRUCE_GROUPS)
                         held = held && done(RANKS, g, 0, 0, 0);
-                    answer = which == PAYLOAD ? say(which, g, slots[i], 5, out.now[GUARD + LEVELSPRUCE_RANKS_X])
-                        : which == REPORT || which == EPOCH ? say(which, g, slots[i] & 1, 5, slots[i] & 1) : say(which, g, slots[i], 0, 0);
+                    answer = which == PAYLOAD                  ? say(which, g, slots[i], 5, out.now[GUARD + LEVELSPRUCE_RANKS_X])
+                           : which == REPORT || which == EPOCH ? say(which, g, slots[i] & 1, 5, slots[i] & 1)
+                                                               : say(which, g, slots[i], 0, 0);
                     held = held && answer >= 0 && (answers[which] >> answer & 1) && (g < LEVELSPRUCE_GROUPS || answer == 1);
                     held = held && (which < BOARD || which == OWNED || answer == 1 || out.now[GUARD] <= LEVELSPRUCE_SLOTS_MOST); /* the count comes first */
                 }
@@ -435,11 +456,11 @@ static void junk_states(void)
     check("states of any bytes are coped with", mixed);
     check("states of small bytes are coped with", small);
     memset(lent_bytes(&state), 0xFF, STATE);
-    check("an owner byte other than 1 and 2 is nobody's", owns(0, 0, NULL) && owns(1, 0, NULL) && say(PACKET, 0, 0, 0, 0) == 14 && done(CLAIM, 1, 0, 0, 0)
-          && owns(1, 1, BYTES(1)));
+    check("an owner byte other than 1 and 2 is nobody's",
+          owns(0, 0, NULL) && owns(1, 0, NULL) && say(PACKET, 0, 0, 0, 0) == 14 && done(CLAIM, 1, 0, 0, 0) && owns(1, 1, BYTES(1)));
     check("a state whose GID is no bit makes no packet", say(PACKET, 1, 0, 0, 0) == LEVELSPRUCE_ANSWER_FIELD);
-    check("a slot not below the group's own count is 1, whatever the other's", done(START, 4, 0, 0, 0) && (lent_bytes(&state)[ROW + 384] = 2) == 2
-          && say(CLAIM, 0, 2, 0, 0) == 1 && done(CLAIM, 1, 2, 0, 0));
+    check("a slot not below the group's own count is 1, whatever the other's",
+          done(START, 4, 0, 0, 0) && (lent_bytes(&state)[ROW + 384] = 2) == 2 && say(CLAIM, 0, 2, 0, 0) == 1 && done(CLAIM, 1, 2, 0, 0));
 }
 
 int main(void)

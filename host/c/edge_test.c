@@ -11,8 +11,7 @@
 
 #include "check.h"
 
-static const uint8_t p1_h4[LEVELSPRUCE_PACKET_BYTES] = { 0xF8, 0xF9, 0x0A, 0x0B, 0x0C, 0x0D, 0xFE, 0xFF,
-                                                         0x00, 0x01, 0x52, 0x03, 0x04, 0x05, 0x96, 0x97 };
+static const uint8_t p1_h4[LEVELSPRUCE_PACKET_BYTES] = { 0xF8, 0xF9, 0x0A, 0x0B, 0x0C, 0x0D, 0xFE, 0xFF, 0x00, 0x01, 0x52, 0x03, 0x04, 0x05, 0x96, 0x97 };
 static const size_t h4_lengths[] = { 0, 1, 15, 16, 17, 31, 32, 33, 64 };
 static const size_t fields_lengths[] = { 0, 1, 6, 9, 10, 11, 64 };
 static size_t page;
@@ -43,11 +42,11 @@ static int write_at_edges(uint8_t *open)
             uint8_t expected = h4_lengths[i] == LEVELSPRUCE_PACKET_BYTES ? LEVELSPRUCE_ANSWER_DONE : LEVELSPRUCE_ANSWER_LENGTH;
             uint8_t expected_vc12 = h4_lengths[i] == LEVELSPRUCE_PACKET_BYTES_VC12 ? LEVELSPRUCE_ANSWER_DONE : LEVELSPRUCE_ANSWER_LENGTH;
 
-            held = held && levelspruce_packet_write(0, LEVELSPRUCE_WORD_IDLE, 0, 255, 0, 255, 0,
-                                                    buffer_in(open, h4_lengths[i], at_end), h4_lengths[i]) == expected
+            held = held
+                && levelspruce_packet_write(0, LEVELSPRUCE_WORD_IDLE, 0, 255, 0, 255, 0, buffer_in(open, h4_lengths[i], at_end), h4_lengths[i]) == expected
                 && levelspruce_packet_write_fixed(58, 5, buffer_in(open, h4_lengths[i], at_end), h4_lengths[i]) == expected
                 && levelspruce_packet_write_vc12(0, LEVELSPRUCE_WORD_IDLE, 0, 255, 0, 63, 0, buffer_in(open, h4_lengths[i], at_end), h4_lengths[i])
-                    == expected_vc12;
+                       == expected_vc12;
         }
     return held;
 }
@@ -66,20 +65,22 @@ static int read_at_edges(uint8_t *open_h4, uint8_t *open_fields)
                 int right_vc12 = h4_lengths[i] == LEVELSPRUCE_PACKET_BYTES_VC12 && fields_lengths[j] == LEVELSPRUCE_FIELDS_BYTES;
 
                 memcpy(h4, p1_h4, h4_lengths[i] < sizeof p1_h4 ? h4_lengths[i] : sizeof p1_h4);
-                held = held && levelspruce_packet_read(h4, h4_lengths[i], fields, fields_lengths[j])
-                    == (right ? LEVELSPRUCE_ANSWER_DONE : LEVELSPRUCE_ANSWER_LENGTH);
+                held = held
+                    && levelspruce_packet_read(h4, h4_lengths[i], fields, fields_lengths[j]) == (right ? LEVELSPRUCE_ANSWER_DONE : LEVELSPRUCE_ANSWER_LENGTH);
                 /* P1 has another word than FIXED; without that it is a fixed group's packet */
-                held = held && levelspruce_packet_read_fixed(h4, h4_lengths[i], fields, fields_lengths[j])
-                    == (right ? LEVELSPRUCE_ANSWER_UNASSIGNED : LEVELSPRUCE_ANSWER_LENGTH);
+                held = held
+                    && levelspruce_packet_read_fixed(h4, h4_lengths[i], fields, fields_lengths[j])
+                           == (right ? LEVELSPRUCE_ANSWER_UNASSIGNED : LEVELSPRUCE_ANSWER_LENGTH);
                 if (h4_lengths[i] > 10)
                     h4[10] = 0;
-                held = held && levelspruce_packet_read_fixed(h4, h4_lengths[i], fields, fields_lengths[j])
-                    == (right ? LEVELSPRUCE_ANSWER_DONE : LEVELSPRUCE_ANSWER_LENGTH);
+                held = held
+                    && levelspruce_packet_read_fixed(h4, h4_lengths[i], fields, fields_lengths[j])
+                           == (right ? LEVELSPRUCE_ANSWER_DONE : LEVELSPRUCE_ANSWER_LENGTH);
                 if (right_vc12)
-                    held = held
-                        && levelspruce_packet_write_vc12(0, LEVELSPRUCE_WORD_IDLE, 0, 255, 0, 63, 0, h4, h4_lengths[i]) == LEVELSPRUCE_ANSWER_DONE;
-                held = held && levelspruce_packet_read_vc12(h4, h4_lengths[i], fields, fields_lengths[j])
-                    == (right_vc12 ? LEVELSPRUCE_ANSWER_DONE : LEVELSPRUCE_ANSWER_LENGTH);
+                    held = held && levelspruce_packet_write_vc12(0, LEVELSPRUCE_WORD_IDLE, 0, 255, 0, 63, 0, h4, h4_lengths[i]) == LEVELSPRUCE_ANSWER_DONE;
+                held = held
+                    && levelspruce_packet_read_vc12(h4, h4_lengths[i], fields, fields_lengths[j])
+                           == (right_vc12 ? LEVELSPRUCE_ANSWER_DONE : LEVELSPRUCE_ANSWER_LENGTH);
             }
     return held;
 }
@@ -103,8 +104,15 @@ static int mend_at_edges(uint8_t *open_recording, uint8_t *open_mended, uint8_t 
                 answer = levelspruce_mend(recording, length, buffer_in(open_mended, mended + more, at_end / 2 % 2), mended + more,
                                           buffer_in(open_notes, notes, at_end / 4), notes);
                 /* of five bytes the window is 1 */
-                held = held && told == (length < 5 ? LEVELSPRUCE_ANSWER_LINE : length == 5 ? LEVELSPRUCE_ANSWER_RANGE : LEVELSPRUCE_ANSWER_DONE)
-                    && answer == (told != LEVELSPRUCE_ANSWER_DONE ? told : more == 0 ? LEVELSPRUCE_ANSWER_DONE : LEVELSPRUCE_ANSWER_LENGTH);
+                held = held
+                    && told
+                           == (length < 5    ? LEVELSPRUCE_ANSWER_LINE
+                               : length == 5 ? LEVELSPRUCE_ANSWER_RANGE
+                                             : LEVELSPRUCE_ANSWER_DONE)
+                    && answer
+                           == (told != LEVELSPRUCE_ANSWER_DONE ? told
+                               : more == 0                     ? LEVELSPRUCE_ANSWER_DONE
+                                                               : LEVELSPRUCE_ANSWER_LENGTH);
             }
     return held;
 }
@@ -125,11 +133,13 @@ static int replay_at_edges(uint8_t *open_text, uint8_t *open_store, uint8_t *ope
             memcpy(text, recording, length);
             held = held
                 && levelspruce_replay_lengths(text, length, &store, &out)
-                    == (length < 5 ? LEVELSPRUCE_ANSWER_LINE : length == 5 ? LEVELSPRUCE_ANSWER_RANGE : LEVELSPRUCE_ANSWER_DONE)
+                       == (length < 5    ? LEVELSPRUCE_ANSWER_LINE
+                           : length == 5 ? LEVELSPRUCE_ANSWER_RANGE
+                                         : LEVELSPRUCE_ANSWER_DONE)
                 && levelspruce_replay_begin(state, sizeof state) == LEVELSPRUCE_ANSWER_DONE;
             while (held && !wants)
-                held = levelspruce_replay_turn(state, sizeof state, text, length, &at, 1, rows, COUNT(rows), buffer_in(open_store, store, at_end / 2 % 2), store,
-                                               buffer_in(open_out, out, at_end / 4), out, said, sizeof said, &written, &wants)
+                held = levelspruce_replay_turn(state, sizeof state, text, length, &at, 1, rows, COUNT(rows), buffer_in(open_store, store, at_end / 2 % 2),
+                                               store, buffer_in(open_out, out, at_end / 4), out, said, sizeof said, &written, &wants)
                     == LEVELSPRUCE_ANSWER_DONE;
             held = held && at == length;
         }
@@ -163,7 +173,7 @@ static int see_at_edges(uint8_t *open_state, uint8_t *open_out, uint8_t *open_st
             held = held && levelspruce_sender_start(PORTS, 0, state, LEVELSPRUCE_SENDER_BYTES) == LEVELSPRUCE_ANSWER_DONE
                 && levelspruce_sender_settings(state, LEVELSPRUCE_SENDER_BYTES, buffer_in(open_out, LEVELSPRUCE_SENDER_SETTINGS_BYTES - less, out_end),
                                                LEVELSPRUCE_SENDER_SETTINGS_BYTES - less)
-                    == expected;
+                       == expected;
         }
     return held;
 }

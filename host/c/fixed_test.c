@@ -70,8 +70,7 @@ static int read_refuses(const uint8_t *bytes, size_t h4_length, size_t fields_le
 
     lend(&h4, bytes, PACKET);
     lend(&fields, NULL, 0);
-    return levelspruce_packet_read_fixed(lent_bytes(&h4), h4_length, lent_bytes(&fields), fields_length) == answer && untouched(&h4)
-        && untouched(&fields);
+    return levelspruce_packet_read_fixed(lent_bytes(&h4), h4_length, lent_bytes(&fields), fields_length) == answer && untouched(&h4) && untouched(&fields);
 }
 
 static const size_t wrong_packet_length[] = { 0, 1, 15, 17, 64 }, wrong_fields_length[] = { 0, 1, 6, 9, 11, 16, 64 };
@@ -92,14 +91,13 @@ static void writing(void)
         }
     check("every epoch and SQ is written at its place, with zeros else, and reads back", held);
     for (i = 0; i < COUNT(too_large); i++)
-        large = large && write_refuses(too_large[i], 5, PACKET, LEVELSPRUCE_ANSWER_FIELD)
-            && write_refuses(58, too_large[i], PACKET, LEVELSPRUCE_ANSWER_FIELD) && write_refuses(too_large[i], too_large[i], PACKET, LEVELSPRUCE_ANSWER_FIELD);
+        large = large && write_refuses(too_large[i], 5, PACKET, LEVELSPRUCE_ANSWER_FIELD) && write_refuses(58, too_large[i], PACKET, LEVELSPRUCE_ANSWER_FIELD)
+             && write_refuses(too_large[i], too_large[i], PACKET, LEVELSPRUCE_ANSWER_FIELD);
     check("writing answers 8 for an epoch or SQ above 255", large);
     for (i = 0; i < COUNT(wrong_packet_length); i++)
         length = length && write_refuses(58, 5, wrong_packet_length[i], LEVELSPRUCE_ANSWER_LENGTH)
-            && write_refuses(256, 256, wrong_packet_length[i], LEVELSPRUCE_ANSWER_LENGTH);
-    check("writing answers 9 for a wrong length, before 8",
-          length && levelspruce_packet_write_fixed(0, 256, NULL, 0) == LEVELSPRUCE_ANSWER_LENGTH);
+              && write_refuses(256, 256, wrong_packet_length[i], LEVELSPRUCE_ANSWER_LENGTH);
+    check("writing answers 9 for a wrong length, before 8", length && levelspruce_packet_write_fixed(0, 256, NULL, 0) == LEVELSPRUCE_ANSWER_LENGTH);
 }
 
 static void reading(void)
@@ -138,9 +136,8 @@ static void reading(void)
         length = length && read_refuses(h4, wrong_packet_length[i], BYTES, LEVELSPRUCE_ANSWER_LENGTH);
     for (j = 0; j < COUNT(wrong_fields_length); j++)
         length = length && read_refuses(example, PACKET, wrong_fields_length[j], LEVELSPRUCE_ANSWER_LENGTH)
-            && read_refuses(h4, PACKET, wrong_fields_length[j], LEVELSPRUCE_ANSWER_LENGTH);
-    check("reading answers 9 for a wrong length, before 6",
-          length && levelspruce_packet_read_fixed(NULL, 0, NULL, 0) == LEVELSPRUCE_ANSWER_LENGTH);
+              && read_refuses(h4, PACKET, wrong_fields_length[j], LEVELSPRUCE_ANSWER_LENGTH);
+    check("reading answers 9 for a wrong length, before 6", length && levelspruce_packet_read_fixed(NULL, 0, NULL, 0) == LEVELSPRUCE_ANSWER_LENGTH);
 }
 
 static void undetected(void)
@@ -188,8 +185,9 @@ static int shown(uint32_t port, int which)
 {
     uint8_t ports[PORTS_MOST][LEVELSPRUCE_PORT_BYTES];
 
-    return levelspruce_receiver_ports((const uint8_t (*)[LEVELSPRUCE_ROW_BYTES])state, LEVELSPRUCE_RECEIVER_ROWS(count), ports, count)
-        == LEVELSPRUCE_ANSWER_DONE ? ports[port][which] : -1;
+    return levelspruce_receiver_ports((const uint8_t(*)[LEVELSPRUCE_ROW_BYTES])state, LEVELSPRUCE_RECEIVER_ROWS(count), ports, count) == LEVELSPRUCE_ANSWER_DONE
+             ? ports[port][which]
+             : -1;
 }
 
 /* Whether MST is 00 and RS-Ack 0 in every epoch. */
@@ -201,8 +199,9 @@ static int replies_nothing(void)
     for (epoch = 0; epoch < 256; epoch++) {
         uint8_t reply[LEVELSPRUCE_REPLY_BYTES] = { 0xA5, 0xA5 };
 
-        held = held && levelspruce_receiver_reply((const uint8_t (*)[LEVELSPRUCE_ROW_BYTES])state, LEVELSPRUCE_RECEIVER_ROWS(count),
-                                                  (uint8_t)epoch, reply, sizeof reply) == LEVELSPRUCE_ANSWER_DONE
+        held = held
+            && levelspruce_receiver_reply((const uint8_t(*)[LEVELSPRUCE_ROW_BYTES])state, LEVELSPRUCE_RECEIVER_ROWS(count), (uint8_t)epoch, reply, sizeof reply)
+                   == LEVELSPRUCE_ANSWER_DONE
             && reply[LEVELSPRUCE_REPLY_MST] == 0 && reply[LEVELSPRUCE_REPLY_RS_ACK] == 0;
     }
     return held;
@@ -217,25 +216,24 @@ static void starting(void)
     int held = 1;
     size_t i;
 
-    check("the kinds 0 and 2 start", starts(LEVELSPRUCE_KIND_H4, 3) == 0 && starts(LEVELSPRUCE_KIND_FIXED, 3) == 0 && LEVELSPRUCE_KIND_H4 == 0
-          && LEVELSPRUCE_KIND_FIXED == 2);
+    check("the kinds 0 and 2 start",
+          starts(LEVELSPRUCE_KIND_H4, 3) == 0 && starts(LEVELSPRUCE_KIND_FIXED, 3) == 0 && LEVELSPRUCE_KIND_H4 == 0 && LEVELSPRUCE_KIND_FIXED == 2);
     for (i = 0; i < COUNT(others); i++) {
         held = held && starts(LEVELSPRUCE_KIND_FIXED, 2) == 0 && starts(others[i], 2) == 4
             && levelspruce_receiver_frame(state, rows, 0, 0, 0, nothing, P, store, bytes) == 1
-            && levelspruce_receiver_ports((const uint8_t (*)[LEVELSPRUCE_ROW_BYTES])state, rows, NULL, 0) == 0;
+            && levelspruce_receiver_ports((const uint8_t(*)[LEVELSPRUCE_ROW_BYTES])state, rows, NULL, 0) == 0;
         held = held && starts_with(others[i], 2, P, W, bytes + 1, rows + 1) == 4;
     }
     check("any other kind is 4, before 9, and leaves an empty group", held);
     check("a fixed group is answered 4 and 9 as any other",
           starts(2, 0) == 4 && starts(2, 65) == 4 && starts_with(2, 2, 0, W, bytes, rows) == 4 && starts_with(2, 2, 2341, W, bytes, rows) == 4
-          && starts_with(2, 2, P, 15, bytes, rows) == 4 && starts_with(2, 2, P, 2049, bytes, rows) == 4 && starts_with(2, 2, P, W, bytes - 1, rows) == 9
-          && starts_with(2, 2, P, W, bytes, rows + 1) == 9
-          && levelspruce_receiver_start_as(2, 2, P, W, bytes, times, 2, times, 2, state, rows) == 0
-          && levelspruce_receiver_start_as(2, 2, P, W, bytes, times + 1, 2, NULL, 0, state, rows) == 4
-          && levelspruce_receiver_start_as(2, 2, P, W, bytes, times, 1, NULL, 0, state, rows) == 9);
+              && starts_with(2, 2, P, 15, bytes, rows) == 4 && starts_with(2, 2, P, 2049, bytes, rows) == 4 && starts_with(2, 2, P, W, bytes - 1, rows) == 9
+              && starts_with(2, 2, P, W, bytes, rows + 1) == 9 && levelspruce_receiver_start_as(2, 2, P, W, bytes, times, 2, times, 2, state, rows) == 0
+              && levelspruce_receiver_start_as(2, 2, P, W, bytes, times + 1, 2, NULL, 0, state, rows) == 4
+              && levelspruce_receiver_start_as(2, 2, P, W, bytes, times, 1, NULL, 0, state, rows) == 9);
     check("after its start all ports are IDLE with no word, and there is no reply",
           starts(2, 2) == 0 && shown(1, LEVELSPRUCE_PORT_STATE) == LEVELSPRUCE_PORT_IDLE && shown(1, LEVELSPRUCE_PORT_NUMBER) == 255
-          && shown(1, LEVELSPRUCE_PORT_WORD) == 255 && replies_nothing());
+              && shown(1, LEVELSPRUCE_PORT_WORD) == 255 && replies_nothing());
 }
 
 /* ---- groups. Frame n of the stream is sent at time n, and is frame n mod 16 of the epoch FIRST + n div 16. */
@@ -338,7 +336,8 @@ static void fetch(void)
     uint8_t report[LEVELSPRUCE_REPORT_BYTES];
 
     while (levelspruce_receiver_fetch(state, LEVELSPRUCE_RECEIVER_ROWS(count), store, LEVELSPRUCE_STORE_BYTES(count, P, W), out,
-                                      LEVELSPRUCE_OUTPUT_BYTES(count, P), report, sizeof report) == LEVELSPRUCE_ANSWER_DONE
+                                      LEVELSPRUCE_OUTPUT_BYTES(count, P), report, sizeof report)
+               == LEVELSPRUCE_ANSWER_DONE
            && report[LEVELSPRUCE_REPORT_MARK] != LEVELSPRUCE_MARK_NONE) {
         uint32_t epoch = (report[LEVELSPRUCE_REPORT_EPOCH] + 256u - FIRST) % 256, x = report[LEVELSPRUCE_REPORT_X];
         uint32_t bytes = (uint32_t)report[LEVELSPRUCE_REPORT_COUNT + 2] << 8 | report[LEVELSPRUCE_REPORT_COUNT + 3];
@@ -350,7 +349,7 @@ static void fetch(void)
         marks[epoch] = report[LEVELSPRUCE_REPORT_MARK];
         right[epoch] = marks[epoch] == SURE ? x == count && bytes == EPOCH * count * P && are_clients(epoch) : x == 0 && bytes == 0;
         right[epoch] = right[epoch] && (report[LEVELSPRUCE_REPORT_CAUSE] == LEVELSPRUCE_CAUSE_NONE) == (marks[epoch] == SURE)
-            && report[LEVELSPRUCE_REPORT_CAUSE] != LEVELSPRUCE_CAUSE_GID && report[LEVELSPRUCE_REPORT_CAUSE] != LEVELSPRUCE_CAUSE_EOS;
+                    && report[LEVELSPRUCE_REPORT_CAUSE] != LEVELSPRUCE_CAUSE_GID && report[LEVELSPRUCE_REPORT_CAUSE] != LEVELSPRUCE_CAUSE_EOS;
         reported++;
         silent = silent && (reported % 8 != 1 || replies_nothing());
     }
@@ -441,7 +440,7 @@ static void orders(void)
         all = all && run_is(SURE);
         for (port = 0; port < sizes[i]; port++)
             named = named && shown(port, LEVELSPRUCE_PORT_STATE) == LEVELSPRUCE_PORT_OK && shown(port, LEVELSPRUCE_PORT_NUMBER) == (int)number[port]
-                && shown(port, LEVELSPRUCE_PORT_WORD) == LEVELSPRUCE_WORD_FIXED;
+                 && shown(port, LEVELSPRUCE_PORT_WORD) == LEVELSPRUCE_WORD_FIXED;
     }
     check("1 to 64 ports over unequal delays are sure from the first report on", all);
     check("each port is shown OK with its number and the word 0", named);
@@ -513,13 +512,12 @@ static void losses(void)
         run(3, &dark, 1);
         held = held && silent && all_are(first_reported, 12, SURE) && all_are(12, 26, HELD);
         failed = failed && shown(port, LEVELSPRUCE_PORT_STATE) == LEVELSPRUCE_PORT_FAIL && shown(port, LEVELSPRUCE_PORT_FAILED) == 1
-            && shown((port + 1) % 3, LEVELSPRUCE_PORT_STATE) == LEVELSPRUCE_PORT_OK;
+              && shown((port + 1) % 3, LEVELSPRUCE_PORT_STATE) == LEVELSPRUCE_PORT_OK;
     }
     check("one dark port holds every report, whatever number it has, and none is doubtful", held);
     check("it alone is FAIL", failed);
     run(3, &odd, 1);
-    check("two packets in a row with another MFI2 cost the port its step, and it comes back", marks[13] == HELD && marks[15] == HELD
-          && all_are(22, 26, SURE));
+    check("two packets in a row with another MFI2 cost the port its step, and it comes back", marks[13] == HELD && marks[15] == HELD && all_are(22, 26, SURE));
     spread_delays();
 }
 
@@ -533,7 +531,7 @@ static void to_lcas(void)
     run_as(LEVELSPRUCE_KIND_H4, 3, NULL, 0);
     for (port = 0; port < 3; port++)
         readable = readable && shown(port, LEVELSPRUCE_PORT_STEP) == 1 && shown(port, LEVELSPRUCE_PORT_READABLE) == 1
-            && shown(port, LEVELSPRUCE_PORT_WORD) == 255;
+                && shown(port, LEVELSPRUCE_PORT_WORD) == 255;
     check("a receiver with LCAS has every port of a fixed group in step and readable, and holds every epoch",
           readable && reported > 10 && all_are(first_reported, TIMES / EPOCH - W / EPOCH, HELD));
 }
@@ -552,11 +550,11 @@ static void streams_of_lcas(void)
     run(2, both, 2);
     for (port = 0; port < 2; port++)
         unread = unread && shown(port, LEVELSPRUCE_PORT_WORD) == 255 && shown(port, LEVELSPRUCE_PORT_STATE) == LEVELSPRUCE_PORT_IDLE
-            && shown(port, LEVELSPRUCE_PORT_READABLE) == 1;
+              && shown(port, LEVELSPRUCE_PORT_READABLE) == 1;
     check("an LCAS stream is held in every epoch and never read", run_is(HELD) && unread);
     run(2, &norm, 1);
-    check("one LCAS port among FIXED ones holds every report", run_is(HELD) && shown(0, LEVELSPRUCE_PORT_WORD) == 255
-          && shown(1, LEVELSPRUCE_PORT_WORD) == LEVELSPRUCE_WORD_FIXED);
+    check("one LCAS port among FIXED ones holds every report",
+          run_is(HELD) && shown(0, LEVELSPRUCE_PORT_WORD) == 255 && shown(1, LEVELSPRUCE_PORT_WORD) == LEVELSPRUCE_WORD_FIXED);
 }
 
 /* A hold-off keeps the dark port OK for as many reports; the marks are the same. */
@@ -570,8 +568,9 @@ static void times(void)
     memset(marks, 0, sizeof marks);
     reported = 0;
     silent = starts(LEVELSPRUCE_KIND_FIXED, 3) == 0
-        && levelspruce_receiver_start_as(LEVELSPRUCE_KIND_FIXED, 3, P, W, LEVELSPRUCE_STORE_BYTES(3, P, W), hold_off, 3, NULL, 0, state,
-                                         LEVELSPRUCE_RECEIVER_ROWS(3)) == 0;
+          && levelspruce_receiver_start_as(LEVELSPRUCE_KIND_FIXED, 3, P, W, LEVELSPRUCE_STORE_BYTES(3, P, W), hold_off, 3, NULL, 0, state,
+                                           LEVELSPRUCE_RECEIVER_ROWS(3))
+                 == 0;
     for (time = 0; time < TIMES; time++) {
         for (port = 0; port < 3; port++) {
             uint32_t before = reported;
@@ -581,8 +580,8 @@ static void times(void)
             ok += reported > before && shown(1, LEVELSPRUCE_PORT_WAITING) == LEVELSPRUCE_WAITING_HOLD_OFF;
         }
     }
-    check("a fixed group has hold-offs, and they change no mark", ok == 3 && shown(1, LEVELSPRUCE_PORT_STATE) == LEVELSPRUCE_PORT_FAIL && silent
-          && all_are(first_reported, 12, SURE) && all_are(12, 26, HELD));
+    check("a fixed group has hold-offs, and they change no mark",
+          ok == 3 && shown(1, LEVELSPRUCE_PORT_STATE) == LEVELSPRUCE_PORT_FAIL && silent && all_are(first_reported, 12, SURE) && all_are(12, 26, HELD));
 }
 
 int main(void)

@@ -118,18 +118,18 @@ static void worked(uint32_t g)
     check("before the first epoch the board of the start goes out", begun(g, 3) && tell(g) == 0 && is(&changes, 0, 0) && told_is_going(g));
     check("commands are not told before an epoch starts",
           add(g, 0) == 0 && add(g, 1) == 0 && add(g, 2) == 0 && tell(g) == 0 && is(&changes, 0, 0) && told_is_going(g));
-    check("at its start they are", epoch(g, 0) == 0 && tell(g) == 0
-          && is(&changes, 3, 0, 0, I, 255, A, 0, 1, I, 255, A, 1, 2, I, 255, A, 2) && told_is_going(g));
+    check("at its start they are",
+          epoch(g, 0) == 0 && tell(g) == 0 && is(&changes, 3, 0, 0, I, 255, A, 0, 1, I, 255, A, 1, 2, I, 255, A, 2) && told_is_going(g));
     check("told again there is nothing", tell(g) == 0 && is(&changes, 0, 0));
     check("what comes and goes between two starts is not told",
           report(g, 0, 0, 0) == 0 && lapse(g) == 0 && away(g, 1) == 0 && lapse(g) == 0 && tell(g) == 0 && is(&changes, 0, 0) && told_is_going(g));
     check("a start that is refused fixes no board", epoch(g, 2) == 8 && tell(g) == 0 && is(&changes, 0, 0) && told_is_going(g));
     check("at the next start the list goes from the board told last",
           epoch(g, 1) == 0 && tell(g) == 0 && is(&changes, 3, 0, 0, A, 0, N, 0, 1, A, 1, I, 255, 2, A, 2, E, 1) && told_is_going(g));
-    check("a wait that opens is told with the start", away(g, 0) == 0 && epoch(g, 0) == 0 && tell(g) == 0
-          && is(&changes, 2, LEVELSPRUCE_WAIT_OPENED, 0, N, 0, I, 255, 2, E, 1, E, 0) && told_is_going(g));
+    check("a wait that opens is told with the start",
+          away(g, 0) == 0 && epoch(g, 0) == 0 && tell(g) == 0 && is(&changes, 2, LEVELSPRUCE_WAIT_OPENED, 0, N, 0, I, 255, 2, E, 1, E, 0) && told_is_going(g));
     check("starts that were missed are told by one list", lapse(g) == 0 && add(g, 1) == 0 && epoch(g, 0) == 0 && report(g, 0, 0, 0) == 0 && epoch(g, 0) == 0
-          && tell(g) == 0 && lent_bytes(&changes)[0] == 2 && told_is_going(g));
+                                                              && tell(g) == 0 && lent_bytes(&changes)[0] == 2 && told_is_going(g));
 }
 
 static void refusals(uint32_t g)
@@ -189,7 +189,8 @@ static void listener(uint32_t g)
 
     for (turn = 0; turn < 20000 && held; turn++)
         switch (draw(8)) {
-        case 0: case 1: held = add(g, draw(9)) < 15; break;
+        case 0:
+        case 1: held = add(g, draw(9)) < 15; break;
         case 2: held = away(g, draw(9)) < 15; break;
         case 3: held = report(g, draw(256), draw(256), draw(2)) == 0; break;
         case 4: held = lapse(g) < 3; break;
@@ -202,8 +203,8 @@ static void listener(uint32_t g)
                 held = going(g, fixed) == 0;
             break;
         default:
-            held = tell(g) == 0 && memcmp(lent_bytes(&told), fixed, BOARD) == 0
-                && levelspruce_board_apply(hers, BOARD, lent_bytes(&changes), CHANGES) == 0 && memcmp(hers, fixed, BOARD) == 0;
+            held = tell(g) == 0 && memcmp(lent_bytes(&told), fixed, BOARD) == 0 && levelspruce_board_apply(hers, BOARD, lent_bytes(&changes), CHANGES) == 0
+                && memcmp(hers, fixed, BOARD) == 0;
         }
     check("a listener holds the board of the last start", held);
 }

@@ -18,7 +18,7 @@ static uint8_t receiver[LEVELSPRUCE_RECEIVER_ROWS(SLOTS)][LEVELSPRUCE_ROW_BYTES]
 static uint8_t store[LEVELSPRUCE_STORE_BYTES(SLOTS, P, W)], out[LEVELSPRUCE_OUTPUT_BYTES(SLOTS, P)];
 static uint8_t sent[EPOCHS][LEVELSPRUCE_EPOCH_FRAMES * SLOTS * P];
 static size_t carried[EPOCHS]; /* the bytes of each epoch */
-static long index_of[256]; /* the last epoch that has this number at the sender or by the receiver's count */
+static long index_of[256];     /* the last epoch that has this number at the sender or by the receiver's count */
 static uint8_t ports[SLOTS][LEVELSPRUCE_PORT_BYTES], seen[SLOTS][LEVELSPRUCE_SEEN_BYTES];
 static const size_t rows = LEVELSPRUCE_RECEIVER_ROWS(SLOTS);
 
@@ -28,7 +28,7 @@ static struct {
     int marks[4];
     int sure_and_wrong;
     int alarms, empty_alarms, port_alarms; /* reports for which alarm l is raised: by its rule, by it with nobody active, and by the ports' words */
-    int sure_alarms; /* those by its rule that are not held */
+    int sure_alarms;                       /* those by its rule that are not held */
 } run;
 
 /* Where the sender restarts before an epoch, and the number of its first one then. */
@@ -146,8 +146,10 @@ static void run_both(happening *happens)
             if (epoch == restart)
                 start_sender((uint32_t)again);
             index_of[epoch % 256] = index_of[number] = epoch;
-            expect(levelspruce_receiver_reply((const uint8_t(*)[LEVELSPRUCE_ROW_BYTES])receiver, rows, (uint8_t)number, reply, sizeof reply) == LEVELSPRUCE_ANSWER_DONE);
-            expect(levelspruce_sender_report(sender, sizeof sender, number, reply[LEVELSPRUCE_REPLY_MST], reply[LEVELSPRUCE_REPLY_RS_ACK]) == LEVELSPRUCE_ANSWER_DONE);
+            expect(levelspruce_receiver_reply((const uint8_t(*)[LEVELSPRUCE_ROW_BYTES])receiver, rows, (uint8_t)number, reply, sizeof reply)
+                   == LEVELSPRUCE_ANSWER_DONE);
+            expect(levelspruce_sender_report(sender, sizeof sender, number, reply[LEVELSPRUCE_REPLY_MST], reply[LEVELSPRUCE_REPLY_RS_ACK])
+                   == LEVELSPRUCE_ANSWER_DONE);
             expect(levelspruce_sender_start_epoch(sender, sizeof sender, (uint32_t)(epoch % 3 == 0), 0xFF, 0) == LEVELSPRUCE_ANSWER_DONE);
             expect(levelspruce_sender_ranks(sender, sizeof sender, ranks, sizeof ranks) == LEVELSPRUCE_ANSWER_DONE);
             for (slot = 0; slot < SLOTS; slot++)
@@ -300,7 +302,8 @@ static int cries(uint32_t first, uint32_t second, uint32_t third)
         index_of[n] = n;
     for (n = 0; n < 12 * LEVELSPRUCE_EPOCH_FRAMES; n++)
         for (port = 0; port < SLOTS; port++) {
-            expect(levelspruce_packet_write((uint32_t)(n / LEVELSPRUCE_EPOCH_FRAMES), words[port], 0, 0xFF, 0, port, 0, h4, sizeof h4) == LEVELSPRUCE_ANSWER_DONE);
+            expect(levelspruce_packet_write((uint32_t)(n / LEVELSPRUCE_EPOCH_FRAMES), words[port], 0, 0xFF, 0, port, 0, h4, sizeof h4)
+                   == LEVELSPRUCE_ANSWER_DONE);
             hand((int)port, 0, h4[n % LEVELSPRUCE_EPOCH_FRAMES], nothing);
             fetch_all();
         }
@@ -317,8 +320,8 @@ static void check_alarm_l(void)
     check("alarm l is not raised where nothing happens", run.refused == 0 && run.alarms == 0 && run.marks[LEVELSPRUCE_MARK_SURE] > 140);
     check("it would be before a member is active, by a rule that does not ask for one", run.empty_alarms > 2);
     run_both(eos_goes_dark);
-    printf("the port with EOS goes dark\tdoubtful epochs\t%d\talarms\t%d\talarms by the ports' words\t%d\n",
-           run.marks[LEVELSPRUCE_MARK_DOUBTFUL], run.alarms, run.port_alarms);
+    printf("the port with EOS goes dark\tdoubtful epochs\t%d\talarms\t%d\talarms by the ports' words\t%d\n", run.marks[LEVELSPRUCE_MARK_DOUBTFUL], run.alarms,
+           run.port_alarms);
     check("alarm l is not raised where the port with EOS goes dark", run.refused == 0 && run.alarms == 0);
     check("it would be, by the words that ports show", run.port_alarms > 10 && run.marks[LEVELSPRUCE_MARK_DOUBTFUL] > 40);
     check("alarm l is raised where EOS is doubled", cries(NORM, EOS, EOS) && cries(EOS, NORM, EOS));
@@ -336,7 +339,8 @@ static int frames_to_step(long k)
 
     expect(levelspruce_receiver_start(SLOTS, P, W, sizeof store, receiver, rows) == LEVELSPRUCE_ANSWER_DONE);
     for (n = k; n < k + 100; n++) {
-        expect(levelspruce_packet_write((uint32_t)(n / LEVELSPRUCE_EPOCH_FRAMES), LEVELSPRUCE_WORD_IDLE, 0, 0xFF, 0, 255, 0, h4, sizeof h4) == LEVELSPRUCE_ANSWER_DONE);
+        expect(levelspruce_packet_write((uint32_t)(n / LEVELSPRUCE_EPOCH_FRAMES), LEVELSPRUCE_WORD_IDLE, 0, 0xFF, 0, 255, 0, h4, sizeof h4)
+               == LEVELSPRUCE_ANSWER_DONE);
         if (levelspruce_receiver_frame(receiver, rows, 0, 0, h4[n % LEVELSPRUCE_EPOCH_FRAMES], nothing, P, store, sizeof store) != LEVELSPRUCE_ANSWER_STEP)
             break;
     }

@@ -111,7 +111,7 @@ static int needs_lengths(void)
         lend(&notes, NULL, 0);
         held = held && untouched(&lines) && untouched(&notes)
             && levelspruce_mend(t, length, lent_bytes(&lines), told + (size_t)off[i][0], lent_bytes(&notes), noted + (size_t)off[i][1])
-                == LEVELSPRUCE_ANSWER_LENGTH
+                   == LEVELSPRUCE_ANSWER_LENGTH
             && untouched(&lines) && untouched(&notes);
     }
     return held;
@@ -199,14 +199,14 @@ int main(void)
           gives("1 1 16\n0 05 0 AB", "1 1 16\n0 05 0 AB", "") && gives("1 1 16\n0 05 0 AB\n0 0", "1 1 16\n0 05 0 AB\n", "3 line 0 0 \n"));
     check("settings alone, with an end and without", gives("1 1 16\n", "1 1 16\n", "") && gives("1 1 16", "1 1 16", ""));
     check("64 ports, each by its own lines", sixty_four());
-    check("a FIXED group is followed alike", gives("1 1 16 kind FIXED\n0 00 0 AB\n0 00 0 AB\n0 02 0 AB\n",
-                                                  "1 1 16 kind FIXED\n0 00 0 AB\n0 01 0 AB\n0 02 0 AB\n", "3 H4 00 01\n"));
+    check("a FIXED group is followed alike",
+          gives("1 1 16 kind FIXED\n0 00 0 AB\n0 00 0 AB\n0 02 0 AB\n", "1 1 16 kind FIXED\n0 00 0 AB\n0 01 0 AB\n0 02 0 AB\n", "3 H4 00 01\n"));
     check("of VC-12 a line is dropped and none restored", keeps_vc12(one) && keeps_vc12(other));
     check("lines of 8,192 and 8,193 bytes", drops_long(8192) && drops_long(8193));
     check("13: a first line that cannot be read",
           refused("x\n", 13) && refused("", 13) && refused("\n", 13) && refused("1 1 16 \n", 13) && refused("1 1 16 kind K4\n", 13));
     check("4: settings out of range", refused("65 1 16\n", 4) && refused("0 1 16\n", 4) && refused("2 1 16 hold-off 1 5001\n", 4)
-          && refused("1 135 32 kind VC12\n", 4) && refused("1 136 31 kind VC12\n", 4));
+                                          && refused("1 135 32 kind VC12\n", 4) && refused("1 136 31 kind VC12\n", 4));
     check("13 comes before 4", refused("2 1 16 hold-off 1 5001 7\n", 13));
     check("13 and 4 come before 9", refused_with("x\n", 13) && refused_with("65 1 16\n", 4));
     check("9: a length that is not the one told", needs_lengths());

@@ -23,7 +23,7 @@ static uint32_t seed = 1;
 /* The call itself; a length of 0 goes with NULL. */
 static uint8_t order(size_t state_length, size_t n, size_t answers_length)
 {
-    return levelspruce_card_order(state_length ? lent_bytes(&state) : NULL, state_length, n ? (const uint32_t (*)[WORDS])commands : NULL, n,
+    return levelspruce_card_order(state_length ? lent_bytes(&state) : NULL, state_length, n ? (const uint32_t(*)[WORDS])commands : NULL, n,
                                   answers_length ? lent_bytes(&answers) : NULL, answers_length);
 }
 
@@ -103,8 +103,10 @@ static void draw(size_t n, uint32_t slots)
 static void examples(void)
 {
     static const uint32_t six[][WORDS] = { { CLAIM, 0, 0 }, { ADD, 0, 0 }, { ADD, 0, 0 }, { REMOVE, 0, 0 }, { ADD, 0, 1 }, { CLAIM, 1, 0 } };
-    static const uint32_t trap[][WORDS] = { { CLAIM, 0, 1 }, { REMOVE, 0, 0 }, { ADD, 0, 1 }, { REMOVE, 0, 1 }, { RELEASE, 0, 0 }, { CLAIM, 1, 0 }, { ADD, 1, 0 } };
-    static const uint32_t numbers[][WORDS] = { { 4, 0, 0 }, { 4, 9, 99 }, { UINT32_MAX, 0, 0 }, { 256, 0, 0 }, { ADD, 2, 0 }, { CLAIM, 0, 2 }, { RELEASE, 0, 0 }, { CLAIM, 1, 1 }, { ADD, 1, 1 }, { RELEASE, 1, 1 } };
+    static const uint32_t trap[][WORDS] = { { CLAIM, 0, 1 },   { REMOVE, 0, 0 }, { ADD, 0, 1 }, { REMOVE, 0, 1 },
+                                            { RELEASE, 0, 0 }, { CLAIM, 1, 0 },  { ADD, 1, 0 } };
+    static const uint32_t numbers[][WORDS] = { { 4, 0, 0 },     { 4, 9, 99 },      { UINT32_MAX, 0, 0 }, { 256, 0, 0 }, { ADD, 2, 0 },
+                                               { CLAIM, 0, 2 }, { RELEASE, 0, 0 }, { CLAIM, 1, 1 },      { ADD, 1, 1 }, { RELEASE, 1, 1 } };
 
     start(2);
     check("claim 0 0, add 0 0, add 0 0, remove 0 0, add 0 1, claim 1 0", answered(six, (const uint8_t[]){ 0, 0, 2, 0, 14, 14 }, COUNT(six)));
@@ -191,8 +193,10 @@ static void against_single_calls(void)
         memcpy(whole, lent_bytes(&state), STATE);
         memcpy(numbers, lent_bytes(&answers), n);
         start(64);
-        cut &= levelspruce_card_order(lent_bytes(&state), STATE, (const uint32_t (*)[WORDS])commands, first, lent_bytes(&answers), first) == 0;
-        cut &= levelspruce_card_order(lent_bytes(&state), STATE, (const uint32_t (*)[WORDS])(commands + first), n - first, lent_bytes(&answers) + first, n - first) == 0;
+        cut &= levelspruce_card_order(lent_bytes(&state), STATE, (const uint32_t(*)[WORDS])commands, first, lent_bytes(&answers), first) == 0;
+        cut &= levelspruce_card_order(lent_bytes(&state), STATE, (const uint32_t(*)[WORDS])(commands + first), n - first, lent_bytes(&answers) + first,
+                                      n - first)
+            == 0;
         cut &= memcmp(whole, lent_bytes(&state), STATE) == 0 && memcmp(numbers, lent_bytes(&answers), n) == 0;
     }
     check("an order cut in two is the same", cut);

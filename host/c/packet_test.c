@@ -24,20 +24,16 @@ struct packet {
 static const char *const field_name[FIELDS] = { "epoch", "word", "GID", "MST", "RS-Ack", "SQ", "reserved number" };
 
 static const struct packet p1 = { { 0, LEVELSPRUCE_WORD_IDLE, 0, 255, 0, 255, 0 } };
-static const uint8_t p1_h4[PACKET] = { 0xF8, 0xF9, 0x0A, 0x0B, 0x0C, 0x0D, 0xFE, 0xFF,
-                                       0x00, 0x01, 0x52, 0x03, 0x04, 0x05, 0x96, 0x97 };
+static const uint8_t p1_h4[PACKET] = { 0xF8, 0xF9, 0x0A, 0x0B, 0x0C, 0x0D, 0xFE, 0xFF, 0x00, 0x01, 0x52, 0x03, 0x04, 0x05, 0x96, 0x97 };
 
 static const struct packet p2 = { { 1, LEVELSPRUCE_WORD_EOS, 1, 255, 0, 0, 0 } };
-static const uint8_t p2_h4[PACKET] = { 0xF8, 0xF9, 0x0A, 0x0B, 0x0C, 0x0D, 0x0E, 0x0F,
-                                       0x00, 0x11, 0x32, 0x13, 0x04, 0x05, 0xC6, 0x37 };
+static const uint8_t p2_h4[PACKET] = { 0xF8, 0xF9, 0x0A, 0x0B, 0x0C, 0x0D, 0x0E, 0x0F, 0x00, 0x11, 0x32, 0x13, 0x04, 0x05, 0xC6, 0x37 };
 
 /* One whose fields all differ. */
 static const struct packet mixed = { { 200, LEVELSPRUCE_WORD_DNU, 1, 0xA5, 1, 77, 0 } };
-static const uint8_t mixed_h4[PACKET] = { 0xA8, 0x59, 0x1A, 0x0B, 0x0C, 0x0D, 0x4E, 0xDF,
-                                          0xC0, 0x81, 0xF2, 0x13, 0x04, 0x05, 0xA6, 0x77 };
+static const uint8_t mixed_h4[PACKET] = { 0xA8, 0x59, 0x1A, 0x0B, 0x0C, 0x0D, 0x4E, 0xDF, 0xC0, 0x81, 0xF2, 0x13, 0x04, 0x05, 0xA6, 0x77 };
 
-static const uint32_t assigned[] = { LEVELSPRUCE_WORD_ADD, LEVELSPRUCE_WORD_NORM, LEVELSPRUCE_WORD_EOS,
-                                     LEVELSPRUCE_WORD_IDLE, LEVELSPRUCE_WORD_DNU };
+static const uint32_t assigned[] = { LEVELSPRUCE_WORD_ADD, LEVELSPRUCE_WORD_NORM, LEVELSPRUCE_WORD_EOS, LEVELSPRUCE_WORD_IDLE, LEVELSPRUCE_WORD_DNU };
 
 static int is_assigned(uint32_t word)
 {
@@ -54,16 +50,14 @@ static int is_assigned(uint32_t word)
 static uint8_t write_into(struct lent *h4, size_t length, const struct packet *p)
 {
     lend(h4, NULL, 0);
-    return levelspruce_packet_write(p->field[0], p->field[1], p->field[2], p->field[3], p->field[4], p->field[5],
-                                    p->field[6], lent_bytes(h4), length);
+    return levelspruce_packet_write(p->field[0], p->field[1], p->field[2], p->field[3], p->field[4], p->field[5], p->field[6], lent_bytes(h4), length);
 }
 
 static int writes(const struct packet *p, const uint8_t *expected)
 {
     struct lent h4;
 
-    return write_into(&h4, PACKET, p) == LEVELSPRUCE_ANSWER_DONE && stands(&h4, PACKET)
-        && memcmp(lent_bytes(&h4), expected, PACKET) == 0;
+    return write_into(&h4, PACKET, p) == LEVELSPRUCE_ANSWER_DONE && stands(&h4, PACKET) && memcmp(lent_bytes(&h4), expected, PACKET) == 0;
 }
 
 static int write_refuses(const struct packet *p, size_t length, uint8_t answer)
@@ -88,8 +82,7 @@ static int reads(const uint8_t *bytes, const struct packet *p)
 
     lend(&h4, bytes, PACKET);
     lend(&fields, NULL, 0);
-    held = levelspruce_packet_read(lent_bytes(&h4), PACKET, lent_bytes(&fields), BYTES) == LEVELSPRUCE_ANSWER_DONE
-        && untouched(&h4) && stands(&fields, BYTES);
+    held = levelspruce_packet_read(lent_bytes(&h4), PACKET, lent_bytes(&fields), BYTES) == LEVELSPRUCE_ANSWER_DONE && untouched(&h4) && stands(&fields, BYTES);
     for (i = 0; i < LEVELSPRUCE_FIELD_RESERVED; i++)
         held = held && lent_bytes(&fields)[i] == p->field[i];
     return held && reserved_in(lent_bytes(&fields)) == p->field[LEVELSPRUCE_FIELD_RESERVED];
@@ -101,8 +94,7 @@ static int read_refuses_lengths(const uint8_t *bytes, size_t h4_length, size_t f
 
     lend(&h4, bytes, PACKET);
     lend(&fields, NULL, 0);
-    return levelspruce_packet_read(lent_bytes(&h4), h4_length, lent_bytes(&fields), fields_length) == answer
-        && untouched(&h4) && untouched(&fields);
+    return levelspruce_packet_read(lent_bytes(&h4), h4_length, lent_bytes(&fields), fields_length) == answer && untouched(&h4) && untouched(&fields);
 }
 
 static int read_refuses(const uint8_t *bytes, uint8_t answer)
@@ -140,21 +132,26 @@ static void put_crc(uint8_t *h4, unsigned crc)
 
 /* The reserved and zero bits in the order of sending: each one's frame in the packet, and the bit of its byte. */
 enum { RESERVED_BITS = 26 };
-static const struct { int place; uint8_t bit; } reserved_place[RESERVED_BITS] = {
-    { 2, 0x80 },  { 2, 0x40 },  { 2, 0x20 },                                                  /* beside RS-Ack */
-    { 3, 0x80 },  { 3, 0x40 },  { 3, 0x20 },  { 3, 0x10 },  { 4, 0x80 },  { 4, 0x40 },  { 4, 0x20 },
-    { 4, 0x10 },  { 5, 0x80 },  { 5, 0x40 },  { 5, 0x20 },  { 5, 0x10 },                      /* MFI1 11 to 13 */
-    { 11, 0x80 }, { 11, 0x40 }, { 11, 0x20 },                                                 /* beside GID */
+static const struct {
+    int place;
+    uint8_t bit;
+} reserved_place[RESERVED_BITS] = {
+    { 2, 0x80 },  { 2, 0x40 },  { 2, 0x20 }, /* beside RS-Ack */
+    { 3, 0x80 },  { 3, 0x40 },  { 3, 0x20 },  { 3, 0x10 },  { 4, 0x80 },  { 4, 0x40 },  { 4, 0x20 },  { 4, 0x10 },
+    { 5, 0x80 },  { 5, 0x40 },  { 5, 0x20 },  { 5, 0x10 }, /* MFI1 11 to 13 */
+    { 11, 0x80 }, { 11, 0x40 }, { 11, 0x20 },              /* beside GID */
     { 12, 0x80 }, { 12, 0x40 }, { 12, 0x20 }, { 12, 0x10 }, { 13, 0x80 }, { 13, 0x40 }, { 13, 0x20 }, { 13, 0x10 },
 };
 
 /* The packet as the rules lay it out, written by hand: each field in the nibbles of its frames, then the CRC. */
 static void by_hand(uint8_t *h4, const struct packet *p)
 {
-    static const struct { int field, place, times; } nibbles[] = {
-        { LEVELSPRUCE_FIELD_MST, 0, 16 },   { LEVELSPRUCE_FIELD_MST, 1, 1 },   { LEVELSPRUCE_FIELD_RS_ACK, 2, 1 },
-        { LEVELSPRUCE_FIELD_SQ, 6, 16 },    { LEVELSPRUCE_FIELD_SQ, 7, 1 },    { LEVELSPRUCE_FIELD_EPOCH, 8, 16 },
-        { LEVELSPRUCE_FIELD_EPOCH, 9, 1 },  { LEVELSPRUCE_FIELD_WORD, 10, 1 }, { LEVELSPRUCE_FIELD_GID, 11, 1 },
+    static const struct {
+        int field, place, times;
+    } nibbles[] = {
+        { LEVELSPRUCE_FIELD_MST, 0, 16 },  { LEVELSPRUCE_FIELD_MST, 1, 1 },   { LEVELSPRUCE_FIELD_RS_ACK, 2, 1 },
+        { LEVELSPRUCE_FIELD_SQ, 6, 16 },   { LEVELSPRUCE_FIELD_SQ, 7, 1 },    { LEVELSPRUCE_FIELD_EPOCH, 8, 16 },
+        { LEVELSPRUCE_FIELD_EPOCH, 9, 1 }, { LEVELSPRUCE_FIELD_WORD, 10, 1 }, { LEVELSPRUCE_FIELD_GID, 11, 1 },
     };
     size_t i;
 
@@ -244,9 +241,23 @@ static void test_write_refuses_too_large(void)
         const uint32_t first = first_too_large[f];
         /* P2's own value under high bits that do not belong there */
         const uint32_t fits = p2.field[f];
-        const uint32_t values[] = { first, first + 1, first | fits, 256, 256 | fits, 257, 65535, 65536, 65536 | fits, 65537,
-                                    2 * 65536u, 255 * 65536u, 256 * 65536u | fits, 0x80000000u | fits, 0xFFFF0000u | fits,
-                                    0xFFFFFF00u | fits, UINT32_MAX };
+        const uint32_t values[] = { first,
+                                    first + 1,
+                                    first | fits,
+                                    256,
+                                    256 | fits,
+                                    257,
+                                    65535,
+                                    65536,
+                                    65536 | fits,
+                                    65537,
+                                    2 * 65536u,
+                                    255 * 65536u,
+                                    256 * 65536u | fits,
+                                    0x80000000u | fits,
+                                    0xFFFF0000u | fits,
+                                    0xFFFFFF00u | fits,
+                                    UINT32_MAX };
         int held = 1;
         size_t i;
         char name[80];
@@ -264,8 +275,16 @@ static void test_write_refuses_too_large(void)
 
 static void test_write_refuses_reserved_too_large(void)
 {
-    static const uint32_t values[] = { LEVELSPRUCE_RESERVED_MOST + 1u, LEVELSPRUCE_RESERVED_MOST + 2u, 0x04000001u, 0x07FFFFFFu,
-                                       0x08000000u, 0x10000000u, 0x40000000u, 0x80000000u, UINT32_MAX - 1, UINT32_MAX };
+    static const uint32_t values[] = { LEVELSPRUCE_RESERVED_MOST + 1u,
+                                       LEVELSPRUCE_RESERVED_MOST + 2u,
+                                       0x04000001u,
+                                       0x07FFFFFFu,
+                                       0x08000000u,
+                                       0x10000000u,
+                                       0x40000000u,
+                                       0x80000000u,
+                                       UINT32_MAX - 1,
+                                       UINT32_MAX };
     struct packet p = mixed;
     int held = 1;
     size_t i;
@@ -339,10 +358,9 @@ static void test_read_refuses_lengths(void)
     check("reading answers 9 before 5", order);
 
     lend(&lent, p1_h4, PACKET);
-    check("reading answers 9 for NULL with length 0",
-          levelspruce_packet_read(NULL, 0, lent_bytes(&lent), BYTES) == LEVELSPRUCE_ANSWER_LENGTH
-          && levelspruce_packet_read(lent_bytes(&lent), PACKET, NULL, 0) == LEVELSPRUCE_ANSWER_LENGTH
-          && levelspruce_packet_read(NULL, 0, NULL, 0) == LEVELSPRUCE_ANSWER_LENGTH && untouched(&lent));
+    check("reading answers 9 for NULL with length 0", levelspruce_packet_read(NULL, 0, lent_bytes(&lent), BYTES) == LEVELSPRUCE_ANSWER_LENGTH
+                                                          && levelspruce_packet_read(lent_bytes(&lent), PACKET, NULL, 0) == LEVELSPRUCE_ANSWER_LENGTH
+                                                          && levelspruce_packet_read(NULL, 0, NULL, 0) == LEVELSPRUCE_ANSWER_LENGTH && untouched(&lent));
 }
 
 static void test_read_refuses_crc(void)
@@ -507,8 +525,8 @@ static int parse_row(const char *row, struct packet *p, uint8_t *h4)
     char word[8];
     int i, at = 0, step;
 
-    if (sscanf(row, "epoch %u %7s sq %u gid %u mst %x ack %u reserved %x crc %x :%n", &epoch, word, &sq, &gid, &mst, &ack, &reserved,
-               &crc, &at) != 8 || at == 0)
+    if (sscanf(row, "epoch %u %7s sq %u gid %u mst %x ack %u reserved %x crc %x :%n", &epoch, word, &sq, &gid, &mst, &ack, &reserved, &crc, &at) != 8
+        || at == 0)
         return 0;
     for (i = 0; i < PACKET; i++, at += step) {
         if (sscanf(row + at, "%x%n", &byte, &step) != 1 || byte > 255)

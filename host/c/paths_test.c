@@ -79,7 +79,8 @@ static void checks(void)
     check("one too many is not", verdict(four, 4, 2, 36, three, 3) == 0 && verdict(four, 4, 3, 36, three, 3) == 1);
     /* beside the candidate with delay 0, so that no spread refuses it */
     for (i = 0; i < COUNT(beyond); i++)
-        held = held && verdict(four, 4, 2, 2048, (const uint8_t[]){ 0, beyond[i] }, 2) == 0 && verdict(four, 4, 2, 2048, (const uint8_t[]){ beyond[i], 0 }, 2) == 0;
+        held = held && verdict(four, 4, 2, 2048, (const uint8_t[]){ 0, beyond[i] }, 2) == 0
+            && verdict(four, 4, 2, 2048, (const uint8_t[]){ beyond[i], 0 }, 2) == 0;
     check("a number of no candidate is not", held && verdict(four, 4, 2, 20, strange, 2) == 0);
     check("a spread above W-16 is not", verdict(four, 4, 2, 99, far, 2) == 0 && verdict(four, 4, 2, 100, far, 2) == 1);
     check("neighbours are near, the ends are not", verdict(steps, 3, 3, 26, all, 3) == 0 && verdict(steps, 3, 3, 36, all, 3) == 1);
@@ -96,8 +97,8 @@ static void refusals(void)
 
     for (i = 0; i < COUNT(wide); i++)
         held = held && refused(four, 4, wide[i], 32, 65, 1, LEVELSPRUCE_ANSWER_RANGE);
-    check("k of 0 or above the candidates is 4", held && refused(four, 4, 0, 32, 65, 1, LEVELSPRUCE_ANSWER_RANGE)
-          && refused(four, 4, 5, 32, 65, 1, LEVELSPRUCE_ANSWER_RANGE));
+    check("k of 0 or above the candidates is 4",
+          held && refused(four, 4, 0, 32, 65, 1, LEVELSPRUCE_ANSWER_RANGE) && refused(four, 4, 5, 32, 65, 1, LEVELSPRUCE_ANSWER_RANGE));
     check("no candidate is 4", refused(NULL, 0, 0, 32, 65, 1, LEVELSPRUCE_ANSWER_RANGE) && refused(NULL, 0, 1, 32, 65, 1, LEVELSPRUCE_ANSWER_RANGE));
     check("65 candidates are 4, 64 are planned", refused(many, 65, 2, 32, 65, 1, LEVELSPRUCE_ANSWER_RANGE) && proposes(many, 64, 2, 16, "01"));
     for (held = 1, i = 0; i < COUNT(outside); i++)
@@ -111,9 +112,10 @@ static void refusals(void)
         }
     check("a delay above 4,095 is 4, also of a path that would not be chosen", held);
     check("another length of the result is 9", refused(four, 4, 2, 32, 64, 0, LEVELSPRUCE_ANSWER_LENGTH)
-          && refused(four, 4, 2, 32, 66, 2, LEVELSPRUCE_ANSWER_LENGTH) && refused(four, 4, 2, 32, 0, 65, LEVELSPRUCE_ANSWER_LENGTH));
+                                                   && refused(four, 4, 2, 32, 66, 2, LEVELSPRUCE_ANSWER_LENGTH)
+                                                   && refused(four, 4, 2, 32, 0, 65, LEVELSPRUCE_ANSWER_LENGTH));
     check("4 comes before 9", refused(four, 4, 0, 32, 64, 0, LEVELSPRUCE_ANSWER_RANGE) && refused(many, 65, 2, 32, 66, 2, LEVELSPRUCE_ANSWER_RANGE)
-          && refused(four, 4, 2, 15, 0, 0, LEVELSPRUCE_ANSWER_RANGE));
+                                  && refused(four, 4, 2, 15, 0, 0, LEVELSPRUCE_ANSWER_RANGE));
 }
 
 /* What is proposed is accepted; with W one less than its spread wants there is none. */

@@ -56,8 +56,7 @@ static void examples(void)
     check("P6 is spread", levelspruce_spread(3, 2, six, 6, got, 6) == LEVELSPRUCE_ANSWER_DONE && memcmp(got, spread, 6) == 0);
     check("P6 is joined", levelspruce_join(3, 2, spread, 6, got, 6) == LEVELSPRUCE_ANSWER_DONE && memcmp(got, six, 6) == 0);
     check("P7 gives nothing, with NULL for the empty buffers",
-          levelspruce_spread(0, 2, NULL, 0, NULL, 0) == LEVELSPRUCE_ANSWER_DONE
-              && levelspruce_join(0, 2, NULL, 0, NULL, 0) == LEVELSPRUCE_ANSWER_DONE);
+          levelspruce_spread(0, 2, NULL, 0, NULL, 0) == LEVELSPRUCE_ANSWER_DONE && levelspruce_join(0, 2, NULL, 0, NULL, 0) == LEVELSPRUCE_ANSWER_DONE);
 }
 
 static void refusals(void)
@@ -75,9 +74,9 @@ static void refusals(void)
     check("P of 0 or above 2,340 is 4, also with X of 0", held);
     check("4 comes before 9", refused(65, 2, 1, 0, LEVELSPRUCE_ANSWER_RANGE) && refused(3, 0, 1, 7, LEVELSPRUCE_ANSWER_RANGE));
     check("a wrong length of what is read is 9", refused(3, 2, 5, 6, LEVELSPRUCE_ANSWER_LENGTH) && refused(3, 2, 7, 6, LEVELSPRUCE_ANSWER_LENGTH)
-          && refused(3, 2, 0, 6, LEVELSPRUCE_ANSWER_LENGTH) && refused(0, 2, 1, 0, LEVELSPRUCE_ANSWER_LENGTH));
+                                                     && refused(3, 2, 0, 6, LEVELSPRUCE_ANSWER_LENGTH) && refused(0, 2, 1, 0, LEVELSPRUCE_ANSWER_LENGTH));
     check("a wrong length of what is written is 9", refused(3, 2, 6, 5, LEVELSPRUCE_ANSWER_LENGTH) && refused(3, 2, 6, 7, LEVELSPRUCE_ANSWER_LENGTH)
-          && refused(3, 2, 6, 0, LEVELSPRUCE_ANSWER_LENGTH) && refused(0, 2, 0, 1, LEVELSPRUCE_ANSWER_LENGTH));
+                                                        && refused(3, 2, 6, 0, LEVELSPRUCE_ANSWER_LENGTH) && refused(0, 2, 0, 1, LEVELSPRUCE_ANSWER_LENGTH));
 }
 
 static void frames(void)

@@ -41,15 +41,15 @@ static uint8_t *lent(struct lent *l, size_t n)
 /* The call itself; a length of 0 goes with NULL. */
 static uint8_t call(int which, struct given g)
 {
-    uint8_t (*rows)[16] = g.rows ? (uint8_t (*)[16])lent(&state, g.rows) : NULL;
+    uint8_t(*rows)[16] = g.rows ? (uint8_t(*)[16])lent(&state, g.rows) : NULL;
     uint8_t *s = lent(&store, g.store), *y = lent(&payload, g.payload), *o = lent(&out, g.out), *r = lent(&result, g.result);
 
     switch (which) {
     case START: return levelspruce_receiver_start(g.a, g.b, g.c, g.store, rows, g.rows);
     case FRAME: return levelspruce_receiver_frame(rows, g.rows, g.a, g.b, (uint8_t)g.c, y, g.payload, s, g.store);
     case FETCH: return levelspruce_receiver_fetch(rows, g.rows, s, g.store, o, g.out, r, g.result);
-    case PORTS: return levelspruce_receiver_ports((const uint8_t (*)[16])rows, g.rows, (uint8_t (*)[8])r, g.result);
-    default: return levelspruce_receiver_reply((const uint8_t (*)[16])rows, g.rows, (uint8_t)g.a, r, g.result);
+    case PORTS: return levelspruce_receiver_ports((const uint8_t(*)[16])rows, g.rows, (uint8_t(*)[8])r, g.result);
+    default: return levelspruce_receiver_reply((const uint8_t(*)[16])rows, g.rows, (uint8_t)g.a, r, g.result);
     }
 }
 
@@ -84,8 +84,10 @@ static int ask(int which, struct given g)
     remember(&result);
     answer = call(which, g);
     return untouched(&payload) && stands(&state, state_may(which, answer, g)) && stands(&store, which == FRAME && answer == 0 ? g.store : 0)
-        && stands(&out, which == FETCH && answer == 0 ? report_bytes() : 0)
-        && stands(&result, which >= FETCH && answer == 0 ? g.result * (which == PORTS ? LEVELSPRUCE_PORT_BYTES : 1) : 0) ? answer : -1;
+                && stands(&out, which == FETCH && answer == 0 ? report_bytes() : 0)
+                && stands(&result, which >= FETCH && answer == 0 ? g.result * (which == PORTS ? LEVELSPRUCE_PORT_BYTES : 1) : 0)
+             ? answer
+             : -1;
 }
 
 /* Right lengths for the group of the test. */
@@ -135,7 +137,8 @@ static uint8_t h4_of(uint32_t tag, struct source s)
 {
     uint8_t h4[LEVELSPRUCE_PACKET_BYTES];
 
-    if (levelspruce_packet_write(epoch_of(tag % TAGS), s.word % OTHER_GID, 1 - s.word / OTHER_GID, 255, 0, s.number, 0, h4, sizeof h4) != LEVELSPRUCE_ANSWER_DONE)
+    if (levelspruce_packet_write(epoch_of(tag % TAGS), s.word % OTHER_GID, 1 - s.word / OTHER_GID, 255, 0, s.number, 0, h4, sizeof h4)
+        != LEVELSPRUCE_ANSWER_DONE)
         check("a packet is written", 0);
     return h4[(tag + 8) % EPOCH];
 }
@@ -174,9 +177,8 @@ static int into_step(uint32_t port, uint32_t first)
 /* Fetches; whether the report has this mark and epoch and, if not held, this X and a byte count to go with it. Held ones are so for a refused packet. */
 static int fetched(int mark, uint32_t epoch, uint32_t x)
 {
-    return say(FETCH, 0, 0, 0) == 0 && RECORD[LEVELSPRUCE_REPORT_MARK] == mark && RECORD[LEVELSPRUCE_REPORT_EPOCH] == epoch
-        && RECORD[LEVELSPRUCE_REPORT_X] == x && report_bytes() == EPOCH * x * p
-        && RECORD[LEVELSPRUCE_REPORT_CAUSE] == (mark == HELD ? LEVELSPRUCE_CAUSE_REFUSED : LEVELSPRUCE_CAUSE_NONE);
+    return say(FETCH, 0, 0, 0) == 0 && RECORD[LEVELSPRUCE_REPORT_MARK] == mark && RECORD[LEVELSPRUCE_REPORT_EPOCH] == epoch && RECORD[LEVELSPRUCE_REPORT_X] == x
+        && report_bytes() == EPOCH * x * p && RECORD[LEVELSPRUCE_REPORT_CAUSE] == (mark == HELD ? LEVELSPRUCE_CAUSE_REFUSED : LEVELSPRUCE_CAUSE_NONE);
 }
 
 static int none_due(void)
@@ -245,15 +247,15 @@ static void starting(void)
     held = started(2, 3, 16) && starts_by(-1, 0) == 9 && starts_by(1, 0) == 9 && starts_by(-11, 0) == 9 && starts_by(0, -1) == 9 && starts_by(0, 1) == 9
         && starts_by(-1, 1) == 9 && into_step(0, 0);
     check("start answers 9 for wrong rows or a wrong store, after 4, and leaves the state", held);
-    check("1 and 64 ports, P of 1 and 2340, W of 16 and 2048 start", started(1, 1, 16) && started(64, 1, 16) && started(1, 2340, 16)
-          && started(1, 1, 2048) && started(64, 2340, 2048));
+    check("1 and 64 ports, P of 1 and 2340, W of 16 and 2048 start",
+          started(1, 1, 16) && started(64, 1, 16) && started(1, 2340, 16) && started(1, 1, 2048) && started(64, 2340, 2048));
     held = started(3, 2, 40);
     memcpy(first, lent_bytes(&state), LEVELSPRUCE_RECEIVER_ROWS(3) * LEVELSPRUCE_ROW_BYTES);
     noise(lent_bytes(&state), LENT_MOST, 77);
-    check("start writes all of state, whatever was there", held && started(3, 2, 40)
-          && memcmp(first, lent_bytes(&state), LEVELSPRUCE_RECEIVER_ROWS(3) * LEVELSPRUCE_ROW_BYTES) == 0);
-    check("after a start all ports are IDLE and nothing is due", port_is(0, 0, 255, 0, 0, 0, 0, 255) && port_is(2, 0, 255, 0, 0, 0, 0, 255)
-          && reply_is(0, 255, 0) && reply_is(255, 255, 0) && none_due());
+    check("start writes all of state, whatever was there",
+          held && started(3, 2, 40) && memcmp(first, lent_bytes(&state), LEVELSPRUCE_RECEIVER_ROWS(3) * LEVELSPRUCE_ROW_BYTES) == 0);
+    check("after a start all ports are IDLE and nothing is due",
+          port_is(0, 0, 255, 0, 0, 0, 0, 255) && port_is(2, 0, 255, 0, 0, 0, 0, 255) && reply_is(0, 255, 0) && reply_is(255, 255, 0) && none_due());
 }
 
 /* A list of times, or none. */
@@ -274,7 +276,7 @@ static int asked_as(uint32_t kind, uint32_t ports, struct times hold_off, struct
     g.store = (size_t)((long)g.store + store_bytes);
     remember(&state);
     answer = levelspruce_receiver_start_as(kind, ports, p, w, g.store, hold_off.each, hold_off.count, restore.each, restore.count,
-                                           g.rows ? (uint8_t (*)[16])lent_bytes(&state) : NULL, g.rows);
+                                           g.rows ? (uint8_t(*)[16])lent_bytes(&state) : NULL, g.rows);
     return stands(&state, state_may(START, answer, g)) ? answer : -1;
 }
 
@@ -307,8 +309,8 @@ static void starting_with_times(void)
 
     memcpy(first, lent_bytes(&state), bytes);
     noise(lent_bytes(&state), LENT_MOST, 78);
-    check("a start with empty lists is a start", held && asked_as(LEVELSPRUCE_KIND_H4, 3, none, none, 0, 0) == 0
-          && memcmp(first, lent_bytes(&state), bytes) == 0);
+    check("a start with empty lists is a start",
+          held && asked_as(LEVELSPRUCE_KIND_H4, 3, none, none, 0, 0) == 0 && memcmp(first, lent_bytes(&state), bytes) == 0);
     held = asked_as(1, 3, none, none, 0, 0) == 4 && asked_as(256, 3, three, three, 0, 0) == 4 && asked_as(UINT32_MAX, 3, none, none, 0, 0) == 4
         && asked_as(0, 0, none, none, 0, 0) == 4 && asked_as(0, 65, none, none, 0, 0) == 4 && asked_as(0, 259, three, three, 0, 0) == 4;
     check("with times it answers 4 for a kind that is not named, and for ports out of range", held);
@@ -326,8 +328,8 @@ static void starting_with_times(void)
         && asked_as(0, 3, two, three, 0, 0) == 9 && asked_as(0, 3, three, three, 1, 0) == 9 && asked_as(0, 3, three, three, -1, 0) == 9
         && asked_as(0, 3, three, none, 0, 1) == 9 && asked_as(0, 3, none, three, 0, -1) == 9 && memcmp(first, lent_bytes(&state), bytes) == 0;
     check("it answers 9 for a list of another length, wrong rows or a wrong store, and leaves the state", held && into_step(0, 0));
-    check("5,000 starts, and a list may be empty beside another", lists_give(most, 3, 0) && asked_as(0, 3, three, none, 0, 0) == 0
-          && port_is(0, 0, 255, 0, 0, 0, 0, 255) && reply_is(0, 255, 0) && none_due());
+    check("5,000 starts, and a list may be empty beside another",
+          lists_give(most, 3, 0) && asked_as(0, 3, three, none, 0, 0) == 0 && port_is(0, 0, 255, 0, 0, 0, 0, 255) && reply_is(0, 255, 0) && none_due());
 }
 
 /* The answer to a call that is right but for one length, which is off by this much. */
@@ -390,12 +392,13 @@ static void refusals(void)
     for (i = 0; i < COUNT(wide); i++)
         held = held && say(FRAME, wide[i], 0, h4_of(72, quiet)) == 1 && say(FRAME, wide[i], 1, 0) == 1;
     check("a frame of a port not below the count is answered 1, before 9 and 10", held);
-    check("a frame with wrong lengths is answered 9, before 10, 12 and 11", lengths_are_9(FRAME, 0, 1, 0) && lengths_are_9(FRAME, 0, 0, 0)
-          && lengths_are_9(FRAME, 0, 0, h4_of(72, quiet)) && hand(0, 72, quiet, 1) == 11);
-    check("fetch, ports and reply answer 9 for wrong lengths, fetch whether a report is due or not", lengths_are_9(FETCH, 0, 0, 0)
-          && lengths_are_9(PORTS, 0, 0, 0) && lengths_are_9(REPLY, 0, 0, 0) && fetched(SURE, 4, 0) && lengths_are_9(FETCH, 0, 0, 0) && none_due());
+    check("a frame with wrong lengths is answered 9, before 10, 12 and 11",
+          lengths_are_9(FRAME, 0, 1, 0) && lengths_are_9(FRAME, 0, 0, 0) && lengths_are_9(FRAME, 0, 0, h4_of(72, quiet)) && hand(0, 72, quiet, 1) == 11);
+    check("fetch, ports and reply answer 9 for wrong lengths, fetch whether a report is due or not",
+          lengths_are_9(FETCH, 0, 0, 0) && lengths_are_9(PORTS, 0, 0, 0) && lengths_are_9(REPLY, 0, 0, 0) && fetched(SURE, 4, 0)
+              && lengths_are_9(FETCH, 0, 0, 0) && none_due());
     check("a flagged frame is answered 10, before 12 and 11", full() && say(FRAME, 0, 1, h4_of(72, quiet)) == 10 && full() && say(FRAME, 0, 1, 0) == 10
-          && full() && say(FRAME, 0, UINT32_MAX, 0) == 10 && full() && say(FRAME, 0, 256, 0) == 10);
+                                                                  && full() && say(FRAME, 0, UINT32_MAX, 0) == 10 && full() && say(FRAME, 0, 256, 0) == 10);
     check("a fourth frame in a row that breaks the count is answered 12, before 11", full_after(3) && breaks(0, 72, 1, 12));
     check("a third, and a right frame after three, are answered 11", full_after(2) && breaks(0, 72, 2, 11) && full_after(3) && hand(0, 72, quiet, 1) == 11);
     check("a frame answered 11 is not counted", full_after(2) && breaks(0, 72, 5, 11) && fetched(SURE, 4, 0) && breaks(0, 72, 1, 0) && breaks(0, 73, 1, 12));
@@ -408,18 +411,18 @@ static void stepping(void)
     check("the 32nd right frame from MFI1 0 on is in step", held);
     check("P5: tag 4095 then 0 keeps step", started(1, 2, 16) && into_step(0, 4064) && hand(0, 4096, quiet, 1) == 0 && port_is(0, 0, 255, 1, 0, 1, 0, 255));
     check("P5: tag 4095 then 1 keeps step, with tag 0 counted", started(1, 2, 16) && into_step(0, 4064) && hand(0, 4097, quiet, 1) == 0
-          && port_is(0, 0, 255, 1, 0, 1, 0, 255) && hand(0, 4097, quiet, 1) == 0 && hands(0, 4098, 4104, 0) && breaks(0, 4104, 3, 0)
-          && breaks(0, 4107, 1, 12));
-    check("4095, then frames that carry 1, 2, 3, 4: 0 0 0 12", started(1, 2, 16) && into_step(0, 4064) && hands(0, 4097, 4100, 0)
-          && hand(0, 4100, quiet, 1) == 12 && port_is(0, 0, 255, 0, 0, 0, 0, 255));
+                                                                    && port_is(0, 0, 255, 1, 0, 1, 0, 255) && hand(0, 4097, quiet, 1) == 0
+                                                                    && hands(0, 4098, 4104, 0) && breaks(0, 4104, 3, 0) && breaks(0, 4107, 1, 12));
+    check("4095, then frames that carry 1, 2, 3, 4: 0 0 0 12",
+          started(1, 2, 16) && into_step(0, 4064) && hands(0, 4097, 4100, 0) && hand(0, 4100, quiet, 1) == 12 && port_is(0, 0, 255, 0, 0, 0, 0, 255));
     held = 1;
     for (i = 0; i < 16; i++) /* any three in a row, of any nibbles */
         held = held && started(1, 2, 16) && into_step(0, 0) && hands(0, 32, 32 + (uint32_t)i, 0) && breaks(0, 32 + (uint32_t)i, 3, 0)
             && hands(0, 35 + (uint32_t)i, 36 + (uint32_t)i, 0) && breaks(0, 36 + (uint32_t)i, 3, 0) && breaks(0, 39 + (uint32_t)i, 1, 12);
     check("three frames in a row that break the count keep step, and a right one sets them to none", held);
     check("coming into step is strict", started(1, 2, 16) && hands(0, 0, 31, 12) && breaks(0, 31, 1, 12) && hands(0, 32, 63, 12) && hand(0, 63, quiet, 1) == 0
-          && started(1, 2, 16) && hands(0, 0, 16, 12) && hand(0, 32, quiet, 1) == 12 && hand(0, 17, quiet, 1) == 12 && hands(0, 33, 48, 12)
-          && into_step(0, 48));
+                                            && started(1, 2, 16) && hands(0, 0, 16, 12) && hand(0, 32, quiet, 1) == 12 && hand(0, 17, quiet, 1) == 12
+                                            && hands(0, 33, 48, 12) && into_step(0, 48));
     check("a frame that breaks the count can be the first of a new 32", started(1, 2, 16) && hands(0, 0, 20, 12) && into_step(0, 160));
     held = started(1, 2, 16) && into_step(0, 0) && hands(0, 32, 33, 0);
     for (i = 0; i < 4; i++) /* own tags 33 to 36, with frames that carry 160 */
@@ -427,7 +430,7 @@ static void stepping(void)
     check("a fourth break of MFI1 0 is the first of a new 32", held && hands(0, 161, 191, 12) && hand(0, 191, quiet, 1) == 0);
     check("an earlier one is not", started(1, 2, 16) && into_step(0, 0) && hands(0, 32, 34, 0) && hand(0, 160, quiet, 1) == 0 && hands(0, 35, 40, 0));
     check("a flagged frame ends a run", started(1, 2, 16) && hands(0, 0, 31, 12) && say(FRAME, 0, 1, h4_of(31, quiet)) == 10
-          && port_is(0, 0, 255, 0, 0, 0, 1, 255) && hand(0, 31, quiet, 1) == 12 && port_is(0, 0, 255, 0, 0, 0, 0, 255));
+                                            && port_is(0, 0, 255, 0, 0, 0, 1, 255) && hand(0, 31, quiet, 1) == 12 && port_is(0, 0, 255, 0, 0, 0, 0, 255));
 }
 
 /* From an epoch's start on a port in step brings the frames of so many tags later, where one nibble of each packet that is
@@ -447,14 +450,13 @@ static int switch_loses_after(uint32_t by, unsigned damaged, uint32_t frames)
 {
     int held = started(2, 2, 16) && into_step(0, 16) && hands(0, 48, 56, 0) && kept_by_switch(0, 56, by, damaged) == frames;
 
-    return held && started(1, 2, 300) && into_step(0, 16) && hands(0, 48, 120, 0) && readable(0) == 1
-        && kept_by_switch(0, 120, by, damaged) == frames;
+    return held && started(1, 2, 300) && into_step(0, 16) && hands(0, 48, 120, 0) && readable(0) == 1 && kept_by_switch(0, 120, by, damaged) == frames;
 }
 
 static void switching(void)
 {
-    check("a switch by whole multiframes at an epoch's start: 31 frames 0, the 32nd 12", switch_loses_after(EPOCH, 0, 31)
-          && switch_loses_after(3 * EPOCH, 0, 31) && switch_loses_after(TAGS - EPOCH, 0, 31));
+    check("a switch by whole multiframes at an epoch's start: 31 frames 0, the 32nd 12",
+          switch_loses_after(EPOCH, 0, 31) && switch_loses_after(3 * EPOCH, 0, 31) && switch_loses_after(TAGS - EPOCH, 0, 31));
     check("with the first packet damaged it is lost sixteen frames later", switch_loses_after(EPOCH, 1, 47));
     check("with the second damaged two more whole packets are needed", switch_loses_after(EPOCH, 2, 63));
     check("with no switch step is kept, whatever comes damaged", switch_loses_after(0, 0, 200) && switch_loses_after(0, 0xFFF, 200));
@@ -502,25 +504,28 @@ static void other_numbers(void)
 
     check("an odd packet is one whatever its word: FIXED, unassigned", odd_with_sum(A, N, E, 7) && odd_with_sum(N, E, I, 6));
     check("a packet with the right number between two odd ones starts the row anew", started(1, 2, 300) && into_step(0, 16) && hands(0, 48, 56, 0)
-          && hands(0, 72, 88, 0) && hands(0, 72, 88, 0) && hands(0, 104, 120, 0) && hands(0, 104, 120, 0) && kept_by_switch(0, 120, EPOCH, 0) == 31);
+                                                                                         && hands(0, 72, 88, 0) && hands(0, 72, 88, 0) && hands(0, 104, 120, 0)
+                                                                                         && hands(0, 104, 120, 0) && kept_by_switch(0, 120, EPOCH, 0) == 31);
     /* own MFI1 7, carried 0: the nibble, of the CRC, is then MFI2's high one */
     last = h4_of(103, quiet) / 16 * 256u;
     check("the end of a second one, with MFI1 0, is the first of a new 32", started(1, 2, 64) && into_step(0, 16) && hands(0, 48, 56, 0) && hands(0, 72, 103, 0)
-          && hand_damaged(0, 103, quiet, 1, 7) == 12 && hands(0, last + 1, last + 31, 12) && hand(0, last + 31, quiet, 1) == 0);
+                                                                                && hand_damaged(0, 103, quiet, 1, 7) == 12 && hands(0, last + 1, last + 31, 12)
+                                                                                && hand(0, last + 31, quiet, 1) == 0);
     check("a packet with its own number tells word and number, and RS-Ack turns", one_of_epoch(0) && port_is(0, OK, 0, 1, 1, 1, 0, E) && reply_is(0, 0x7F, 1));
-    check("with another it tells neither, and the epoch that it rules is held", one_of_epoch(1) && port_is(0, 0, 255, 1, 1, 1, 0, I) && reply_is(0, 255, 0)
-          && hands(0, 104, 120, 0) && fetched(HELD, 7, 0) && port_is(0, 0, 255, 1, 1, 1, 0, I) && reply_is(0, 255, 0) && hands(0, 120, 136, 0)
-          && fetched(SURE, 8, 0));
+    check("with another it tells neither, and the epoch that it rules is held",
+          one_of_epoch(1) && port_is(0, 0, 255, 1, 1, 1, 0, I) && reply_is(0, 255, 0) && hands(0, 104, 120, 0) && fetched(HELD, 7, 0)
+              && port_is(0, 0, 255, 1, 1, 1, 0, I) && reply_is(0, 255, 0) && hands(0, 120, 136, 0) && fetched(SURE, 8, 0));
 }
 
 /* Two ports, of which the first is handed the tags from 0 on, the second those from 16 on. */
 static void beginning(void)
 {
     check("latest tags W-16 apart begin", started(2, 2, 32) && into_step(1, 16) && !readable(1) && into_step(0, 0) && readable(0) && readable(1));
-    check("latest tags W-15 apart do not begin", started(2, 2, 32) && into_step(1, 16) && hands(1, 48, 49, 0) && into_step(0, 0) && !readable(0) && !readable(1));
+    check("latest tags W-15 apart do not begin",
+          started(2, 2, 32) && into_step(1, 16) && hands(1, 48, 49, 0) && into_step(0, 0) && !readable(0) && !readable(1));
     check("until they are nearer", hand(0, 32, quiet, 1) == 0 && readable(0) && readable(1));
-    check("receiving begins beside a flagged port, not beside a silent one", started(2, 2, 32) && into_step(0, 0) && !readable(0)
-          && say(FRAME, 1, 1, 0) == 10 && readable(0) && !readable(1));
+    check("receiving begins beside a flagged port, not beside a silent one",
+          started(2, 2, 32) && into_step(0, 0) && !readable(0) && say(FRAME, 1, 1, 0) == 10 && readable(0) && !readable(1));
 }
 
 /* Whether exactly the P + 1 bytes of one frame stand anew in the store, somewhere, with this H4 byte. */
@@ -554,7 +559,8 @@ static void window(void)
     check("a port joins at its first epoch start, and its frames are stored up to W-1 after the window's first", kept);
     check("a joined port's tag W after the window's first gives 11", full() && hand(0, 72, quiet, 1) == 11 && hand(0, 72, quiet, 1) == 11);
     check("and is stored when it is handed again after a report", fetched(SURE, 4, 0) && hand(0, 72, quiet, 1) == 0 && stored(h4_of(72, quiet)));
-    check("an output longer than need be is right", full() && off(FETCH, 0, 0, 0, offsetof(struct given, out), 100) == 0 && RECORD[LEVELSPRUCE_REPORT_MARK] == SURE);
+    check("an output longer than need be is right",
+          full() && off(FETCH, 0, 0, 0, offsetof(struct given, out), 100) == 0 && RECORD[LEVELSPRUCE_REPORT_MARK] == SURE);
 }
 
 /* Two ports send these from the start on; whether the first report has this mark and cause. */
@@ -575,7 +581,8 @@ static void causes(void)
 
     check("a sure report has no cause", caused(norm, last, SURE, LEVELSPRUCE_CAUSE_NONE));
     check("held since numbers repeat, since GID differs, since EOS is below the highest", caused(norm, same, HELD, LEVELSPRUCE_CAUSE_REPEATED)
-          && caused(norm, other, HELD, LEVELSPRUCE_CAUSE_GID) && caused(same, above, HELD, LEVELSPRUCE_CAUSE_EOS));
+                                                                                              && caused(norm, other, HELD, LEVELSPRUCE_CAUSE_GID)
+                                                                                              && caused(same, above, HELD, LEVELSPRUCE_CAUSE_EOS));
     check("of two clauses the first is named", caused(same, same, HELD, LEVELSPRUCE_CAUSE_REPEATED));
     check("doubtful with a gap in the numbers", caused(norm, gap, DOUBTFUL, LEVELSPRUCE_CAUSE_NUMBERS));
 }
@@ -589,14 +596,14 @@ static const uint32_t delay[DELAYS] = { 20, 0, W3 - EPOCH };
 static const struct source sends[DELAYS] = { { N, 1 }, { E, 2 }, { N, 0 } };
 
 static struct line {
-    uint32_t first;      /* tag of the first frame */
-    uint32_t time;       /* frame times so far */
-    uint32_t failed;     /* frame times for which port 1 still comes flagged */
-    uint32_t damaged;    /* the epoch whose packet of port 0 comes damaged */
-    uint32_t place;      /* in which nibble */
-    uint32_t next;       /* the epoch that the next report must have, or 256 before the first */
-    uint32_t marks[4];   /* reports by mark */
-    int held;            /* all was as it should be so far */
+    uint32_t first;    /* tag of the first frame */
+    uint32_t time;     /* frame times so far */
+    uint32_t failed;   /* frame times for which port 1 still comes flagged */
+    uint32_t damaged;  /* the epoch whose packet of port 0 comes damaged */
+    uint32_t place;    /* in which nibble */
+    uint32_t next;     /* the epoch that the next report must have, or 256 before the first */
+    uint32_t marks[4]; /* reports by mark */
+    int held;          /* all was as it should be so far */
 } line;
 
 /* Whether the output is the sixteen group frames of an epoch, or of two of its three members alone. */
@@ -626,11 +633,16 @@ static void take_reports(void)
             return;
         line.marks[mark & 3]++;
         line.held = mark <= SURE && (line.next == 256 || line.next == epoch) && report_bytes() == EPOCH * x * P3
-            && x == (mark == SURE ? 3 : mark == HELD ? 0 : 2) && output_is(epoch, x) && (mark != HELD || untouched(&out))
-            && (line.damaged > 255 || (mark == HELD) == (epoch == (line.damaged + 1) % 256))
-            && RECORD[LEVELSPRUCE_REPORT_CAUSE] == (mark == SURE ? LEVELSPRUCE_CAUSE_NONE
-                                                    : mark == DOUBTFUL ? LEVELSPRUCE_CAUSE_UNSEEN
-                                                    : line.damaged > 255 ? LEVELSPRUCE_CAUSE_LACKING : LEVELSPRUCE_CAUSE_REFUSED);
+                 && x
+                        == (mark == SURE   ? 3
+                            : mark == HELD ? 0
+                                           : 2)
+                 && output_is(epoch, x) && (mark != HELD || untouched(&out)) && (line.damaged > 255 || (mark == HELD) == (epoch == (line.damaged + 1) % 256))
+                 && RECORD[LEVELSPRUCE_REPORT_CAUSE]
+                        == (mark == SURE         ? LEVELSPRUCE_CAUSE_NONE
+                            : mark == DOUBTFUL   ? LEVELSPRUCE_CAUSE_UNSEEN
+                            : line.damaged > 255 ? LEVELSPRUCE_CAUSE_LACKING
+                                                 : LEVELSPRUCE_CAUSE_REFUSED);
         line.next = (epoch + 1) % 256;
     }
 }
@@ -665,8 +677,8 @@ static int runs(uint32_t times, uint32_t held, uint32_t doubtful, uint32_t sure)
     memset(line.marks, 0, sizeof line.marks);
     while (times-- > 0 && line.held)
         frame_time();
-    return line.held && line.marks[HELD] >= held && line.marks[DOUBTFUL] >= doubtful && line.marks[SURE] >= sure
-        && (held || line.marks[HELD] == 0) && (doubtful || line.marks[DOUBTFUL] == 0) && (sure || line.marks[SURE] == 0);
+    return line.held && line.marks[HELD] >= held && line.marks[DOUBTFUL] >= doubtful && line.marks[SURE] >= sure && (held || line.marks[HELD] == 0)
+        && (doubtful || line.marks[DOUBTFUL] == 0) && (sure || line.marks[SURE] == 0);
 }
 
 static void lines_from(uint32_t first)
@@ -683,11 +695,11 @@ static void link_of_three(void)
     int held = started(DELAYS, P3, W3);
 
     lines_from(4000);
-    check("a link of three ports with delays W-16 apart gives sure epochs, each once and in order", held && runs(FIRST_REPORT, 0, 0, 1)
-          && runs(10 * EPOCH, 0, 0, 10));
+    check("a link of three ports with delays W-16 apart gives sure epochs, each once and in order",
+          held && runs(FIRST_REPORT, 0, 0, 1) && runs(10 * EPOCH, 0, 0, 10));
     check("its ports are OK under their numbers", port_is(0, OK, 1, 1, 1, 1, 0, N) && port_is(1, OK, 2, 1, 1, 1, 0, E) && port_is(2, OK, 0, 1, 1, 1, 0, N));
-    check("the reply says so, and RS-Ack has turned once", reply_is(0, 0x1F, 1) && reply_is(32, 0x1F, 1) && reply_is(1, 255, 1) && reply_is(8, 255, 1)
-          && reply_is(255, 255, 1));
+    check("the reply says so, and RS-Ack has turned once",
+          reply_is(0, 0x1F, 1) && reply_is(32, 0x1F, 1) && reply_is(1, 255, 1) && reply_is(8, 255, 1) && reply_is(255, 255, 1));
     for (line.place = 0; line.place < EPOCH && held; line.place++) { /* MFI2 stands at 8 and 9 */
         line.damaged = (line.next + 6) % 256;
         held = runs(12 * EPOCH, 1, 0, 11) && line.marks[HELD] == 1;
@@ -697,8 +709,8 @@ static void link_of_three(void)
     line.damaged = 256;
     line.failed = 10 * EPOCH;
     /* what waits is still sure; the epoch of which the port, ruled active, lacks frames is held; those after it are doubtful */
-    check("beside a flagged port an epoch is held, and the next are doubtful with the bytes of the others", runs(10 * EPOCH, 1, 3, 1) && line.marks[HELD] == 1
-          && port_is(1, FAIL, 2, 0, 0, 0, 1, E) && reply_is(0, 0x3F, 1));
+    check("beside a flagged port an epoch is held, and the next are doubtful with the bytes of the others",
+          runs(10 * EPOCH, 1, 3, 1) && line.marks[HELD] == 1 && port_is(1, FAIL, 2, 0, 0, 0, 1, E) && reply_is(0, 0x3F, 1));
     check("which comes back into step and joins", runs(12 * EPOCH, 0, 1, 3) && port_is(1, OK, 2, 1, 1, 1, 0, E) && reply_is(0, 0x1F, 1));
     check("sure epochs follow without end, over tag 4095", runs(260 * EPOCH, 0, 0, 260));
     for (port = 0; port < DELAYS; port++)
@@ -757,7 +769,10 @@ static int both_edges(void)
         int number = state_now == OK ? 5 : state_now == FAIL ? (int)s->number : 255;
 
         held = held && told(4 + i, s)
-            && state_is(0, state_now, number, waits[i] == 'H' ? HOLD_OFF : waits[i] == 'R' ? RESTORING : WAITS_FOR_NONE)
+            && state_is(0, state_now, number,
+                        waits[i] == 'H'   ? HOLD_OFF
+                        : waits[i] == 'R' ? RESTORING
+                                          : WAITS_FOR_NONE)
             && reply_is(0, state_now == OK ? 0xFB : 0xFF, rs_ack);
         rs_ack = rs_ack || reports[i + 1] == 'I'; /* ADD becomes IDLE */
     }
@@ -792,15 +807,15 @@ static void waiting(void)
     held = waits_from(2, three_none, zeros) && told(4, alone) && state_is(0, OK, 5, WAITS_FOR_NONE);
     for (i = 0; i < 3; i++)
         held = held && told(5 + i, both) && state_is(0, OK, 5, HOLD_OFF) && state_is(1, FAIL, 5, WAITS_FOR_NONE);
-    check("a port keeps its number against others until its hold-off ends", held && told(8, both) && state_is(0, FAIL, 64, WAITS_FOR_NONE)
-          && state_is(1, OK, 5, WAITS_FOR_NONE));
-    held = waits_from(3, nines, nines) && told(4, reverse) && told(5, removed) && state_is(0, OK, 1, WAITS_FOR_NONE)
-        && state_is(1, OK, 0, WAITS_FOR_NONE) && state_is(2, LEVELSPRUCE_PORT_IDLE, 255, WAITS_FOR_NONE);
+    check("a port keeps its number against others until its hold-off ends",
+          held && told(8, both) && state_is(0, FAIL, 64, WAITS_FOR_NONE) && state_is(1, OK, 5, WAITS_FOR_NONE));
+    held = waits_from(3, nines, nines) && told(4, reverse) && told(5, removed) && state_is(0, OK, 1, WAITS_FOR_NONE) && state_is(1, OK, 0, WAITS_FOR_NONE)
+        && state_is(2, LEVELSPRUCE_PORT_IDLE, 255, WAITS_FOR_NONE);
     check("a removal with the ports in reverse order holds nobody", held);
     check("nor does a swap", waits_from(3, nines, nines) && told(4, up) && told(5, swapped) && state_is(0, OK, 1, WAITS_FOR_NONE)
-          && state_is(1, OK, 0, WAITS_FOR_NONE) && state_is(2, OK, 2, WAITS_FOR_NONE));
-    check("a chain is held whole", waits_from(3, nines, nines) && told(4, up) && told(5, chain) && state_is(0, OK, 0, HOLD_OFF)
-          && state_is(1, OK, 1, HOLD_OFF) && state_is(2, OK, 2, HOLD_OFF) && reply_is(0, 0x1F, 0));
+                                 && state_is(1, OK, 0, WAITS_FOR_NONE) && state_is(2, OK, 2, WAITS_FOR_NONE));
+    check("a chain is held whole", waits_from(3, nines, nines) && told(4, up) && told(5, chain) && state_is(0, OK, 0, HOLD_OFF) && state_is(1, OK, 1, HOLD_OFF)
+                                       && state_is(2, OK, 2, HOLD_OFF) && reply_is(0, 0x1F, 0));
 }
 
 /* An empty group, and rows that do not fit. */

@@ -49,8 +49,9 @@ static void lend_all(void)
 
 static uint8_t turn(const uint8_t *text, size_t length, size_t *at, uint32_t last, size_t store_bytes, size_t out_bytes, size_t *written, uint8_t *wants)
 {
-    return levelspruce_replay_turn(lent_bytes(&state), LEVELSPRUCE_REPLAY_BYTES, text, length, at, last, (uint8_t (*)[LEVELSPRUCE_ROW_BYTES])lent_bytes(&rows),
-                                   ROWS, lent_bytes(&store), store_bytes, lent_bytes(&out), out_bytes, lent_bytes(&said), LEVELSPRUCE_REPLAY_ROOM, written, wants);
+    return levelspruce_replay_turn(lent_bytes(&state), LEVELSPRUCE_REPLAY_BYTES, text, length, at, last, (uint8_t(*)[LEVELSPRUCE_ROW_BYTES])lent_bytes(&rows),
+                                   ROWS, lent_bytes(&store), store_bytes, lent_bytes(&out), out_bytes, lent_bytes(&said), LEVELSPRUCE_REPLAY_ROOM, written,
+                                   wants);
 }
 
 /* Turns until more text is wanted; what they print is kept. */
@@ -132,14 +133,15 @@ static int refuses(size_t state_bytes, size_t at, size_t row_count, size_t store
     int held = begin();
 
     if (started)
-        held = held && turn((const uint8_t *)text, sizeof text - 1, &first, 0, 32, 16, &written, &wants) == LEVELSPRUCE_ANSWER_DONE && first == 7 && written == 0 && wants == 0;
+        held = held && turn((const uint8_t *)text, sizeof text - 1, &first, 0, 32, 16, &written, &wants) == LEVELSPRUCE_ANSWER_DONE && first == 7
+            && written == 0 && wants == 0;
     written = 7;
     wants = 8;
     for (i = 0; i < COUNT(lents); i++)
         remember(lents[i]);
     answer = levelspruce_replay_turn(lent_bytes(&state), state_bytes, (const uint8_t *)text, sizeof text - 1, &place, 0,
-                                     (uint8_t (*)[LEVELSPRUCE_ROW_BYTES])lent_bytes(&rows), row_count, lent_bytes(&store), store_bytes, lent_bytes(&out), out_bytes,
-                                     lent_bytes(&said), room, &written, &wants);
+                                     (uint8_t(*)[LEVELSPRUCE_ROW_BYTES])lent_bytes(&rows), row_count, lent_bytes(&store), store_bytes, lent_bytes(&out),
+                                     out_bytes, lent_bytes(&said), room, &written, &wants);
     for (i = 0; i < COUNT(lents); i++)
         held = held && untouched(lents[i]);
     return held && answer == LEVELSPRUCE_ANSWER_LENGTH && place == at && written == 7 && wants == 8;
@@ -162,12 +164,15 @@ static int large(void)
         /* one byte of store less, and none */
         at = 0;
         held = levelspruce_replay_begin(kept, sizeof kept) == LEVELSPRUCE_ANSWER_DONE
-            && levelspruce_replay_turn(kept, sizeof kept, first, sizeof first - 1, &at, 0, row, ROWS, lent, store_bytes - 1 + (size_t)k, output, out_bytes, room,
-                                       sizeof room, &written, &wants) == LEVELSPRUCE_ANSWER_DONE
+            && levelspruce_replay_turn(kept, sizeof kept, first, sizeof first - 1, &at, 0, row, ROWS, lent, store_bytes - 1 + (size_t)k, output, out_bytes,
+                                       room, sizeof room, &written, &wants)
+                   == LEVELSPRUCE_ANSWER_DONE
             && (k == 1 ? at == 9 && written == 0 : at == 0 && written == 16 && memcmp(room, "answer\t4\tline\t1\n", 16) == 0);
     }
-    held = held && levelspruce_replay_turn(kept, sizeof kept, first, sizeof first - 1, &at, 0, row, ROWS, lent, store_bytes, output, out_bytes, room, sizeof room,
-                                           &written, &wants) == LEVELSPRUCE_ANSWER_DONE
+    held = held
+        && levelspruce_replay_turn(kept, sizeof kept, first, sizeof first - 1, &at, 0, row, ROWS, lent, store_bytes, output, out_bytes, room, sizeof room,
+                                   &written, &wants)
+               == LEVELSPRUCE_ANSWER_DONE
         && at == 11 && written == 17 && memcmp(room, "answer\t13\tline\t2\n", 17) == 0;
     free(lent);
     free(output);
@@ -193,22 +198,23 @@ static int begins(void)
 int main(void)
 {
     check("what a first line asks for", asks("1 1 16", 0, 32, 16) && asks("1 1 16\nx", 0, 32, 16) && asks("6 756 64\n", 0, 290688, 72576)
-          && asks("2 136 32 kind VC12\n", 0, 8768, 8704) && asks("64 2340 2048\n", 0, 306839552, 2396160));
+                                            && asks("2 136 32 kind VC12\n", 0, 8768, 8704) && asks("64 2340 2048\n", 0, 306839552, 2396160));
     check("13: a first line that cannot be read", asks("x\n", 13, 0, 0) && asks("", 13, 0, 0) && asks("\n1 1 16\n", 13, 0, 0) && asks("1 1\n", 13, 0, 0)
-          && asks("2 1 16 hold-off 1 5001 7\n", 13, 0, 0));
-    check("4: settings out of range", asks("65 1 16\n", 4, 0, 0) && asks("1 1 15\n", 4, 0, 0) && asks("2 1 16 hold-off 1 5001\n", 4, 0, 0)
-          && asks("1 135 32 kind VC12\n", 4, 0, 0));
+                                                      && asks("2 1 16 hold-off 1 5001 7\n", 13, 0, 0));
+    check("4: settings out of range",
+          asks("65 1 16\n", 4, 0, 0) && asks("1 1 15\n", 4, 0, 0) && asks("2 1 16 hold-off 1 5001\n", 4, 0, 0) && asks("1 135 32 kind VC12\n", 4, 0, 0));
     check("9: a beginning with another length", begins());
     check("settings alone print nothing", prints_text("1 1 16\n", "") && prints_text("1 1 16", "") && prints_text("", ""));
     check("lines that are malformed", prints_text("1 1 16\nx\n0 05 0 AB\ny", "answer 13 line 2\nanswer 13 line 4\n"));
     check("a first line that is refused ends it", prints_text("x\n1 1 16\ny\n", "answer 13 line 1\n") && prints_text("65 1 16\ny\n", "answer 4 line 1\n"));
     check("a fixed group's first report", reports());
-    check("9: each length that is wrong, and a place behind the end", refuses(16, 0, ROWS, 32, 16, LEVELSPRUCE_REPLAY_ROOM, 0)
-          && refuses(18, 0, ROWS, 32, 16, LEVELSPRUCE_REPLAY_ROOM, 0) && refuses(17, 10, ROWS, 32, 16, LEVELSPRUCE_REPLAY_ROOM, 0)
-          && refuses(17, SIZE_MAX, ROWS, 32, 16, LEVELSPRUCE_REPLAY_ROOM, 0) && refuses(17, 0, ROWS - 1, 32, 16, LEVELSPRUCE_REPLAY_ROOM, 0)
-          && refuses(17, 0, ROWS, 32, 16, LEVELSPRUCE_REPLAY_ROOM - 1, 0) && refuses(17, 7, LEVELSPRUCE_RECEIVER_ROWS(1) - 1, 32, 16, LEVELSPRUCE_REPLAY_ROOM, 1)
-          && refuses(17, 7, ROWS, 31, 16, LEVELSPRUCE_REPLAY_ROOM, 1) && refuses(17, 7, ROWS, 32, 15, LEVELSPRUCE_REPLAY_ROOM, 1)
-          && refuses(17, 7, ROWS, 32, 16, LEVELSPRUCE_REPLAY_ROOM - 1, 1));
+    check("9: each length that is wrong, and a place behind the end",
+          refuses(16, 0, ROWS, 32, 16, LEVELSPRUCE_REPLAY_ROOM, 0) && refuses(18, 0, ROWS, 32, 16, LEVELSPRUCE_REPLAY_ROOM, 0)
+              && refuses(17, 10, ROWS, 32, 16, LEVELSPRUCE_REPLAY_ROOM, 0) && refuses(17, SIZE_MAX, ROWS, 32, 16, LEVELSPRUCE_REPLAY_ROOM, 0)
+              && refuses(17, 0, ROWS - 1, 32, 16, LEVELSPRUCE_REPLAY_ROOM, 0) && refuses(17, 0, ROWS, 32, 16, LEVELSPRUCE_REPLAY_ROOM - 1, 0)
+              && refuses(17, 7, LEVELSPRUCE_RECEIVER_ROWS(1) - 1, 32, 16, LEVELSPRUCE_REPLAY_ROOM, 1)
+              && refuses(17, 7, ROWS, 31, 16, LEVELSPRUCE_REPLAY_ROOM, 1) && refuses(17, 7, ROWS, 32, 15, LEVELSPRUCE_REPLAY_ROOM, 1)
+              && refuses(17, 7, ROWS, 32, 16, LEVELSPRUCE_REPLAY_ROOM - 1, 1));
     check("a group that is too large for the replay program", large());
     return tally();
 }

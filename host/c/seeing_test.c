@@ -45,7 +45,8 @@ static uint8_t h4_of(uint32_t port, uint32_t tag)
     uint8_t h4[LEVELSPRUCE_PACKET_BYTES];
     uint32_t epoch = epoch_of(tag);
 
-    if (levelspruce_packet_write(epoch, port == 0 ? LEVELSPRUCE_WORD_EOS : LEVELSPRUCE_WORD_NORM, 1, mst_of(epoch), ack_of(epoch), 1 - port, 0, h4, sizeof h4) != 0)
+    if (levelspruce_packet_write(epoch, port == 0 ? LEVELSPRUCE_WORD_EOS : LEVELSPRUCE_WORD_NORM, 1, mst_of(epoch), ack_of(epoch), 1 - port, 0, h4, sizeof h4)
+        != 0)
         check("a packet is written", 0);
     return h4[(tag + 8) % EPOCH];
 }
@@ -90,8 +91,8 @@ static int behind_is(uint32_t first, uint32_t second)
 
 static int fetched(int mark, uint32_t epoch)
 {
-    return levelspruce_receiver_fetch(rows, ROWS, store, sizeof store, out, sizeof out, record, sizeof record) == 0
-        && record[LEVELSPRUCE_REPORT_MARK] == mark && record[LEVELSPRUCE_REPORT_EPOCH] == epoch;
+    return levelspruce_receiver_fetch(rows, ROWS, store, sizeof store, out, sizeof out, record, sizeof record) == 0 && record[LEVELSPRUCE_REPORT_MARK] == mark
+        && record[LEVELSPRUCE_REPORT_EPOCH] == epoch;
 }
 
 static int started(void)
@@ -153,16 +154,18 @@ static void refusals(void)
         held = held && levelspruce_receiver_anew((uint8_t(*)[LEVELSPRUCE_ROW_BYTES])(empty ? NULL : lent_bytes(&lent)), n, store, sizeof store) == 9;
     }
     held = held && levelspruce_receiver_seen(state(), ROWS, seen, PORTS - 1) == 9 && levelspruce_receiver_seen(state(), ROWS, seen, PORTS + 1) == 9;
-    held = held && levelspruce_receiver_cause(state(), ROWS, bytes, 1) == 9 && levelspruce_receiver_cause(state(), ROWS, bytes, 3) == 9 && levelspruce_receiver_cause(state(), ROWS, NULL, 0) == 9;
-    held = held && levelspruce_receiver_heard(state(), ROWS, bytes, 3) == 9 && levelspruce_receiver_heard(state(), ROWS, bytes, 5) == 9 && levelspruce_receiver_heard(state(), ROWS, NULL, 0) == 9;
+    held = held && levelspruce_receiver_cause(state(), ROWS, bytes, 1) == 9 && levelspruce_receiver_cause(state(), ROWS, bytes, 3) == 9
+        && levelspruce_receiver_cause(state(), ROWS, NULL, 0) == 9;
+    held = held && levelspruce_receiver_heard(state(), ROWS, bytes, 3) == 9 && levelspruce_receiver_heard(state(), ROWS, bytes, 5) == 9
+        && levelspruce_receiver_heard(state(), ROWS, NULL, 0) == 9;
     held = held && levelspruce_receiver_behind(state(), ROWS, numbers, PORTS - 1) == 9 && levelspruce_receiver_behind(state(), ROWS, numbers, PORTS + 1) == 9;
     held = held && levelspruce_receiver_settings(state(), ROWS, numbers, 3) == 9 && levelspruce_receiver_settings(state(), ROWS, numbers, 5) == 9;
     held = held && levelspruce_receiver_anew(rows, ROWS, store, sizeof store - 1) == 9 && levelspruce_receiver_anew(rows, ROWS, NULL, 0) == 9;
     check("a wrong length of rows, store or buffer is 9", held);
     for (i = 0; i < sizeof bytes; i++)
         held = held && bytes[i] == 0xA5 && seen[0][i] == 0xA5 && seen[PORTS][i] == 0xA5;
-    check("and 9 changes no byte", held && numbers[0] == 5 && numbers[1] == 6 && numbers[2] == 7 && untouched(&lent)
-          && memcmp(rows, lent_bytes(&lent), sizeof rows) == 0);
+    check("and 9 changes no byte",
+          held && numbers[0] == 5 && numbers[1] == 6 && numbers[2] == 7 && untouched(&lent) && memcmp(rows, lent_bytes(&lent), sizeof rows) == 0);
     held = levelspruce_sender_start(3, 17, sender, sizeof sender) == 0 && levelspruce_sender_settings(sender, sizeof sender - 1, bytes, 5) == 9
         && levelspruce_sender_settings(sender, sizeof sender, bytes, 4) == 9 && levelspruce_sender_settings(sender, sizeof sender, bytes, 6) == 9
         && bytes[0] == 0xA5;
@@ -173,7 +176,8 @@ static void empty_group(void)
 {
     uint32_t numbers[4] = { 1, 2, 3, 4 };
     uint8_t bytes[4] = { 1, 2, 3, 4 };
-    int held = levelspruce_receiver_seen(NULL, 0, NULL, 0) == 0 && levelspruce_receiver_behind(NULL, 0, NULL, 0) == 0 && levelspruce_receiver_anew(NULL, 0, NULL, 0) == 0;
+    int held = levelspruce_receiver_seen(NULL, 0, NULL, 0) == 0 && levelspruce_receiver_behind(NULL, 0, NULL, 0) == 0
+            && levelspruce_receiver_anew(NULL, 0, NULL, 0) == 0;
 
     held = held && levelspruce_receiver_heard(NULL, 0, bytes, 4) == 0 && bytes[0] == 0 && bytes[1] == 0 && bytes[2] == 0 && bytes[3] == 0;
     held = held && levelspruce_receiver_cause(NULL, 0, bytes, 2) == 0 && bytes[0] == LEVELSPRUCE_CAUSE_NONE && bytes[1] == LEVELSPRUCE_CAUSE_NO_PORT;
@@ -251,8 +255,8 @@ static uint8_t blame_frame(const struct blame *b, uint32_t port, uint32_t tag)
 
     if (levelspruce_packet_write(epoch_of(tag), b->word[port], b->gid[port], 0, 0, b->number[port], 0, h4, sizeof h4) != 0)
         return 255;
-    return levelspruce_receiver_frame(rows, ROWS, port, port == 1 && b->flagged && tag >= 60, (uint8_t)(h4[(tag + 8) % EPOCH] ^ (port == 1 && tag == 50 ? b->damaged : 0)),
-                                      payload, P, store, sizeof store);
+    return levelspruce_receiver_frame(rows, ROWS, port, port == 1 && b->flagged && tag >= 60,
+                                      (uint8_t)(h4[(tag + 8) % EPOCH] ^ (port == 1 && tag == 50 ? b->damaged : 0)), payload, P, store, sizeof store);
 }
 
 static uint8_t mark_by(uint8_t cause)
@@ -325,9 +329,10 @@ static void anew(void)
     held = levelspruce_receiver_reply(state(), ROWS, 0, after, 2) == 0 && memcmp(reply, after, 2) == 0
         && port_byte(0, LEVELSPRUCE_PORT_STATE) == LEVELSPRUCE_PORT_OK && port_byte(1, LEVELSPRUCE_PORT_STATE) == LEVELSPRUCE_PORT_OK;
     check("member states and RS-Ack stay", held);
-    check("no port is in step, each shows failed, nothing is heard and nothing is due", port_byte(0, LEVELSPRUCE_PORT_STEP) == 0 && port_byte(1, LEVELSPRUCE_PORT_STEP) == 0
-          && port_byte(0, LEVELSPRUCE_PORT_FAILED) == 1 && port_byte(1, LEVELSPRUCE_PORT_FAILED) == 1 && heard_is(0, 0, 0, 0)
-          && behind_is(LEVELSPRUCE_BEHIND_NONE, LEVELSPRUCE_BEHIND_NONE) && fetched(LEVELSPRUCE_MARK_NONE, 0));
+    check("no port is in step, each shows failed, nothing is heard and nothing is due",
+          port_byte(0, LEVELSPRUCE_PORT_STEP) == 0 && port_byte(1, LEVELSPRUCE_PORT_STEP) == 0 && port_byte(0, LEVELSPRUCE_PORT_FAILED) == 1
+              && port_byte(1, LEVELSPRUCE_PORT_FAILED) == 1 && heard_is(0, 0, 0, 0) && behind_is(LEVELSPRUCE_BEHIND_NONE, LEVELSPRUCE_BEHIND_NONE)
+              && fetched(LEVELSPRUCE_MARK_NONE, 0));
     /* at 160 both come back at MFI1 0, port 1 with tag 160 too: in step at 191, foremost tag 191 is of epoch 12, so 13 is gathered and 14 reported */
     held = runs(160, 240, 0, NULL, 0) && fetched(LEVELSPRUCE_MARK_SURE, 14) && heard_is(1, 14, mst_of(14), ack_of(14));
     check("receiving begins again by itself", held);
@@ -339,18 +344,20 @@ static void settings(void)
     uint8_t sender[LEVELSPRUCE_SENDER_BYTES], bytes[LEVELSPRUCE_SENDER_SETTINGS_BYTES];
     uint32_t numbers[LEVELSPRUCE_SETTINGS];
     int held = levelspruce_receiver_settings(state(), ROWS, numbers, LEVELSPRUCE_SETTINGS) == 0 && numbers[LEVELSPRUCE_SETTING_KIND] == LEVELSPRUCE_KIND_H4
-        && numbers[LEVELSPRUCE_SETTING_PORTS] == PORTS && numbers[LEVELSPRUCE_SETTING_PAYLOAD] == P && numbers[LEVELSPRUCE_SETTING_WINDOW] == W;
+            && numbers[LEVELSPRUCE_SETTING_PORTS] == PORTS && numbers[LEVELSPRUCE_SETTING_PAYLOAD] == P && numbers[LEVELSPRUCE_SETTING_WINDOW] == W;
 
     check("settings are those of the start, after all these calls", held);
     held = levelspruce_receiver_start_as(LEVELSPRUCE_KIND_VC12, 1, 136, 512, 512 * 137, NULL, 0, NULL, 0, vc12, 6) == 0
         && levelspruce_receiver_settings((const uint8_t(*)[LEVELSPRUCE_ROW_BYTES])vc12, 6, numbers, LEVELSPRUCE_SETTINGS) == 0
         && numbers[0] == LEVELSPRUCE_KIND_VC12 && numbers[1] == 1 && numbers[2] == 136 && numbers[3] == 512;
     check("and of VC-12", held);
-    held = levelspruce_sender_start_as(LEVELSPRUCE_KIND_VC12, 3, 31, sender, sizeof sender) == 0 && levelspruce_sender_settings(sender, sizeof sender, bytes, sizeof bytes) == 0
-        && bytes[LEVELSPRUCE_SENDER_SETTING_KIND] == LEVELSPRUCE_KIND_VC12 && bytes[LEVELSPRUCE_SENDER_SETTING_SLOTS] == 3
-        && bytes[LEVELSPRUCE_SENDER_SETTING_NEXT] == 31 && bytes[LEVELSPRUCE_SENDER_SETTING_WAIT] == 0 && bytes[LEVELSPRUCE_SENDER_SETTING_RS_ACK] == 0;
+    held = levelspruce_sender_start_as(LEVELSPRUCE_KIND_VC12, 3, 31, sender, sizeof sender) == 0
+        && levelspruce_sender_settings(sender, sizeof sender, bytes, sizeof bytes) == 0 && bytes[LEVELSPRUCE_SENDER_SETTING_KIND] == LEVELSPRUCE_KIND_VC12
+        && bytes[LEVELSPRUCE_SENDER_SETTING_SLOTS] == 3 && bytes[LEVELSPRUCE_SENDER_SETTING_NEXT] == 31 && bytes[LEVELSPRUCE_SENDER_SETTING_WAIT] == 0
+        && bytes[LEVELSPRUCE_SENDER_SETTING_RS_ACK] == 0;
     check("a sender's settings are those of its start, and its first epoch is the next", held);
-    held = levelspruce_sender_start_epoch(sender, sizeof sender, 0, 255, 0) == 0 && levelspruce_sender_settings(sender, sizeof sender, bytes, sizeof bytes) == 0 && bytes[2] == 0;
+    held = levelspruce_sender_start_epoch(sender, sizeof sender, 0, 255, 0) == 0 && levelspruce_sender_settings(sender, sizeof sender, bytes, sizeof bytes) == 0
+        && bytes[2] == 0;
     check("after epoch 31 of VC-12 comes 0", held);
     held = levelspruce_sender_report(sender, sizeof sender, 5, 255, 1) == 0 && levelspruce_sender_add(sender, sizeof sender, 1) == 0
         && levelspruce_sender_remove(sender, sizeof sender, 1) == 0 && levelspruce_sender_settings(sender, sizeof sender, bytes, sizeof bytes) == 0
@@ -358,7 +365,8 @@ static void settings(void)
     check("a wait that opens and the bit that is remembered show", held);
 }
 
-/* Port 1 lies 100 frames behind and outside the window. Port 0 fails, so receiving stops, and begins on port 1 alone: epochs that were reported come once more. */
+/* Port 1 lies 100 frames behind and outside the window. Port 0 fails, so receiving stops, and begins on port 1 alone: epochs that were reported come once more.
+ */
 static void heard_again(void)
 {
     const uint8_t nothing[P] = { 0 };
@@ -375,14 +383,16 @@ static void heard_again(void)
             held &= levelspruce_receiver_frame(rows, ROWS, 1, 1, 0, nothing, P, store, sizeof store) == LEVELSPRUCE_ANSWER_FAILED;
         else
             hand(1, time - 100, 0);
-        while (again == 0 && levelspruce_receiver_fetch(rows, ROWS, store, sizeof store, out, sizeof out, record, sizeof record) == 0 && record[LEVELSPRUCE_REPORT_MARK] != 0) {
+        while (again == 0 && levelspruce_receiver_fetch(rows, ROWS, store, sizeof store, out, sizeof out, record, sizeof record) == 0
+               && record[LEVELSPRUCE_REPORT_MARK] != 0) {
             held &= levelspruce_receiver_heard(state(), ROWS, heard, sizeof heard) == 0;
             again = record[LEVELSPRUCE_REPORT_EPOCH] < last ? record[LEVELSPRUCE_REPORT_EPOCH] : 0;
             last = again == 0 ? record[LEVELSPRUCE_REPORT_EPOCH] : last;
         }
     }
     check("where receiving begins on a slower line alone, epochs are heard once more, with what they said then",
-          held && again != 0 && again < last && heard[LEVELSPRUCE_HEARD_EPOCH] == again && heard[LEVELSPRUCE_HEARD_RS_ACK] == ack_of(again) && ack_of(again) != ack_of(last));
+          held && again != 0 && again < last && heard[LEVELSPRUCE_HEARD_EPOCH] == again && heard[LEVELSPRUCE_HEARD_RS_ACK] == ack_of(again)
+              && ack_of(again) != ack_of(last));
 }
 
 int main(void)

@@ -15,11 +15,12 @@ enum { STATE = LEVELSPRUCE_SENDER_BYTES, NONE = LEVELSPRUCE_RANK_NONE };
 enum { A = LEVELSPRUCE_WORD_ADD, N = LEVELSPRUCE_WORD_NORM, E = LEVELSPRUCE_WORD_EOS, I = LEVELSPRUCE_WORD_IDLE, D = LEVELSPRUCE_WORD_DNU };
 enum { START, ADD, REMOVE, REPORT, LAPSE, EPOCH, PACKET, PAYLOAD, BOARD, GOING, RANKS, CALLS };
 
-static const char *const call_name[CALLS] = { "start", "add", "remove", "report", "lapse", "start of an epoch", "packet",
-                                              "payload", "board", "board going", "ranks" };
+static const char *const call_name[CALLS] = { "start",  "add",     "remove", "report",      "lapse", "start of an epoch",
+                                              "packet", "payload", "board",  "board going", "ranks" };
 
-static const size_t result_bytes[CALLS] = { [PACKET] = LEVELSPRUCE_PACKET_BYTES, [BOARD] = LEVELSPRUCE_BOARD_BYTES,
-                                            [GOING] = LEVELSPRUCE_BOARD_BYTES, [RANKS] = LEVELSPRUCE_RANKS_BYTES };
+static const size_t result_bytes[CALLS] = {
+    [PACKET] = LEVELSPRUCE_PACKET_BYTES, [BOARD] = LEVELSPRUCE_BOARD_BYTES, [GOING] = LEVELSPRUCE_BOARD_BYTES, [RANKS] = LEVELSPRUCE_RANKS_BYTES
+};
 static const size_t wrong[] = { 0, 1, STATE - 1, STATE + 1 };
 static const uint32_t wide[] = { 256, 257, 65537, UINT32_MAX };
 
@@ -59,7 +60,9 @@ static int ask(int which, uint32_t a, uint32_t b, uint32_t c, size_t sl, size_t 
     remember(&out);
     answer = call(which, a, b, c, sl, fl, ol);
     return untouched(&frame) && stands(&out, which > EPOCH && answer == 0 ? ol : 0)
-        && stands(&state, which <= EPOCH && (answer == 0 || (which == START && answer == 4 && sl == STATE)) ? STATE : 0) ? answer : -1;
+                && stands(&state, which <= EPOCH && (answer == 0 || (which == START && answer == 4 && sl == STATE)) ? STATE : 0)
+             ? answer
+             : -1;
 }
 
 /* With right lengths; payload takes a slot, P and X. */
@@ -99,8 +102,8 @@ static int board_is(int which, int count, int wait, const uint8_t *rows)
 static int ranks_are(int count, int begun, int epoch, int x, const uint8_t *each)
 {
     const uint8_t *r = lent_bytes(&out);
-    int i, held = done(RANKS, 0, 0, 0) && r[LEVELSPRUCE_RANKS_COUNT] == count && r[LEVELSPRUCE_RANKS_BEGUN] == begun
-        && r[LEVELSPRUCE_RANKS_EPOCH] == epoch && r[LEVELSPRUCE_RANKS_X] == x;
+    int i, held = done(RANKS, 0, 0, 0) && r[LEVELSPRUCE_RANKS_COUNT] == count && r[LEVELSPRUCE_RANKS_BEGUN] == begun && r[LEVELSPRUCE_RANKS_EPOCH] == epoch
+               && r[LEVELSPRUCE_RANKS_X] == x;
 
     for (i = 0; i < LEVELSPRUCE_SLOTS_MOST; i++)
         held = held && r[LEVELSPRUCE_RANKS_EACH + i] == (i < count ? each[i] : NONE);
@@ -112,8 +115,8 @@ static int packet_is(uint32_t slot, uint32_t epoch, uint32_t word, uint32_t numb
 {
     uint8_t h4[LEVELSPRUCE_PACKET_BYTES];
 
-    return levelspruce_packet_write(epoch, word, 1, 0xAB, 0, number, 0, h4, sizeof h4) == LEVELSPRUCE_ANSWER_DONE
-        && done(PACKET, slot, 0, 0) && memcmp(lent_bytes(&out), h4, sizeof h4) == 0;
+    return levelspruce_packet_write(epoch, word, 1, 0xAB, 0, number, 0, h4, sizeof h4) == LEVELSPRUCE_ANSWER_DONE && done(PACKET, slot, 0, 0)
+        && memcmp(lent_bytes(&out), h4, sizeof h4) == 0;
 }
 
 static int payload_is(uint32_t slot, uint32_t p, uint32_t x, uint32_t rank)
@@ -138,8 +141,8 @@ static void starting(void)
     int empty = empties(0) && empties(65), lengths = active(2, 0), eight = lengths;
 
     for (i = 0; i < COUNT(wrong); i++)
-        lengths = lengths && ask(START, 0, 256, 0, wrong[i], 0, 0) == 4 && ask(START, 65, 0, 0, wrong[i], 0, 0) == 4
-            && ask(START, 2, 0, 0, wrong[i], 0, 0) == 9 && ask(START, 2, 256, 0, wrong[i], 0, 0) == 9;
+        lengths = lengths && ask(START, 0, 256, 0, wrong[i], 0, 0) == 4 && ask(START, 65, 0, 0, wrong[i], 0, 0) == 4 && ask(START, 2, 0, 0, wrong[i], 0, 0) == 9
+               && ask(START, 2, 256, 0, wrong[i], 0, 0) == 9;
     for (i = 0; i < COUNT(wide); i++) {
         eight = eight && say(START, 2, wide[i], 0) == 8;
         empty = empty && empties(wide[i]);
@@ -148,7 +151,8 @@ static void starting(void)
     check("start answers 9 for a wrong length, after 4 and before 8", lengths);
     check("start answers 8 for a first epoch above 255", eight);
     check("1 and 64 slots start, with all slots IDLE, no wait and no epoch", done(START, 1, 255, 0) && board_is(BOARD, 1, 0, BYTES(I, 255))
-          && board_is(GOING, 1, 0, BYTES(I, 255)) && ranks_are(1, 0, 255, 0, BYTES(NONE)) && done(START, 64, 0, 0) && done(ADD, 63, 0, 0));
+                                                                                 && board_is(GOING, 1, 0, BYTES(I, 255)) && ranks_are(1, 0, 255, 0, BYTES(NONE))
+                                                                                 && done(START, 64, 0, 0) && done(ADD, 63, 0, 0));
     empty = done(START, 3, 9, 0);
     memcpy(first, lent_bytes(&state), STATE);
     noise(lent_bytes(&state), STATE, 77);
@@ -184,15 +188,16 @@ static int far_slots_are_1(uint32_t count)
 
 static void commands(void)
 {
-    check("add and remove answer 1 for a slot not below the count, before 2", done(START, 64, 0, 0) && far_slots_are_1(64) && done(START, 2, 0, 0) && far_slots_are_1(2));
-    check("add answers 2 for ADD, active and DNU", added(2, 0, 2) && say(ADD, 0, 0, 0) == 2 && active(2, 0) && say(ADD, 0, 0, 0) == 2
-          && done(REPORT, 0, 0xFF, 0) && say(ADD, 0, 0, 0) == 2);
+    check("add and remove answer 1 for a slot not below the count, before 2",
+          done(START, 64, 0, 0) && far_slots_are_1(64) && done(START, 2, 0, 0) && far_slots_are_1(2));
+    check("add answers 2 for ADD, active and DNU",
+          added(2, 0, 2) && say(ADD, 0, 0, 0) == 2 && active(2, 0) && say(ADD, 0, 0, 0) == 2 && done(REPORT, 0, 0xFF, 0) && say(ADD, 0, 0, 0) == 2);
     check("remove answers 2 for IDLE", done(START, 2, 0, 0) && say(REMOVE, 1, 0, 0) == 2);
-    check("remove answers 0 for ADD, active and DNU", added(2, 0, 2) && done(REMOVE, 0, 0, 0) && board_is(BOARD, 2, 1, BYTES(I, 255, A, 0))
-          && active(2, 0) && done(REMOVE, 1, 0, 0) && board_is(BOARD, 2, 1, BYTES(E, 0, I, 255))
-          && active(2, 0) && done(REPORT, 0, 0xFF, 0) && done(REMOVE, 0, 0, 0) && board_is(BOARD, 2, 1, BYTES(I, 255, D, 0)));
-    check("3 comes before 2", active(2, 0) && done(REMOVE, 0, 0, 0) && say(ADD, 0, 0, 0) == 3 && say(ADD, 1, 0, 0) == 3
-          && say(REMOVE, 0, 0, 0) == 3 && say(REMOVE, 1, 0, 0) == 3);
+    check("remove answers 0 for ADD, active and DNU", added(2, 0, 2) && done(REMOVE, 0, 0, 0) && board_is(BOARD, 2, 1, BYTES(I, 255, A, 0)) && active(2, 0)
+                                                          && done(REMOVE, 1, 0, 0) && board_is(BOARD, 2, 1, BYTES(E, 0, I, 255)) && active(2, 0)
+                                                          && done(REPORT, 0, 0xFF, 0) && done(REMOVE, 0, 0, 0) && board_is(BOARD, 2, 1, BYTES(I, 255, D, 0)));
+    check("3 comes before 2",
+          active(2, 0) && done(REMOVE, 0, 0, 0) && say(ADD, 0, 0, 0) == 3 && say(ADD, 1, 0, 0) == 3 && say(REMOVE, 0, 0, 0) == 3 && say(REMOVE, 1, 0, 0) == 3);
     check("1 comes before 3", far_slots_are_1(2));
     check("lapse answers 0 once and then 2", done(LAPSE, 0, 0, 0) && board_is(BOARD, 2, 0, BYTES(I, 255, E, 0)) && say(LAPSE, 0, 0, 0) == 2);
 }
@@ -207,14 +212,17 @@ static void reports(void)
         epoch = epoch && say(EPOCH, wide[i], 0, 0) == 8 && say(EPOCH, 0, wide[i], 0) == 8 && say(EPOCH, 0, 0, wide[i]) == 8;
     }
     check("report answers 8 for a number above 255", report);
-    check("the start of an epoch answers 8 for a GID or RS-Ack above 1 or an MST above 255", epoch && say(EPOCH, 2, 0, 0) == 8
-          && say(EPOCH, 0, 0, 2) == 8 && done(EPOCH, 1, 255, 1));
-    check("an open wait ignores MST, and another RS-Ack closes it, by its lowest bit", active(2, 0) && done(REMOVE, 0, 0, 0)
-          && done(REPORT, 0, 0xFF, 254) && board_is(BOARD, 2, 1, BYTES(I, 255, E, 0)) && done(REPORT, 0, 0xFF, 255) && board_is(BOARD, 2, 0, BYTES(I, 255, E, 0)));
+    check("the start of an epoch answers 8 for a GID or RS-Ack above 1 or an MST above 255",
+          epoch && say(EPOCH, 2, 0, 0) == 8 && say(EPOCH, 0, 0, 2) == 8 && done(EPOCH, 1, 255, 1));
+    check("an open wait ignores MST, and another RS-Ack closes it, by its lowest bit",
+          active(2, 0) && done(REMOVE, 0, 0, 0) && done(REPORT, 0, 0xFF, 254) && board_is(BOARD, 2, 1, BYTES(I, 255, E, 0)) && done(REPORT, 0, 0xFF, 255)
+              && board_is(BOARD, 2, 0, BYTES(I, 255, E, 0)));
     check("with no wait open the bit is remembered", done(REPORT, 0, 0, 0) && done(REMOVE, 1, 0, 0) && done(REPORT, 0, 0, 0)
-          && board_is(BOARD, 2, 1, BYTES(I, 255, I, 255)) && done(REPORT, 0, 0, 1) && board_is(BOARD, 2, 0, BYTES(I, 255, I, 255)));
-    check("MST speaks of the epoch's eight numbers, as they stood on arrival", added(3, 0, 3) && done(REPORT, 1, 0, 0)
-          && board_is(BOARD, 3, 0, BYTES(A, 0, A, 1, A, 2)) && done(REPORT, 32, 0xBF, 0) && board_is(BOARD, 3, 1, BYTES(A, 1, E, 0, A, 2)));
+                                                         && board_is(BOARD, 2, 1, BYTES(I, 255, I, 255)) && done(REPORT, 0, 0, 1)
+                                                         && board_is(BOARD, 2, 0, BYTES(I, 255, I, 255)));
+    check("MST speaks of the epoch's eight numbers, as they stood on arrival",
+          added(3, 0, 3) && done(REPORT, 1, 0, 0) && board_is(BOARD, 3, 0, BYTES(A, 0, A, 1, A, 2)) && done(REPORT, 32, 0xBF, 0)
+              && board_is(BOARD, 3, 1, BYTES(A, 1, E, 0, A, 2)));
 }
 
 static void examples(void)
@@ -237,14 +245,14 @@ static void results(void)
     check("packet and payload answer 2 before the first epoch", say(PACKET, 0, 0, 0) == 2 && say(PAYLOAD, 0, 3, 0) == 2);
     for (which = 0; which < 2; which++) { /* before the first epoch, and in it */
         order = order && say(PACKET, 2, 0, 0) == 1 && ask(PACKET, UINT32_MAX, 0, 0, STATE, 0, 0) == 1 && ask(PACKET, 0, 0, 0, STATE, 0, 0) == 9
-            && ask(PACKET, 0, 0, 0, STATE, 0, 15) == 9 && ask(PACKET, 0, 0, 0, STATE, 0, 17) == 9
-            && ask(PAYLOAD, 256, 0, 0, STATE, 1, 0) == 1 && ask(PAYLOAD, 0, 0, 0, STATE, 1, 0) == 4 && ask(PAYLOAD, 0, 2341, 0, STATE, 1, 1) == 4
-            && ask(PAYLOAD, 0, UINT32_MAX, 0, STATE, 0, 0) == 4 && ask(PAYLOAD, 0, 3, 0, STATE, 1, 3) == 9 && ask(PAYLOAD, 0, 3, 0, STATE, 0, 2) == 9
-            && ask(PAYLOAD, 0, 3, 0, STATE, 0, 4) == 9 && ask(PAYLOAD, 0, 3, 0, STATE, 0, 0) == 9 && done(EPOCH, 1, 0xAB, 0);
+             && ask(PACKET, 0, 0, 0, STATE, 0, 15) == 9 && ask(PACKET, 0, 0, 0, STATE, 0, 17) == 9 && ask(PAYLOAD, 256, 0, 0, STATE, 1, 0) == 1
+             && ask(PAYLOAD, 0, 0, 0, STATE, 1, 0) == 4 && ask(PAYLOAD, 0, 2341, 0, STATE, 1, 1) == 4 && ask(PAYLOAD, 0, UINT32_MAX, 0, STATE, 0, 0) == 4
+             && ask(PAYLOAD, 0, 3, 0, STATE, 1, 3) == 9 && ask(PAYLOAD, 0, 3, 0, STATE, 0, 2) == 9 && ask(PAYLOAD, 0, 3, 0, STATE, 0, 4) == 9
+             && ask(PAYLOAD, 0, 3, 0, STATE, 0, 0) == 9 && done(EPOCH, 1, 0xAB, 0);
     }
     check("packet and payload answer 1, 4 and 9 in this order, before 2", order);
-    check("in the second epoch a frame of other than X x P bytes is 9", ask(PAYLOAD, 0, 3, 0, STATE, 5, 3) == 9
-          && ask(PAYLOAD, 0, 3, 0, STATE, 7, 3) == 9 && ask(PAYLOAD, 0, 3, 0, STATE, 0, 3) == 9 && payload_is(0, 3, 2, 0));
+    check("in the second epoch a frame of other than X x P bytes is 9", ask(PAYLOAD, 0, 3, 0, STATE, 5, 3) == 9 && ask(PAYLOAD, 0, 3, 0, STATE, 7, 3) == 9
+                                                                            && ask(PAYLOAD, 0, 3, 0, STATE, 0, 3) == 9 && payload_is(0, 3, 2, 0));
 }
 
 /* What goes out in the first epoch of two active slots, number 255. */
@@ -258,13 +266,17 @@ static void epochs(void)
 {
     check("the first epoch has X = 0 and sends zeros", active(2, 255) && done(EPOCH, 1, 0xAB, 0) && first_epoch_stands());
     check("commands between two starts do not show", done(REMOVE, 0, 0, 0) && first_epoch_stands() && done(REPORT, 0, 0, 1) && first_epoch_stands()
-          && done(ADD, 0, 0, 0) && first_epoch_stands() && done(REPORT, 0, 0, 1) && done(LAPSE, 0, 0, 0) && first_epoch_stands());
+                                                         && done(ADD, 0, 0, 0) && first_epoch_stands() && done(REPORT, 0, 0, 1) && done(LAPSE, 0, 0, 0)
+                                                         && first_epoch_stands());
     check("after 255 comes 0, with the new packets and payload by the old ones", done(EPOCH, 1, 0xAB, 0) && packet_is(0, 0, E, 1) && packet_is(1, 0, N, 0)
-          && ranks_are(2, 1, 0, 2, BYTES(0, 1)) && payload_is(0, 5, 2, 0) && payload_is(1, 5, 2, 1));
+                                                                                     && ranks_are(2, 1, 0, 2, BYTES(0, 1)) && payload_is(0, 5, 2, 0)
+                                                                                     && payload_is(1, 5, 2, 1));
     check("the payload of two active members is spread by rank", done(EPOCH, 1, 0xAB, 0) && ranks_are(2, 1, 1, 2, BYTES(1, 0)) && payload_is(0, 1, 2, 1)
-          && payload_is(0, 756, 2, 1) && payload_is(1, 756, 2, 0) && payload_is(0, 2340, 2, 1) && payload_is(1, 2340, 2, 0));
+                                                                     && payload_is(0, 756, 2, 1) && payload_is(1, 756, 2, 0) && payload_is(0, 2340, 2, 1)
+                                                                     && payload_is(1, 2340, 2, 0));
     check("a DNU member has no rank and sends zeros", active(3, 0) && done(REPORT, 0, 0x5F, 0) && done(EPOCH, 1, 0xAB, 0) && packet_is(1, 0, D, 1)
-          && done(EPOCH, 0, 0, 1) && ranks_are(3, 1, 1, 2, BYTES(0, NONE, 1)) && payload_is(0, 9, 2, 0) && payload_is(1, 9, 2, NONE) && payload_is(2, 9, 2, 1));
+                                                          && done(EPOCH, 0, 0, 1) && ranks_are(3, 1, 1, 2, BYTES(0, NONE, 1)) && payload_is(0, 9, 2, 0)
+                                                          && payload_is(1, 9, 2, NONE) && payload_is(2, 9, 2, 1));
 }
 
 /* Each call on these bytes gives one of its answers (a bit for each number), and changes only what it may. */

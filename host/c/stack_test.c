@@ -202,7 +202,8 @@ static void planning(void)
     for (i = 0; i < LEVELSPRUCE_PATHS_MOST; i++)
         delays[i] = i * 2477 % (LEVELSPRUCE_DELAY_MOST + 1);
     answers |= levelspruce_paths_plan(delays, LEVELSPRUCE_PATHS_MOST, 20, LEVELSPRUCE_WINDOW_MOST, plan, sizeof plan);
-    answers |= levelspruce_paths_check(delays, LEVELSPRUCE_PATHS_MOST, 20, LEVELSPRUCE_WINDOW_MOST, plan + LEVELSPRUCE_PLAN_EACH, 20, accepted, sizeof accepted);
+    answers |= levelspruce_paths_check(delays, LEVELSPRUCE_PATHS_MOST, 20, LEVELSPRUCE_WINDOW_MOST, plan + LEVELSPRUCE_PLAN_EACH, 20, accepted,
+                                       sizeof accepted);
     answers |= accepted[0] != 1;
 }
 
@@ -240,8 +241,8 @@ static void replaying(void)
     answers |= store_length > sizeof store || out_length > sizeof out;
     answers |= levelspruce_replay_begin(replay, sizeof replay);
     while (!wants)
-        answers |= levelspruce_replay_turn(replay, sizeof replay, recording, length, &at, 1, receiver, COUNT(receiver), store, store_length, out, out_length, said, sizeof said,
-                                           &written, &wants);
+        answers |= levelspruce_replay_turn(replay, sizeof replay, recording, length, &at, 1, receiver, COUNT(receiver), store, store_length, out, out_length,
+                                           said, sizeof said, &written, &wants);
     answers |= at != length;
 }
 
@@ -265,8 +266,8 @@ static size_t stack_of(void (*these)(void))
         return STACK;
     calls = these;
     memset(stack, PAINT, STACK);
-    if (pthread_attr_init(&attributes) != 0 || pthread_attr_setstack(&attributes, stack, STACK) != 0
-        || pthread_create(&thread, &attributes, call, NULL) != 0 || pthread_join(thread, NULL) != 0)
+    if (pthread_attr_init(&attributes) != 0 || pthread_attr_setstack(&attributes, stack, STACK) != 0 || pthread_create(&thread, &attributes, call, NULL) != 0
+        || pthread_join(thread, NULL) != 0)
         return STACK;
     while (left < STACK && stack[left] == PAINT)
         left++;
@@ -279,10 +280,18 @@ int main(void)
         const char *name;
         void (*calls)(void);
         size_t limit;
-    } groups[] = { { "packets", packets, CARD }, { "payload", payloads, CARD }, { "sender", sending, CARD }, { "card", sharing, CARD },
-                 { "receiver", receiving, CARD }, { "receiver of a fixed group", receiving_fixed, CARD },
-                 { "sender of VC-12", sending_vc12, CARD }, { "receiver of VC-12", receiving_vc12, CARD }, { "paths", planning, CARD },
-                 { "spoken board", telling, CARD }, { "mending", mending, DESK }, { "replay", replaying, REPLAY } };
+    } groups[] = { { "packets", packets, CARD },
+                   { "payload", payloads, CARD },
+                   { "sender", sending, CARD },
+                   { "card", sharing, CARD },
+                   { "receiver", receiving, CARD },
+                   { "receiver of a fixed group", receiving_fixed, CARD },
+                   { "sender of VC-12", sending_vc12, CARD },
+                   { "receiver of VC-12", receiving_vc12, CARD },
+                   { "paths", planning, CARD },
+                   { "spoken board", telling, CARD },
+                   { "mending", mending, DESK },
+                   { "replay", replaying, REPLAY } };
     size_t own, i;
     int within = 1;
 

@@ -49,10 +49,10 @@ static void causes(void)
     for (i = 0; i < COUNT(beyond); i++)
         same = same && strcmp(levelspruce_cause_text(beyond[i]), "no report has this cause") == 0;
     check("every cause has a text of one line", lines);
-    check("the causes of reports have different texts", all_differ(levelspruce_cause_text, LEVELSPRUCE_CAUSE_NUMBERS + 1)
-                                                            && strcmp(levelspruce_cause_text(LEVELSPRUCE_CAUSE_NONE), "none") == 0
-                                                            && strcmp(levelspruce_cause_text(LEVELSPRUCE_CAUSE_REFUSED), "a ruling packet was refused") == 0
-                                                            && strcmp(levelspruce_cause_text(LEVELSPRUCE_CAUSE_NUMBERS), "the numbers are not 0 to n - 1") == 0);
+    check("the causes of reports have different texts",
+          all_differ(levelspruce_cause_text, LEVELSPRUCE_CAUSE_NUMBERS + 1) && strcmp(levelspruce_cause_text(LEVELSPRUCE_CAUSE_NONE), "none") == 0
+              && strcmp(levelspruce_cause_text(LEVELSPRUCE_CAUSE_REFUSED), "a ruling packet was refused") == 0
+              && strcmp(levelspruce_cause_text(LEVELSPRUCE_CAUSE_NUMBERS), "the numbers are not 0 to n - 1") == 0);
     check("a number that is no cause is said to be none", same);
 }
 
@@ -65,10 +65,9 @@ static void names(void)
     check("the marks have their names, and all others none", named_so(levelspruce_mark_name, marks, COUNT(marks))
                                                                  && strcmp(levelspruce_mark_name(LEVELSPRUCE_MARK_HELD), "held") == 0
                                                                  && strcmp(levelspruce_mark_name(LEVELSPRUCE_MARK_SURE), "sure") == 0);
-    check("so have the states", named_so(levelspruce_state_name, states, COUNT(states))
-                                    && strcmp(levelspruce_state_name(LEVELSPRUCE_PORT_FAIL), "FAIL") == 0);
-    check("so has what a port waits for", named_so(levelspruce_waiting_name, waits, COUNT(waits))
-                                              && strcmp(levelspruce_waiting_name(LEVELSPRUCE_WAITING_HOLD_OFF), "hold-off") == 0);
+    check("so have the states", named_so(levelspruce_state_name, states, COUNT(states)) && strcmp(levelspruce_state_name(LEVELSPRUCE_PORT_FAIL), "FAIL") == 0);
+    check("so has what a port waits for",
+          named_so(levelspruce_waiting_name, waits, COUNT(waits)) && strcmp(levelspruce_waiting_name(LEVELSPRUCE_WAITING_HOLD_OFF), "hold-off") == 0);
 }
 
 int main(void)
@@ -77,11 +76,17 @@ int main(void)
     static const struct {
         uint32_t word;
         const char *name;
-    } words[] = {
-        { LEVELSPRUCE_WORD_FIXED, "FIXED" }, { LEVELSPRUCE_WORD_ADD, "ADD" }, { LEVELSPRUCE_WORD_NORM, "NORM" },
-        { LEVELSPRUCE_WORD_EOS, "EOS" }, { LEVELSPRUCE_WORD_IDLE, "IDLE" }, { LEVELSPRUCE_WORD_DNU, "DNU" },
-        { 4, "unassigned" }, { 6, "unassigned" }, { 14, "unassigned" }, { 16, "unassigned" }, { 256 + LEVELSPRUCE_WORD_ADD, "unassigned" }
-    };
+    } words[] = { { LEVELSPRUCE_WORD_FIXED, "FIXED" },
+                  { LEVELSPRUCE_WORD_ADD, "ADD" },
+                  { LEVELSPRUCE_WORD_NORM, "NORM" },
+                  { LEVELSPRUCE_WORD_EOS, "EOS" },
+                  { LEVELSPRUCE_WORD_IDLE, "IDLE" },
+                  { LEVELSPRUCE_WORD_DNU, "DNU" },
+                  { 4, "unassigned" },
+                  { 6, "unassigned" },
+                  { 14, "unassigned" },
+                  { 16, "unassigned" },
+                  { 256 + LEVELSPRUCE_WORD_ADD, "unassigned" } };
     uint32_t i;
     int lines = 1, same = 1, named = 1;
 

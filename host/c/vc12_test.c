@@ -93,8 +93,7 @@ static int read_refuses(const uint8_t *bytes, size_t length, size_t fields_lengt
 
     lend(&bits, bytes, PACKET);
     lend(&fields, NULL, 0);
-    return levelspruce_packet_read_vc12(lent_bytes(&bits), length, lent_bytes(&fields), fields_length) == answer && untouched(&bits)
-        && untouched(&fields);
+    return levelspruce_packet_read_vc12(lent_bytes(&bits), length, lent_bytes(&fields), fields_length) == answer && untouched(&bits) && untouched(&fields);
 }
 
 static const size_t wrong_packet_length[] = { 0, 1, 16, 31, 33, 64 }, wrong_fields_length[] = { 0, 1, 6, 9, 11, 32 };
@@ -236,22 +235,21 @@ static void starting_senders(int card)
     check("a count of 0 or above 64 is 4", count && starts(card, KIND, 1, 0, whole, 0) && starts(card, KIND, 64, 0, whole, 0));
     for (i = 0; i < COUNT(wide); i++)
         first = first && starts(card, KIND, 3, wide[i], whole, 8);
-    check("a first epoch of 31 starts, 32 is 8; of H4 255 and 256",
-          first && starts(card, KIND, 3, 31, whole, 0) && starts(card, KIND, 3, 32, whole, 8) && starts(card, 0, 3, 255, whole, 0)
-          && starts(card, 0, 3, 256, whole, 8));
+    check("a first epoch of 31 starts, 32 is 8; of H4 255 and 256", first && starts(card, KIND, 3, 31, whole, 0) && starts(card, KIND, 3, 32, whole, 8)
+                                                                        && starts(card, 0, 3, 255, whole, 0) && starts(card, 0, 3, 256, whole, 8));
     if (card) {
         lend(&as, NULL, 0);
         check("either first epoch is looked at", levelspruce_card_start_as(KIND, 3, 0, 32, lent_bytes(&as), CARD) == 8
-              && levelspruce_card_start_as(KIND, 3, 32, 0, lent_bytes(&as), CARD) == 8 && untouched(&as));
+                                                     && levelspruce_card_start_as(KIND, 3, 32, 0, lent_bytes(&as), CARD) == 8 && untouched(&as));
     }
     length = starts(card, KIND, 3, 0, 0, 9) && starts(card, KIND, 3, 0, whole - 1, 9) && starts(card, KIND, 3, 0, whole + 1, 9)
-        && starts(card, KIND, 3, 32, whole - 1, 9) && start_as(card, KIND, 3, 0, NULL, 0) == 9 && start_as(card, 2, 3, 0, NULL, 0) == 4;
+          && starts(card, KIND, 3, 32, whole - 1, 9) && start_as(card, KIND, 3, 0, NULL, 0) == 9 && start_as(card, 2, 3, 0, NULL, 0) == 4;
     check("a wrong length is 9, before 8", length);
     for (n = 0; n < 70; n++) {
         lend(&as, NULL, 0);
         lend(&plain, NULL, 0);
         alike = alike && start_as(card, 0, n, n * 5, lent_bytes(&as), whole) == start_plain(card, n, n * 5, lent_bytes(&plain), whole)
-            && memcmp(as.now, plain.now, sizeof as.now) == 0;
+             && memcmp(as.now, plain.now, sizeof as.now) == 0;
     }
     check("with kind 0 it is the start without a kind, byte for byte", alike);
 }
@@ -294,14 +292,14 @@ static void numbers(void)
         last = last && active(64) && shown(63, EOS, 63) && levelspruce_sender_report(sender, SENDER, seven[i], 1, 0) == DONE && shown(63, DNU, 63)
             && shown(62, EOS, 62) && shown(61, NORM, 61);
     check("64 members: MST 01 of epoch 7, and of 15, 31 and 255, makes number 63 DNU, with EOS on 62", last);
-    check("a report of epoch 15 speaks of 56 to 63: MST 80 makes number 56 DNU, and 63 stays", active(64)
-          && levelspruce_sender_report(sender, SENDER, 15, 0x80, 0) == DONE && shown(56, DNU, 56) && shown(55, NORM, 55) && shown(63, EOS, 63));
+    check("a report of epoch 15 speaks of 56 to 63: MST 80 makes number 56 DNU, and 63 stays",
+          active(64) && levelspruce_sender_report(sender, SENDER, 15, 0x80, 0) == DONE && shown(56, DNU, 56) && shown(55, NORM, 55) && shown(63, EOS, 63));
     check("MST of epoch 8 speaks of 0 to 7", active(64) && levelspruce_sender_report(sender, SENDER, 8, 0x80, 0) == DONE && shown(0, DNU, 0));
-    check("a report's epoch may be any byte, and 256 is 8", active(3) && levelspruce_sender_report(sender, SENDER, 256, 0, 0) == 8
-          && levelspruce_sender_report(sender, SENDER, 255, 0, 0) == DONE);
+    check("a report's epoch may be any byte, and 256 is 8",
+          active(3) && levelspruce_sender_report(sender, SENDER, 256, 0, 0) == 8 && levelspruce_sender_report(sender, SENDER, 255, 0, 0) == DONE);
     held = active(3) && levelspruce_sender_remove(sender, SENDER, 1) == DONE && shown(1, IDLE, 63) && levelspruce_sender_lapse(sender, SENDER) == DONE
-        && levelspruce_sender_report(sender, SENDER, 7, 0xFF, 0) == DONE && shown(1, IDLE, 63) && shown(0, NORM, 0) && shown(2, EOS, 1)
-        && shown(3, IDLE, 63) && shown(63, IDLE, 63);
+        && levelspruce_sender_report(sender, SENDER, 7, 0xFF, 0) == DONE && shown(1, IDLE, 63) && shown(0, NORM, 0) && shown(2, EOS, 1) && shown(3, IDLE, 63)
+        && shown(63, IDLE, 63);
     check("a removed slot shows IDLE 63 and so do those past the count, and no report finds it", held);
     held = levelspruce_sender_start_as(KIND, 2, 31, sender, SENDER) == DONE && levelspruce_sender_packet(sender, SENDER, 0, bits, PACKET) == 2
         && levelspruce_sender_start_epoch(sender, SENDER, 1, 0x5A, 1) == DONE && levelspruce_sender_packet(sender, SENDER, 2, bits, 5) == 1
@@ -310,12 +308,10 @@ static void numbers(void)
         && levelspruce_sender_packet(sender, SENDER, 0, bits, PACKET) == DONE && write_fields(&f, expected, PACKET) == DONE
         && memcmp(bits, expected, PACKET) == 0;
     f.epoch = 0;
-    held = held && levelspruce_sender_start_epoch(sender, SENDER, 1, 0x5A, 1) == DONE
-        && levelspruce_sender_packet(sender, SENDER, 1, bits, PACKET) == DONE
+    held = held && levelspruce_sender_start_epoch(sender, SENDER, 1, 0x5A, 1) == DONE && levelspruce_sender_packet(sender, SENDER, 1, bits, PACKET) == DONE
         && write_fields(&f, expected, PACKET) == DONE && memcmp(bits, expected, PACKET) == 0;
     check("packets are 32 bytes in the order 1, 9, 2, and epoch 31 is followed by 0", held);
-    held = active(2) && levelspruce_sender_start_epoch(sender, SENDER, 0, 0, 0) == DONE
-        && levelspruce_sender_start_epoch(sender, SENDER, 0, 0, 0) == DONE
+    held = active(2) && levelspruce_sender_start_epoch(sender, SENDER, 0, 0, 0) == DONE && levelspruce_sender_start_epoch(sender, SENDER, 0, 0, 0) == DONE
         && levelspruce_sender_payload(sender, SENDER, 2, 135, frame, 1, member, 1) == 1
         && levelspruce_sender_payload(sender, SENDER, 0, 135, frame, 270, member, 135) == 4
         && levelspruce_sender_payload(sender, SENDER, 0, 137, frame, 1, member, 137) == 4
@@ -324,21 +320,20 @@ static void numbers(void)
         && levelspruce_sender_payload(sender, SENDER, 0, P, frame, 2 * P, member, P + 1) == 9;
     for (i = 0; i < sizeof frame; i++)
         frame[i] = (uint8_t)i;
-    held = held && levelspruce_sender_payload(sender, SENDER, 1, P, frame, 2 * P, member, P) == DONE && member[0] == 1
-        && member[P - 1] == (uint8_t)(2 * P - 1);
+    held = held && levelspruce_sender_payload(sender, SENDER, 1, P, frame, 2 * P, member, P) == DONE && member[0] == 1 && member[P - 1] == (uint8_t)(2 * P - 1);
     check("payload is 136 bytes, any other P is 4, in the order 1, 4, 9", held);
     check("and before an epoch it is 2, behind 4 and 9", levelspruce_sender_start_as(KIND, 2, 0, sender, SENDER) == DONE
-          && levelspruce_sender_payload(sender, SENDER, 0, P, NULL, 0, member, P) == 2
-          && levelspruce_sender_payload(sender, SENDER, 0, 135, NULL, 0, member, 1) == 4
-          && levelspruce_sender_payload(sender, SENDER, 0, P, NULL, 0, member, 1) == 9);
+                                                             && levelspruce_sender_payload(sender, SENDER, 0, P, NULL, 0, member, P) == 2
+                                                             && levelspruce_sender_payload(sender, SENDER, 0, 135, NULL, 0, member, 1) == 4
+                                                             && levelspruce_sender_payload(sender, SENDER, 0, P, NULL, 0, member, 1) == 9);
     /* refused, each of the two leaves its bytes as they were */
     lend(&lent, NULL, 0);
     check("a refused packet and a refused payload change no byte",
           levelspruce_sender_packet(sender, SENDER, 0, lent_bytes(&lent), PACKET) == 2
-          && levelspruce_sender_payload(sender, SENDER, 0, 135, NULL, 0, lent_bytes(&lent), 135) == 4
-          && levelspruce_sender_payload(sender, SENDER, 0, P, NULL, 0, lent_bytes(&lent), P) == 2 && untouched(&lent));
-    check("spread and join keep 1 to 2,340", levelspruce_spread(1, 135, frame, 135, member, 135) == DONE
-          && levelspruce_join(1, 135, member, 135, frame, 135) == DONE);
+              && levelspruce_sender_payload(sender, SENDER, 0, 135, NULL, 0, lent_bytes(&lent), 135) == 4
+              && levelspruce_sender_payload(sender, SENDER, 0, P, NULL, 0, lent_bytes(&lent), P) == 2 && untouched(&lent));
+    check("spread and join keep 1 to 2,340",
+          levelspruce_spread(1, 135, frame, 135, member, 135) == DONE && levelspruce_join(1, 135, member, 135, frame, 135) == DONE);
 }
 
 /* Of a card: what its groups send, in the orders 1, 14, 9, 2 and 1, 14, 4, 9, 2. */
@@ -348,25 +343,26 @@ static void cards(void)
     const struct fields f = { 31, ADD, 1, 0xFF, 0, 0, 0 };
     uint8_t bits[PACKET + 1], expected[PACKET], member[P + 1], board[LEVELSPRUCE_BOARD_BYTES];
     int held = levelspruce_card_start_as(KIND, 3, 31, 5, card, CARD) == DONE && levelspruce_card_claim(card, CARD, 0, 1) == DONE
-        && levelspruce_card_add(card, CARD, 0, 1) == DONE;
+            && levelspruce_card_add(card, CARD, 0, 1) == DONE;
 
-    check("card: before an epoch a packet is 1, 14, 9, 2", held && levelspruce_card_packet(card, CARD, 2, 0, bits, 5) == 1
-          && levelspruce_card_packet(card, CARD, 0, 3, bits, 5) == 1 && levelspruce_card_packet(card, CARD, 1, 1, bits, 5) == 14
-          && levelspruce_card_packet(card, CARD, 0, 1, bits, LEVELSPRUCE_PACKET_BYTES) == 9
-          && levelspruce_card_packet(card, CARD, 0, 1, bits, PACKET + 1) == 9 && levelspruce_card_packet(card, CARD, 0, 1, bits, PACKET) == 2);
+    check("card: before an epoch a packet is 1, 14, 9, 2",
+          held && levelspruce_card_packet(card, CARD, 2, 0, bits, 5) == 1 && levelspruce_card_packet(card, CARD, 0, 3, bits, 5) == 1
+              && levelspruce_card_packet(card, CARD, 1, 1, bits, 5) == 14 && levelspruce_card_packet(card, CARD, 0, 1, bits, LEVELSPRUCE_PACKET_BYTES) == 9
+              && levelspruce_card_packet(card, CARD, 0, 1, bits, PACKET + 1) == 9 && levelspruce_card_packet(card, CARD, 0, 1, bits, PACKET) == 2);
     check("card: and a payload 1, 14, 4, 9, 2", levelspruce_card_payload(card, CARD, 0, 3, 135, NULL, 0, member, 1) == 1
-          && levelspruce_card_payload(card, CARD, 1, 1, 135, NULL, 0, member, 1) == 14
-          && levelspruce_card_payload(card, CARD, 0, 1, 135, NULL, 0, member, 1) == 4
-          && levelspruce_card_payload(card, CARD, 0, 1, 137, NULL, 0, member, 1) == 4
-          && levelspruce_card_payload(card, CARD, 0, 1, P, NULL, 0, member, P + 1) == 9
-          && levelspruce_card_payload(card, CARD, 0, 1, P, NULL, 0, member, P) == 2);
+                                                    && levelspruce_card_payload(card, CARD, 1, 1, 135, NULL, 0, member, 1) == 14
+                                                    && levelspruce_card_payload(card, CARD, 0, 1, 135, NULL, 0, member, 1) == 4
+                                                    && levelspruce_card_payload(card, CARD, 0, 1, 137, NULL, 0, member, 1) == 4
+                                                    && levelspruce_card_payload(card, CARD, 0, 1, P, NULL, 0, member, P + 1) == 9
+                                                    && levelspruce_card_payload(card, CARD, 0, 1, P, NULL, 0, member, P) == 2);
     held = levelspruce_card_start_epoch(card, CARD, 0, 1, 0xFF, 0) == DONE && write_fields(&f, expected, PACKET) == DONE
         && levelspruce_card_packet(card, CARD, 0, 1, bits, PACKET) == DONE && memcmp(bits, expected, PACKET) == 0
         && levelspruce_card_payload(card, CARD, 0, 1, P, NULL, 0, member, P) == DONE && member[0] == 0 && member[P - 1] == 0;
     check("card: its packet is of the first epoch given and of 32 bytes, and a slot that is ADD carries zeros", held);
     check("card: an IDLE slot and one past the count show 63", levelspruce_card_board(card, CARD, 0, board, sizeof board) == DONE
-          && board[LEVELSPRUCE_BOARD_ROWS + 1] == 63 && board[LEVELSPRUCE_BOARD_ROWS + 2 * 3] == IDLE && board[LEVELSPRUCE_BOARD_ROWS + 2 * 3 + 1] == 63
-          && board[LEVELSPRUCE_BOARD_ROWS + 2] == ADD && board[LEVELSPRUCE_BOARD_ROWS + 3] == 0);
+                                                                   && board[LEVELSPRUCE_BOARD_ROWS + 1] == 63 && board[LEVELSPRUCE_BOARD_ROWS + 2 * 3] == IDLE
+                                                                   && board[LEVELSPRUCE_BOARD_ROWS + 2 * 3 + 1] == 63
+                                                                   && board[LEVELSPRUCE_BOARD_ROWS + 2] == ADD && board[LEVELSPRUCE_BOARD_ROWS + 3] == 0);
 }
 
 /* ---- the receiver */
@@ -402,7 +398,8 @@ static int begins(uint32_t ports, uint32_t w)
 
 static uint8_t hand_payload(uint32_t port, uint32_t failed, uint8_t byte, const uint8_t *payload)
 {
-    return levelspruce_receiver_frame(state, LEVELSPRUCE_RECEIVER_ROWS(count), port, failed, byte, payload, P, store, LEVELSPRUCE_STORE_BYTES(count, P, window));
+    return levelspruce_receiver_frame(state, LEVELSPRUCE_RECEIVER_ROWS(count), port, failed, byte, payload, P, store,
+                                      LEVELSPRUCE_STORE_BYTES(count, P, window));
 }
 
 static uint8_t hand(uint32_t port, uint8_t byte)
@@ -416,15 +413,19 @@ static uint8_t hand(uint32_t port, uint8_t byte)
 static int fetch(void)
 {
     return levelspruce_receiver_fetch(state, LEVELSPRUCE_RECEIVER_ROWS(count), store, LEVELSPRUCE_STORE_BYTES(count, P, window), out,
-                                      LEVELSPRUCE_OUTPUT_BYTES_VC12(count), report, sizeof report) == DONE ? report[LEVELSPRUCE_REPORT_MARK] : -1;
+                                      LEVELSPRUCE_OUTPUT_BYTES_VC12(count), report, sizeof report)
+                == DONE
+             ? report[LEVELSPRUCE_REPORT_MARK]
+             : -1;
 }
 
 static int port_shows(uint32_t port, int which)
 {
     uint8_t ports[PORTS][LEVELSPRUCE_PORT_BYTES];
 
-    return levelspruce_receiver_ports((const uint8_t (*)[LEVELSPRUCE_ROW_BYTES])state, LEVELSPRUCE_RECEIVER_ROWS(count), ports, count) == DONE
-        ? ports[port][which] : -1;
+    return levelspruce_receiver_ports((const uint8_t(*)[LEVELSPRUCE_ROW_BYTES])state, LEVELSPRUCE_RECEIVER_ROWS(count), ports, count) == DONE
+             ? ports[port][which]
+             : -1;
 }
 
 static void starting_receivers(void)
@@ -437,35 +438,37 @@ static void starting_receivers(void)
     size_t i;
 
     check("the constants", LEVELSPRUCE_KIND_VC12 == 1 && EPOCH == 32 && PACKET == 32 && BEGIN == 2 && P == 136 && LEVELSPRUCE_WINDOW_LEAST_VC12 == 32
-          && W_MOST == 512 && LEVELSPRUCE_NUMBER_IDLE_VC12 == 63 && LEVELSPRUCE_OUTPUT_BYTES_VC12(3) == 3 * 32 * 136);
-    check("W 31 is 4, 32 and 512 start, 513 is 4", asks(KIND, 3, P, 31, 0, 0) == 4 && asks(KIND, 3, P, 32, 0, 0) == 0
-          && asks(KIND, 3, P, 512, 0, 0) == 0
-          && asks(KIND, 3, P, 513, 0, 0) == 4 && asks(0, 3, P, 16, 0, 0) == 0 && asks(0, 3, P, 2048, 0, 0) == 0);
+                               && W_MOST == 512 && LEVELSPRUCE_NUMBER_IDLE_VC12 == 63 && LEVELSPRUCE_OUTPUT_BYTES_VC12(3) == 3 * 32 * 136);
+    check("W 31 is 4, 32 and 512 start, 513 is 4", asks(KIND, 3, P, 31, 0, 0) == 4 && asks(KIND, 3, P, 32, 0, 0) == 0 && asks(KIND, 3, P, 512, 0, 0) == 0
+                                                       && asks(KIND, 3, P, 513, 0, 0) == 4 && asks(0, 3, P, 16, 0, 0) == 0 && asks(0, 3, P, 2048, 0, 0) == 0);
     check("P 135 is 4, 136 starts, 137 is 4; of H4 all start", asks(KIND, 3, 135, 64, 0, 0) == 4 && asks(KIND, 3, 136, 64, 0, 0) == 0
-          && asks(KIND, 3, 137, 64, 0, 0) == 4
-          && asks(0, 3, 135, 64, 0, 0) == 0 && asks(0, 3, 137, 64, 0, 0) == 0);
+                                                                   && asks(KIND, 3, 137, 64, 0, 0) == 4 && asks(0, 3, 135, 64, 0, 0) == 0
+                                                                   && asks(0, 3, 137, 64, 0, 0) == 0);
     for (i = 0; i < COUNT(kinds); i++)
         kind = kind && asks(kinds[i], 3, P, 64, 0, 0) == 4 && asks(kinds[i], 3, P, 64, 1, 1) == 4;
-    check("the kinds 0, 1 and 2 start, 3 and 257 are 4, before 9", kind && asks(0, 3, P, 64, 0, 0) == 0 && asks(1, 3, P, 64, 0, 0) == 0
-          && asks(2, 3, P, 64, 0, 0) == 0);
+    check("the kinds 0, 1 and 2 start, 3 and 257 are 4, before 9",
+          kind && asks(0, 3, P, 64, 0, 0) == 0 && asks(1, 3, P, 64, 0, 0) == 0 && asks(2, 3, P, 64, 0, 0) == 0);
     check("ports 0 and 65 are 4, 64 start; 9 for the store or the rows", asks(KIND, 0, P, 64, 0, 0) == 4 && asks(KIND, 65, P, 64, 0, 0) == 4
-          && asks(KIND, 64, P, 64, 0, 0) == 0
-          && asks(KIND, 3, P, 64, 1, 0) == 9 && asks(KIND, 3, P, 64, 0, 1) == 9 && asks(KIND, 3, 135, 64, 1, 1) == 4);
+                                                                             && asks(KIND, 64, P, 64, 0, 0) == 0 && asks(KIND, 3, P, 64, 1, 0) == 9
+                                                                             && asks(KIND, 3, P, 64, 0, 1) == 9 && asks(KIND, 3, 135, 64, 1, 1) == 4);
     check("times: a list is empty or one for each port, else 9, and a count above 5,000 is 4 before it",
           times(NULL, 0) == 0 && times(few, 3) == 0 && times(few, 2) == 9 && times(long_one, 3) == 4 && times(long_one, 2) == 4);
-    check("a refused start leaves an empty group", asks(KIND, 3, P, 31, 0, 0) == 4
-          && levelspruce_receiver_frame(state, LEVELSPRUCE_RECEIVER_ROWS(3), 0, 0, BEGIN, nothing, P, store, 0) == 1
-          && levelspruce_receiver_ports((const uint8_t (*)[LEVELSPRUCE_ROW_BYTES])state, 4, NULL, 0) == 0);
-    check("after its start all ports are IDLE with number 63 and no word, and MST is FF", begins(3, 64)
-          && port_shows(2, LEVELSPRUCE_PORT_STATE) == LEVELSPRUCE_PORT_IDLE
-          && port_shows(2, LEVELSPRUCE_PORT_NUMBER) == 63 && port_shows(2, LEVELSPRUCE_PORT_WORD) == 255
-          && levelspruce_receiver_reply((const uint8_t (*)[LEVELSPRUCE_ROW_BYTES])state, LEVELSPRUCE_RECEIVER_ROWS(3), 9, reply, sizeof reply) == DONE
-          && reply[0] == 0xFF && reply[1] == 0);
-    check("a frame is 1, then 9, and a fetch is 9 for less than ports x 32 x 136 bytes", hand(3, BEGIN) == 1
-          && levelspruce_receiver_frame(state, LEVELSPRUCE_RECEIVER_ROWS(3), 0, 0, BEGIN, nothing, 135, store, LEVELSPRUCE_STORE_BYTES(3, P, 64)) == 9
-          && levelspruce_receiver_frame(state, LEVELSPRUCE_RECEIVER_ROWS(3), 0, 0, BEGIN, nothing, P, store, LEVELSPRUCE_STORE_BYTES(3, P, 64) - 1) == 9
-          && levelspruce_receiver_fetch(state, LEVELSPRUCE_RECEIVER_ROWS(3), store, LEVELSPRUCE_STORE_BYTES(3, P, 64), out,
-                                        LEVELSPRUCE_OUTPUT_BYTES_VC12(3) - 1, report, sizeof report) == 9 && fetch() == LEVELSPRUCE_MARK_NONE);
+    check("a refused start leaves an empty group",
+          asks(KIND, 3, P, 31, 0, 0) == 4 && levelspruce_receiver_frame(state, LEVELSPRUCE_RECEIVER_ROWS(3), 0, 0, BEGIN, nothing, P, store, 0) == 1
+              && levelspruce_receiver_ports((const uint8_t(*)[LEVELSPRUCE_ROW_BYTES])state, 4, NULL, 0) == 0);
+    check("after its start all ports are IDLE with number 63 and no word, and MST is FF",
+          begins(3, 64) && port_shows(2, LEVELSPRUCE_PORT_STATE) == LEVELSPRUCE_PORT_IDLE && port_shows(2, LEVELSPRUCE_PORT_NUMBER) == 63
+              && port_shows(2, LEVELSPRUCE_PORT_WORD) == 255
+              && levelspruce_receiver_reply((const uint8_t(*)[LEVELSPRUCE_ROW_BYTES])state, LEVELSPRUCE_RECEIVER_ROWS(3), 9, reply, sizeof reply) == DONE
+              && reply[0] == 0xFF && reply[1] == 0);
+    check("a frame is 1, then 9, and a fetch is 9 for less than ports x 32 x 136 bytes",
+          hand(3, BEGIN) == 1
+              && levelspruce_receiver_frame(state, LEVELSPRUCE_RECEIVER_ROWS(3), 0, 0, BEGIN, nothing, 135, store, LEVELSPRUCE_STORE_BYTES(3, P, 64)) == 9
+              && levelspruce_receiver_frame(state, LEVELSPRUCE_RECEIVER_ROWS(3), 0, 0, BEGIN, nothing, P, store, LEVELSPRUCE_STORE_BYTES(3, P, 64) - 1) == 9
+              && levelspruce_receiver_fetch(state, LEVELSPRUCE_RECEIVER_ROWS(3), store, LEVELSPRUCE_STORE_BYTES(3, P, 64), out,
+                                            LEVELSPRUCE_OUTPUT_BYTES_VC12(3) - 1, report, sizeof report)
+                     == 9
+              && fetch() == LEVELSPRUCE_MARK_NONE);
 }
 
 /* ---- step, frame by frame, of a group of one port */
@@ -731,11 +734,10 @@ static void linking(void)
         held = held && arrives(payload, delays[i], -1, 0, 0);
     check("three slots over delays up to W-32: every report sure with the client's bytes", held);
     for (slot = 0; slot < PORTS; slot++)
-        numbered = numbered && port_shows(slot, LEVELSPRUCE_PORT_STATE) == LEVELSPRUCE_PORT_OK
-            && port_shows(slot, LEVELSPRUCE_PORT_NUMBER) == (int)slot;
+        numbered = numbered && port_shows(slot, LEVELSPRUCE_PORT_STATE) == LEVELSPRUCE_PORT_OK && port_shows(slot, LEVELSPRUCE_PORT_NUMBER) == (int)slot;
     numbered = numbered
-        && levelspruce_receiver_reply((const uint8_t (*)[LEVELSPRUCE_ROW_BYTES])state, LEVELSPRUCE_RECEIVER_ROWS(PORTS), 16, reply, sizeof reply) == DONE
-        && reply[LEVELSPRUCE_REPLY_MST] == 0x1F;
+            && levelspruce_receiver_reply((const uint8_t(*)[LEVELSPRUCE_ROW_BYTES])state, LEVELSPRUCE_RECEIVER_ROWS(PORTS), 16, reply, sizeof reply) == DONE
+            && reply[LEVELSPRUCE_REPLY_MST] == 0x1F;
     check("each is OK under its number, and the reply of epochs 0, 8, 16 and 24 says so", numbered);
     for (place = 5; place < PACKET; place++)
         hits = hits && arrives(payload, delays[1], (int)(place % PORTS), 7, place);

@@ -12,7 +12,7 @@ from checks.specs import Declaration, House
 
 TABLES = ("conformance", "pinned", "tables")
 # words of no rule, of which the others are made
-WORDS = ("ground", "counting")
+WORDS = ("ground",)
 TRIED = {"Wrong", "Samples", "Examples"}
 APART = {"Laws", "Theorems", "Proofs", "Opened", "Inner", "Lib"} | TRIED
 ROW = re.compile(r'(?<![^\s(])row "((?:\\.|[^"\\])*)"\s+')

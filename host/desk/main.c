@@ -81,8 +81,8 @@ static void run_text(uint32_t last)
     uint8_t wants = 0;
 
     while (!wants) {
-        if (levelspruce_replay_turn(replay, sizeof replay, text, length, &at, last, rows, sizeof rows / sizeof *rows, store, store_length,
-                                    out, out_length, said, sizeof said, &written, &wants)
+        if (levelspruce_replay_turn(replay, sizeof replay, text, length, &at, last, rows, sizeof rows / sizeof *rows, store, store_length, out, out_length,
+                                    said, sizeof said, &written, &wants)
             != LEVELSPRUCE_ANSWER_DONE)
             stop("a turn was refused", NULL);
         take(said, written);

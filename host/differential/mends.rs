@@ -49,7 +49,13 @@ fn mend(test: &mut Test, random: &mut Random, text: &[u8]) {
     let said = card::mend_lengths(text, &mut told.0, &mut told.1);
     test.case(answer, &(answer, lengths), &(said, told), &text);
 
-    let off = |random: &mut Random, n: usize| if random.below(6) == 0 { n.saturating_add(random.one_of(&[1, 2, 100])).saturating_sub(random.one_of(&[0, 3])) } else { n };
+    let off = |random: &mut Random, n: usize| {
+        if random.below(6) == 0 {
+            n.saturating_add(random.one_of(&[1, 2, 100])).saturating_sub(random.one_of(&[0, 3]))
+        } else {
+            n
+        }
+    };
     let (long, noted) = (off(random, lengths.0), off(random, lengths.1));
     let answer = if answer == 0 && (long, noted) != lengths { 9 } else { answer };
     let mut buffers = [vec![0; long + 2 * MARGIN], vec![0; noted + 2 * MARGIN]];

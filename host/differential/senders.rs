@@ -56,7 +56,11 @@ pub fn compare(count: &mut Count) {
 
 /// The greatest first epoch of a kind.
 pub fn epoch_most(kind: u32) -> u32 {
-    if kind == KIND_VC12 { 31 } else { 255 }
+    if kind == KIND_VC12 {
+        31
+    } else {
+        255
+    }
 }
 
 /// One start, of a kind or by the call that has none: its answer, and what stands in the state afterwards, by its boards and ranks.

@@ -113,7 +113,8 @@ pub fn tear_all(random: &mut Random, text: &mut Vec<u8>) {
             3 => text.insert(at, random.one_of(b"\t\n0")),
             // the count of a line, two bytes behind its first tab
             4..=6 => {
-                let tab = text[at..].iter().position(|b| *b == b'\n').and_then(|end| text[at + end..].iter().position(|b| *b == b'\t').map(|tab| at + end + tab));
+                let tab =
+                    text[at..].iter().position(|b| *b == b'\n').and_then(|end| text[at + end..].iter().position(|b| *b == b'\t').map(|tab| at + end + tab));
                 if let Some(digit) = tab.and_then(|tab| text.get_mut(tab + 2)) {
                     *digit = random.one_of(b"0123456789abcdefABCDEF");
                 }

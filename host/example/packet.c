@@ -34,7 +34,7 @@ int main(void)
     printf("rs-ack\t%d\n", fields[LEVELSPRUCE_FIELD_RS_ACK]);
     printf("sq\t%d\n", fields[LEVELSPRUCE_FIELD_SQ]);
     reserved = (uint32_t)fields[LEVELSPRUCE_FIELD_RESERVED] << 24 | (uint32_t)fields[LEVELSPRUCE_FIELD_RESERVED + 1] << 16
-        | (uint32_t)fields[LEVELSPRUCE_FIELD_RESERVED + 2] << 8 | fields[LEVELSPRUCE_FIELD_RESERVED + 3];
+             | (uint32_t)fields[LEVELSPRUCE_FIELD_RESERVED + 2] << 8 | fields[LEVELSPRUCE_FIELD_RESERVED + 3];
     printf("reserved\t%lu\n", (unsigned long)reserved);
     return 0;
 }

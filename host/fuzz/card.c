@@ -10,7 +10,7 @@ enum { ROW = LEVELSPRUCE_OWNED_BYTES, PART = LEVELSPRUCE_SENDER_BYTES };
 /* The answers of each call, a bit for each number. */
 static const unsigned answers[CALLS] = { 0x4203, 0xC203, 0x420F, 0x420F, 0x303, 0x207, 0x303, 0x4307, 0x4217, 0x203, 0x203, 0x203, 0x203, 0x213 };
 static const size_t results[CALLS] = { [PACKET] = LEVELSPRUCE_PACKET_BYTES, [BOARD] = LEVELSPRUCE_BOARD_BYTES, [GOING] = LEVELSPRUCE_BOARD_BYTES,
-                                       [RANKS] = LEVELSPRUCE_RANKS_BYTES, [OWNED] = LEVELSPRUCE_OWNED_BYTES, [CHANGES] = LEVELSPRUCE_CHANGES_BYTES };
+                                       [RANKS] = LEVELSPRUCE_RANKS_BYTES,   [OWNED] = LEVELSPRUCE_OWNED_BYTES, [CHANGES] = LEVELSPRUCE_CHANGES_BYTES };
 
 /* What libFuzzer takes for new, since it cannot see into the archive: answers by call. */
 __attribute__((section("__libfuzzer_extra_counters"))) static uint8_t counters[CALLS * 16];
@@ -62,7 +62,9 @@ static void any_call(struct kept card, struct kept told, struct program *p, int 
     state = lend(STATE, card, about(p, card.length));
     frame = which == CHANGES ? lend(PAYLOAD, told, about(p, told.length)) : lend(PAYLOAD, nothing, which == MEMBER ? about(p, x_of(card, g) * small) : 0);
     out = lend(RESULT, nothing,
-               about(p, which == MEMBER ? small : which == PACKET && kind == LEVELSPRUCE_KIND_VC12 ? LEVELSPRUCE_PACKET_BYTES_VC12 : results[which]));
+               about(p, which == MEMBER                                    ? small
+                        : which == PACKET && kind == LEVELSPRUCE_KIND_VC12 ? LEVELSPRUCE_PACKET_BYTES_VC12
+                                                                           : results[which]));
     answer = make(which, g, n, state, frame, out);
     if (answer > 15 || !(answers[which] >> answer & 1))
         fail("an answer that the call does not have");

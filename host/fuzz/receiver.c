@@ -17,7 +17,7 @@ struct lent {
 
 static uint8_t (*rows_of(struct block b))[16]
 {
-    return (uint8_t (*)[16])b.bytes;
+    return (uint8_t(*)[16])b.bytes;
 }
 
 static struct block lend_state(struct lent *l, struct program *g)
@@ -198,7 +198,8 @@ static void frames(struct lent *l, struct program *g)
                     fail("a fixed group's packet was refused");
                 h4[0] ^= (uint8_t)(word << 4);
             } else if (levelspruce_packet_write(epoch, word < 200 ? words[last] : words[word % 5], 0, 0, 0, port,
-                                         (epoch * 40503 + word) % (LEVELSPRUCE_RESERVED_MOST + 1), h4, sizeof h4) != LEVELSPRUCE_ANSWER_DONE)
+                                                (epoch * 40503 + word) % (LEVELSPRUCE_RESERVED_MOST + 1), h4, sizeof h4)
+                       != LEVELSPRUCE_ANSWER_DONE)
                 fail("a packet was refused");
             frame(l, &right, port, 0, h4[(tag + 8) % 16]);
         }
@@ -222,8 +223,8 @@ static void fetch(struct lent *l, struct program *g)
     if (mark > LEVELSPRUCE_MARK_SURE || bytes > out.length || (mark < LEVELSPRUCE_MARK_DOUBTFUL && bytes != 0) || cause > LEVELSPRUCE_CAUSE_NUMBERS
         || (cause == LEVELSPRUCE_CAUSE_NONE) != (mark == LEVELSPRUCE_MARK_NONE || mark == LEVELSPRUCE_MARK_SURE))
         fail("a report that cannot be");
-    if (l->kind == LEVELSPRUCE_KIND_FIXED && !l->damaged && (mark == LEVELSPRUCE_MARK_DOUBTFUL
-        || (mark == LEVELSPRUCE_MARK_SURE && report.bytes[LEVELSPRUCE_REPORT_X] != l->ports)))
+    if (l->kind == LEVELSPRUCE_KIND_FIXED && !l->damaged
+        && (mark == LEVELSPRUCE_MARK_DOUBTFUL || (mark == LEVELSPRUCE_MARK_SURE && report.bytes[LEVELSPRUCE_REPORT_X] != l->ports)))
         fail("a fixed group's report is doubtful, or not of all ports");
     stands(store, 0, "a fetch changed the store");
     stands(out, bytes, "a fetch changed output beyond its bytes");
@@ -238,8 +239,8 @@ static void read_out(struct lent *l, struct program *g)
 {
     static const struct kept nothing;
     struct block state = lend_state(l, g), result = lend(RESULT, nothing, about(g, l->ports) * LEVELSPRUCE_PORT_BYTES);
-    const uint8_t (*rows)[16] = (const uint8_t (*)[16])rows_of(state);
-    uint8_t answer = levelspruce_receiver_ports(rows, state.length / 16, (uint8_t (*)[8])result.bytes, result.length / 8);
+    const uint8_t(*rows)[16] = (const uint8_t(*)[16])rows_of(state);
+    uint8_t answer = levelspruce_receiver_ports(rows, state.length / 16, (uint8_t(*)[8])result.bytes, result.length / 8);
 
     if (answer != 0 && answer != 9)
         fail("an answer that reading the ports does not have");
@@ -249,8 +250,7 @@ static void read_out(struct lent *l, struct program *g)
     if (answer != 0 && answer != 9)
         fail("an answer that a reply does not have");
     stands(result, answer == 0 ? result.length : 0, "a refused reply was written");
-    if (answer == 0 && state.length == l->state.length && l->kind == LEVELSPRUCE_KIND_FIXED && !l->damaged
-        && (result.bytes[0] != 0 || result.bytes[1] != 0))
+    if (answer == 0 && state.length == l->state.length && l->kind == LEVELSPRUCE_KIND_FIXED && !l->damaged && (result.bytes[0] != 0 || result.bytes[1] != 0))
         fail("a fixed group has a reply");
     stands(state, 0, "reading out changed the state");
 }
@@ -260,8 +260,9 @@ static void read_more(struct lent *l, struct program *g)
 {
     static const struct kept nothing;
     struct block state = lend_state(l, g), result = lend(RESULT, nothing, about(g, l->ports) * LEVELSPRUCE_SEEN_BYTES);
-    const uint8_t (*rows)[16] = (const uint8_t (*)[16])rows_of(state);
-    uint8_t answer = levelspruce_receiver_seen(rows, state.length / 16, (uint8_t (*)[LEVELSPRUCE_SEEN_BYTES])result.bytes, result.length / LEVELSPRUCE_SEEN_BYTES);
+    const uint8_t(*rows)[16] = (const uint8_t(*)[16])rows_of(state);
+    uint8_t answer = levelspruce_receiver_seen(rows, state.length / 16, (uint8_t(*)[LEVELSPRUCE_SEEN_BYTES])result.bytes,
+                                               result.length / LEVELSPRUCE_SEEN_BYTES);
 
     if (answer != 0 && answer != 9)
         fail("an answer that what was seen does not have");
@@ -272,9 +273,10 @@ static void read_more(struct lent *l, struct program *g)
         fail("an answer that a cause does not have");
     stands(result, answer == 0 ? result.length : 0, "a refused cause was written");
     /* a port is named by the causes 1 to 6, and by no other */
-    if (answer == 0 && (result.bytes[0] > LEVELSPRUCE_CAUSE_NUMBERS
-                        || (result.bytes[1] == LEVELSPRUCE_CAUSE_NO_PORT) != (result.bytes[0] == LEVELSPRUCE_CAUSE_NONE || result.bytes[0] == LEVELSPRUCE_CAUSE_NUMBERS)
-                        || (result.bytes[1] != LEVELSPRUCE_CAUSE_NO_PORT && result.bytes[1] >= LEVELSPRUCE_PORTS_MOST)))
+    if (answer == 0
+        && (result.bytes[0] > LEVELSPRUCE_CAUSE_NUMBERS
+            || (result.bytes[1] == LEVELSPRUCE_CAUSE_NO_PORT) != (result.bytes[0] == LEVELSPRUCE_CAUSE_NONE || result.bytes[0] == LEVELSPRUCE_CAUSE_NUMBERS)
+            || (result.bytes[1] != LEVELSPRUCE_CAUSE_NO_PORT && result.bytes[1] >= LEVELSPRUCE_PORTS_MOST)))
         fail("a cause that there is not, or a port that is not its");
     result = lend(RESULT, nothing, about(g, LEVELSPRUCE_HEARD_BYTES));
     answer = levelspruce_receiver_heard(rows, state.length / 16, result.bytes, result.length);
@@ -367,8 +369,9 @@ static void packets_vc12(struct program *g)
     answer = levelspruce_packet_read_vc12(bits.bytes, bits.length, fields.bytes, fields.length);
     if (right ? answer != 0 && answer != 5 && answer != 6 && answer != 7 : answer != 9)
         fail("an answer that reading a packet of VC-12 does not have");
-    if (epoch < 256 && (answer != 0 || fields.bytes[LEVELSPRUCE_FIELD_EPOCH] != epoch || fields.bytes[LEVELSPRUCE_FIELD_SQ] != sq
-                        || fields.bytes[LEVELSPRUCE_FIELD_MST] != mst || fields.bytes[LEVELSPRUCE_FIELD_WORD] != word))
+    if (epoch < 256
+        && (answer != 0 || fields.bytes[LEVELSPRUCE_FIELD_EPOCH] != epoch || fields.bytes[LEVELSPRUCE_FIELD_SQ] != sq
+            || fields.bytes[LEVELSPRUCE_FIELD_MST] != mst || fields.bytes[LEVELSPRUCE_FIELD_WORD] != word))
         fail("a written packet of VC-12 does not read as given");
     stands(fields, answer == 0 ? fields.length : 0, "fields of a refused packet were written");
     stands(bits, 0, "reading changed a packet");
@@ -384,13 +387,42 @@ int LLVMFuzzerTestOneInput(const uint8_t *data, size_t size)
     while (g.at < g.end)
         switch (byte_of(&g) % 8) {
         case 0: start(&l, &g, 0); break;
-        case 1: { uint32_t port = number_of(&g), failed = byte_of(&g) < 16; frame(&l, &g, port, failed, (uint8_t)byte_of(&g)); break; }
+        case 1: {
+            uint32_t port = number_of(&g), failed = byte_of(&g) < 16;
+            frame(&l, &g, port, failed, (uint8_t)byte_of(&g));
+            break;
+        }
         case 2: frames(&l, &g); break;
         case 3: fetch(&l, &g); break;
-        case 4: if (byte_of(&g) < 128) read_out(&l, &g); else read_more(&l, &g); break;
-        case 5: { uint32_t which = byte_of(&g); if (which < 128) damage(&l, &g); else if (which < 224) start(&l, &g, 1); else if (which < 240) begin_anew(&l, &g); else if (which < 248) packets(&g); else packets_vc12(&g); break; }
-        case 6: { uint32_t port = byte_of(&g) % LEVELSPRUCE_PORTS_MOST; l.tag[port] = number_of(&g) % 4096; break; }
-        default: fetch(&l, &g); fetch(&l, &g); break;
+        case 4:
+            if (byte_of(&g) < 128)
+                read_out(&l, &g);
+            else
+                read_more(&l, &g);
+            break;
+        case 5: {
+            uint32_t which = byte_of(&g);
+            if (which < 128)
+                damage(&l, &g);
+            else if (which < 224)
+                start(&l, &g, 1);
+            else if (which < 240)
+                begin_anew(&l, &g);
+            else if (which < 248)
+                packets(&g);
+            else
+                packets_vc12(&g);
+            break;
+        }
+        case 6: {
+            uint32_t port = byte_of(&g) % LEVELSPRUCE_PORTS_MOST;
+            l.tag[port] = number_of(&g) % 4096;
+            break;
+        }
+        default:
+            fetch(&l, &g);
+            fetch(&l, &g);
+            break;
         }
     free(l.state.bytes);
     free(l.store.bytes);

@@ -25,7 +25,8 @@ static void put_lines(struct program *p)
     char line[32];
 
     for (n = first; n < first + many; n++) {
-        snprintf(line, sizeof line, "%u\t%X%X\t%u\tAB\n", (unsigned)(which % PORTS), (unsigned)(n % 16 == 1 ? n / 16 % 16 : 0), (unsigned)(n % 16), (unsigned)(which == 250));
+        snprintf(line, sizeof line, "%u\t%X%X\t%u\tAB\n", (unsigned)(which % PORTS), (unsigned)(n % 16 == 1 ? n / 16 % 16 : 0), (unsigned)(n % 16),
+                 (unsigned)(which == 250));
         if (which > 252)
             line[byte_of(p) % 8] = (char)byte_of(p);
         put(line);
@@ -75,8 +76,8 @@ int LLVMFuzzerTestOneInput(const uint8_t *data, size_t size)
         size_t place = how == 252 ? length + 1 : at, before_at = place, written = 77;
         uint8_t wants = 7, answer;
 
-        answer = levelspruce_replay_turn(s.bytes, s.length, text, length, &place, how % 2, (uint8_t (*)[LEVELSPRUCE_ROW_BYTES])r.bytes, r.length / LEVELSPRUCE_ROW_BYTES,
-                                         t.bytes, t.length, o.bytes, o.length, w.bytes, w.length, &written, &wants);
+        answer = levelspruce_replay_turn(s.bytes, s.length, text, length, &place, how % 2, (uint8_t(*)[LEVELSPRUCE_ROW_BYTES])r.bytes,
+                                         r.length / LEVELSPRUCE_ROW_BYTES, t.bytes, t.length, o.bytes, o.length, w.bytes, w.length, &written, &wants);
         if (answer != 0 && answer != 9)
             fail("an answer that a turn does not have");
         stands(s, answer == 0 ? s.length : 0, "a refusal changed the state");

@@ -10,84 +10,51 @@ const char *levelspruce_version(void)
 const char *levelspruce_answer_text(uint32_t answer)
 {
     switch (answer) {
-    case LEVELSPRUCE_ANSWER_DONE:
-        return "done";
-    case LEVELSPRUCE_ANSWER_SLOT:
-        return "no such slot, port or group";
-    case LEVELSPRUCE_ANSWER_STATE:
-        return "not allowed now";
-    case LEVELSPRUCE_ANSWER_WAIT:
-        return "a wait is open";
-    case LEVELSPRUCE_ANSWER_RANGE:
-        return "a number is out of range";
-    case LEVELSPRUCE_ANSWER_CRC:
-        return "the packet's CRC differs";
-    case LEVELSPRUCE_ANSWER_UNASSIGNED:
-        return "the packet's control word is unassigned, or in a fixed group not FIXED";
-    case LEVELSPRUCE_ANSWER_FIXED:
-        return "the packet's control word is FIXED";
-    case LEVELSPRUCE_ANSWER_FIELD:
-        return "a field is too large, or its control word cannot be written";
-    case LEVELSPRUCE_ANSWER_LENGTH:
-        return "a buffer has the wrong length";
-    case LEVELSPRUCE_ANSWER_FAILED:
-        return "the frame came flagged as failed";
-    case LEVELSPRUCE_ANSWER_OUTSIDE:
-        return "the frame lies outside the window; hand it again after a report";
-    case LEVELSPRUCE_ANSWER_STEP:
-        return "the port is not in step after this frame";
-    case LEVELSPRUCE_ANSWER_LINE:
-        return "the first line of the recording cannot be read, or there is none";
-    case LEVELSPRUCE_ANSWER_OWNED:
-        return "the slot is not the group's own, or a slot to be claimed is owned already";
-    case LEVELSPRUCE_ANSWER_USED:
-        return "a slot to be released is not IDLE";
-    default:
-        return "no call answers this number";
+    case LEVELSPRUCE_ANSWER_DONE: return "done";
+    case LEVELSPRUCE_ANSWER_SLOT: return "no such slot, port or group";
+    case LEVELSPRUCE_ANSWER_STATE: return "not allowed now";
+    case LEVELSPRUCE_ANSWER_WAIT: return "a wait is open";
+    case LEVELSPRUCE_ANSWER_RANGE: return "a number is out of range";
+    case LEVELSPRUCE_ANSWER_CRC: return "the packet's CRC differs";
+    case LEVELSPRUCE_ANSWER_UNASSIGNED: return "the packet's control word is unassigned, or in a fixed group not FIXED";
+    case LEVELSPRUCE_ANSWER_FIXED: return "the packet's control word is FIXED";
+    case LEVELSPRUCE_ANSWER_FIELD: return "a field is too large, or its control word cannot be written";
+    case LEVELSPRUCE_ANSWER_LENGTH: return "a buffer has the wrong length";
+    case LEVELSPRUCE_ANSWER_FAILED: return "the frame came flagged as failed";
+    case LEVELSPRUCE_ANSWER_OUTSIDE: return "the frame lies outside the window; hand it again after a report";
+    case LEVELSPRUCE_ANSWER_STEP: return "the port is not in step after this frame";
+    case LEVELSPRUCE_ANSWER_LINE: return "the first line of the recording cannot be read, or there is none";
+    case LEVELSPRUCE_ANSWER_OWNED: return "the slot is not the group's own, or a slot to be claimed is owned already";
+    case LEVELSPRUCE_ANSWER_USED: return "a slot to be released is not IDLE";
+    default: return "no call answers this number";
     }
 }
 
 const char *levelspruce_cause_text(uint32_t cause)
 {
     switch (cause) {
-    case LEVELSPRUCE_CAUSE_NONE:
-        return "none";
-    case LEVELSPRUCE_CAUSE_REFUSED:
-        return "a ruling packet was refused";
-    case LEVELSPRUCE_CAUSE_LACKING:
-        return "an active port lacks a frame";
-    case LEVELSPRUCE_CAUSE_REPEATED:
-        return "numbers of active and DNU ports repeat";
-    case LEVELSPRUCE_CAUSE_GID:
-        return "GID differs among ports that are not IDLE";
-    case LEVELSPRUCE_CAUSE_EOS:
-        return "EOS is not on the highest active port alone";
-    case LEVELSPRUCE_CAUSE_UNSEEN:
-        return "a port has no whole ruling packet";
-    case LEVELSPRUCE_CAUSE_NUMBERS:
-        return "the numbers are not 0 to n - 1";
-    default:
-        return "no report has this cause";
+    case LEVELSPRUCE_CAUSE_NONE: return "none";
+    case LEVELSPRUCE_CAUSE_REFUSED: return "a ruling packet was refused";
+    case LEVELSPRUCE_CAUSE_LACKING: return "an active port lacks a frame";
+    case LEVELSPRUCE_CAUSE_REPEATED: return "numbers of active and DNU ports repeat";
+    case LEVELSPRUCE_CAUSE_GID: return "GID differs among ports that are not IDLE";
+    case LEVELSPRUCE_CAUSE_EOS: return "EOS is not on the highest active port alone";
+    case LEVELSPRUCE_CAUSE_UNSEEN: return "a port has no whole ruling packet";
+    case LEVELSPRUCE_CAUSE_NUMBERS: return "the numbers are not 0 to n - 1";
+    default: return "no report has this cause";
     }
 }
 
 const char *levelspruce_word_name(uint32_t word)
 {
     switch (word) {
-    case LEVELSPRUCE_WORD_FIXED:
-        return "FIXED";
-    case LEVELSPRUCE_WORD_ADD:
-        return "ADD";
-    case LEVELSPRUCE_WORD_NORM:
-        return "NORM";
-    case LEVELSPRUCE_WORD_EOS:
-        return "EOS";
-    case LEVELSPRUCE_WORD_IDLE:
-        return "IDLE";
-    case LEVELSPRUCE_WORD_DNU:
-        return "DNU";
-    default:
-        return "unassigned";
+    case LEVELSPRUCE_WORD_FIXED: return "FIXED";
+    case LEVELSPRUCE_WORD_ADD: return "ADD";
+    case LEVELSPRUCE_WORD_NORM: return "NORM";
+    case LEVELSPRUCE_WORD_EOS: return "EOS";
+    case LEVELSPRUCE_WORD_IDLE: return "IDLE";
+    case LEVELSPRUCE_WORD_DNU: return "DNU";
+    default: return "unassigned";
     }
 }
 

@@ -77,8 +77,20 @@ impl Added {
 pub fn check(program: &Program, count: &mut Count) {
     let mut random = Random::new(13);
     // late enough for the others to be active, also those in another block
-    let drawn = |random: &mut Random| Added { slots: 1 + random.below(12), out: random.below(8), back: random.below(8), number: random.below(256), epoch: 160 + random.below(32) };
-    let all: Vec<(Added, Option<u64>)> = (0..ADDS).map(|_| drawn(&mut random)).map(|a| { let took = a.took(program); (a, took) }).collect();
+    let drawn = |random: &mut Random| Added {
+        slots: 1 + random.below(12),
+        out: random.below(8),
+        back: random.below(8),
+        number: random.below(256),
+        epoch: 160 + random.below(32),
+    };
+    let all: Vec<(Added, Option<u64>)> = (0..ADDS)
+        .map(|_| drawn(&mut random))
+        .map(|a| {
+            let took = a.took(program);
+            (a, took)
+        })
+        .collect();
     count.note("an added slot is active at the start foretold", all.iter().all(|(_, took)| took.is_some()));
     count.note("within 33 + a + b epochs", all.iter().all(|(a, took)| took.is_some_and(|t| t <= 33 + a.out + a.back)));
 

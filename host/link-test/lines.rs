@@ -87,12 +87,20 @@ impl Lines {
 
     /// The frames of an epoch.
     pub fn frames(&self) -> u64 {
-        if self.vc12 { 32 } else { 16 }
+        if self.vc12 {
+            32
+        } else {
+            16
+        }
     }
 
     /// The most frames that bring a port into step.
     pub fn to_step(&self) -> u64 {
-        if self.vc12 { 95 } else { 47 }
+        if self.vc12 {
+            95
+        } else {
+            47
+        }
     }
 
     /// The latest frame time in which a port gets its first frame.

@@ -66,7 +66,10 @@ pub fn check(program: &Program, count: &mut Count) {
     count.note("wrong choices get one clear line and status 2", held == WRONG.len());
 
     let (status, help) = said(program, &["--help"]);
-    let named = ["--slots", "--payload", "--window", "--delays", "--first", "--seed", "--epochs", "--damage", "--fail", "--hold-off", "--restore", "--fixed", "--vc12", "--numbers", "--file", "--out", "--behind", "--each", "--quiet"];
+    let named = [
+        "--slots", "--payload", "--window", "--delays", "--first", "--seed", "--epochs", "--damage", "--fail", "--hold-off", "--restore", "--fixed", "--vc12",
+        "--numbers", "--file", "--out", "--behind", "--each", "--quiet",
+    ];
     count.note("--help names the choices", status == Some(0) && named.iter().all(|n| help.contains(n)));
 
     let (status, text) = said(program, &[]);
@@ -115,7 +118,10 @@ pub fn check(program: &Program, count: &mut Count) {
     let (_, at_once) = said(program, &["--slots", "2", "--delays", "0,40", "--fail", "1:400-500", "--at-once"]);
     let (_, in_time) = said(program, &["--slots", "2", "--delays", "0,40", "--fail", "1:400-500"]);
     let readable = |text: &str| text.matches("port\t1\treadable").count();
-    count.note("the slowest port comes back at an even pace of reports, and not where they are fetched at once", readable(&at_once) == 1 && readable(&in_time) == 2);
+    count.note(
+        "the slowest port comes back at an even pace of reports, and not where they are fetched at once",
+        readable(&at_once) == 1 && readable(&in_time) == 2,
+    );
 
     let (_, early) = said(program, &["--slots", "2", "--window", "128", "--delays", "0,40", "--fail", "1:0-200"]);
     let (_, late) = said(program, &["--slots", "2", "--window", "128", "--delays", "0,40", "--fail", "1:0-200", "--late", "40"]);
@@ -152,7 +158,8 @@ pub fn check(program: &Program, count: &mut Count) {
     );
 
     let (_, behind) = said(program, &["--slots", "2", "--delays", "0,5000", "--fail", "0:0-99999", "--epochs", "600"]);
-    count.note("epochs are told rightly behind a line that failed and would be far ahead", lines::read(&behind).reports.first().map_or(false, |r| r.epoch < 10));
+    count
+        .note("epochs are told rightly behind a line that failed and would be far ahead", lines::read(&behind).reports.first().map_or(false, |r| r.epoch < 10));
 
     fixed(program, count);
     vc12(program, count);
@@ -164,10 +171,16 @@ pub fn check(program: &Program, count: &mut Count) {
 
     let (_, waiting) = said(program, &["--slots", "2", "--remove", "40:0,40:1", "--add", "0:0,0:1"]);
     count.note("a wait that is answered is closed by the far end", waiting.contains("wait\tclosed\tby the far end\n") && !waiting.contains("by lapse"));
-    count.note("a command under an open wait is answered 3 and given again", waiting.contains("remove\tslot\t1\tanswer\t3\n") && waiting.contains("remove\tslot\t1\tanswer\t0\n"));
+    count.note(
+        "a command under an open wait is answered 3 and given again",
+        waiting.contains("remove\tslot\t1\tanswer\t3\n") && waiting.contains("remove\tslot\t1\tanswer\t0\n"),
+    );
 
     let (_, unheard) = said(program, &["--slots", "2", "--back", "8000", "--lapse", "3", "--epochs", "40", "--remove", "9:0,9:1"]);
-    count.note("a wait that nobody answers lapses, and the line says so", unheard.contains("wait\tclosed\tby lapse\n") && unheard.contains("remove\tslot\t1\tanswer\t0\n"));
+    count.note(
+        "a wait that nobody answers lapses, and the line says so",
+        unheard.contains("wait\tclosed\tby lapse\n") && unheard.contains("remove\tslot\t1\tanswer\t0\n"),
+    );
 }
 
 /// How far ports lie behind the foremost: by their delays, also where these are too far apart, and by another foremost when that one fails.
@@ -220,7 +233,10 @@ fn fixed(program: &Program, count: &mut Count) {
     let silent = ["told\t", "reply\t", "wait\t", "link\tback", "was\t"].iter().all(|word| !text.contains(word));
     count.note(
         "a group without LCAS gives the client's bytes in the order of its numbers",
-        status == Some(0) && lines::read(&text).last == "each sure byte was right" && marks(&text, "sure") > 140 && marks(&text, "held") + marks(&text, "doubtful") == 0,
+        status == Some(0)
+            && lines::read(&text).last == "each sure byte was right"
+            && marks(&text, "sure") > 140
+            && marks(&text, "held") + marks(&text, "doubtful") == 0,
     );
     count.note(
         "its slots say FIXED and their numbers, its ports are OK under these, and nothing is replied",

@@ -28,8 +28,7 @@ void back_start_epoch(struct back *b, const uint8_t *reply)
 static void hand(struct back *b, uint8_t head)
 {
     static const uint8_t zeros[LEVELSPRUCE_PAYLOAD_VC12];
-    uint8_t answer =
-        levelspruce_receiver_frame(b->receiver, LEVELSPRUCE_RECEIVER_ROWS(1), 0, 0, head, zeros, b->payload, b->store, b->store_bytes);
+    uint8_t answer = levelspruce_receiver_frame(b->receiver, LEVELSPRUCE_RECEIVER_ROWS(1), 0, 0, head, zeros, b->payload, b->store, b->store_bytes);
 
     if (answer != LEVELSPRUCE_ANSWER_STEP)
         must(answer, "levelspruce_receiver_frame");

@@ -11,9 +11,9 @@ enum { BACK_MOST = DELAY_MOST / LEVELSPRUCE_EPOCH_FRAMES + 2 };
 struct back {
     uint8_t sender[LEVELSPRUCE_SENDER_BYTES]; /* the far end's: one slot, which stays IDLE */
     uint64_t delay;
-    uint64_t next, end; /* the next frame to come in, and the epochs that have started */
-    size_t frames; /* of an epoch */
-    uint8_t packets[BACK_MOST][LEVELSPRUCE_PACKET_BYTES_VC12]; /* the longer of the two */
+    uint64_t next, end;                                                    /* the next frame to come in, and the epochs that have started */
+    size_t frames;                                                         /* of an epoch */
+    uint8_t packets[BACK_MOST][LEVELSPRUCE_PACKET_BYTES_VC12];             /* the longer of the two */
     uint8_t receiver[LEVELSPRUCE_RECEIVER_ROWS(1)][LEVELSPRUCE_ROW_BYTES]; /* this end's: one port, with the least window */
     uint32_t payload;
     size_t store_bytes;

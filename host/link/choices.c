@@ -10,22 +10,51 @@
 enum { FRAME_MOST = 1000000000, EPOCH_MOST = FRAME_MOST / LEVELSPRUCE_EPOCH_FRAMES, EPOCHS_USUAL = 160 };
 
 enum choice {
-    SLOTS, PAYLOAD, WINDOW, PORTS, DELAYS, FIRST, NUMBERS, FIXED, VC12, BACK, NUMBER,
-    ADD, REMOVE, DAMAGE, FAIL, HOLD_OFF, RESTORE, LAPSE, LATE, AT_ONCE, SEED, EPOCHS,
-    FILE_IN, FILE_OUT, RECORD, HEADS, DOUBTFUL, BEHIND, EACH, QUIET, HELP, VERSION, CHOICES
+    SLOTS,
+    PAYLOAD,
+    WINDOW,
+    PORTS,
+    DELAYS,
+    FIRST,
+    NUMBERS,
+    FIXED,
+    VC12,
+    BACK,
+    NUMBER,
+    ADD,
+    REMOVE,
+    DAMAGE,
+    FAIL,
+    HOLD_OFF,
+    RESTORE,
+    LAPSE,
+    LATE,
+    AT_ONCE,
+    SEED,
+    EPOCHS,
+    FILE_IN,
+    FILE_OUT,
+    RECORD,
+    HEADS,
+    DOUBTFUL,
+    BEHIND,
+    EACH,
+    QUIET,
+    HELP,
+    VERSION,
+    CHOICES
 };
 
 /* Those up to EPOCHS shape the link, so that with one of them the default run's shape is not taken. */
 static const struct {
     const char *name;
     int valued;
-} known[CHOICES] = {
-    { "--slots", 1 }, { "--payload", 1 }, { "--window", 1 }, { "--ports", 1 }, { "--delays", 1 }, { "--first", 1 },
-    { "--numbers", 1 }, { "--fixed", 0 }, { "--vc12", 0 }, { "--back", 1 }, { "--number", 1 }, { "--add", 1 }, { "--remove", 1 }, { "--damage", 1 }, { "--fail", 1 },
-    { "--hold-off", 1 }, { "--restore", 1 }, { "--lapse", 1 }, { "--late", 1 }, { "--at-once", 0 }, { "--seed", 1 },
-    { "--epochs", 1 }, { "--file", 1 }, { "--out", 1 }, { "--record", 1 }, { "--record-heads", 1 },
-    { "--doubtful", 0 }, { "--behind", 0 }, { "--each", 0 }, { "--quiet", 0 }, { "--help", 0 }, { "--version", 0 }
-};
+} known[CHOICES] = { { "--slots", 1 },   { "--payload", 1 },      { "--window", 1 },   { "--ports", 1 },    { "--delays", 1 },  { "--first", 1 },
+                     { "--numbers", 1 }, { "--fixed", 0 },        { "--vc12", 0 },     { "--back", 1 },     { "--number", 1 },  { "--add", 1 },
+                     { "--remove", 1 },  { "--damage", 1 },       { "--fail", 1 },     { "--hold-off", 1 }, { "--restore", 1 }, { "--lapse", 1 },
+                     { "--late", 1 },    { "--at-once", 0 },      { "--seed", 1 },     { "--epochs", 1 },   { "--file", 1 },    { "--out", 1 },
+                     { "--record", 1 },  { "--record-heads", 1 }, { "--doubtful", 0 }, { "--behind", 0 },   { "--each", 0 },    { "--quiet", 0 },
+                     { "--help", 0 },    { "--version", 0 } };
 
 /* The word given with each choice, or NULL. */
 struct given {
@@ -174,8 +203,7 @@ static int read_events(const struct given *g, enum choice which, uint32_t slots,
     while (ends == 0) {
         uint64_t epoch, slot;
 
-        if (take_number(&at, EPOCH_MOST, &epoch) != 0 || take_mark(&at, ':') != 0 || take_number(&at, slots - 1, &slot) != 0
-            || (ends = list_ends(&at)) < 0)
+        if (take_number(&at, EPOCH_MOST, &epoch) != 0 || take_mark(&at, ':') != 0 || take_number(&at, slots - 1, &slot) != 0 || (ends = list_ends(&at)) < 0)
             return wrong(which, wanted, g->word[which]);
         if (events->count == EVENTS_MOST)
             return wrong(which, "256 at most", g->word[which]);
@@ -200,8 +228,8 @@ static int read_failures(const struct given *g, uint32_t ports, struct failures 
     while (ends == 0) {
         uint64_t port, from, to;
 
-        if (take_number(&at, ports - 1, &port) != 0 || take_mark(&at, ':') != 0 || take_number(&at, FRAME_MOST, &from) != 0
-            || take_mark(&at, '-') != 0 || take_number(&at, FRAME_MOST, &to) != 0 || from > to || (ends = list_ends(&at)) < 0)
+        if (take_number(&at, ports - 1, &port) != 0 || take_mark(&at, ':') != 0 || take_number(&at, FRAME_MOST, &from) != 0 || take_mark(&at, '-') != 0
+            || take_number(&at, FRAME_MOST, &to) != 0 || from > to || (ends = list_ends(&at)) < 0)
             return wrong(FAIL, wanted, g->word[FAIL]);
         if (failures->count == EVENTS_MOST)
             return wrong(FAIL, "256 at most", g->word[FAIL]);
@@ -272,9 +300,13 @@ static int read_sizes(const struct given *g, struct choices *c)
         return -1;
     if (c->vc12)
         return read_size(g, PAYLOAD, LEVELSPRUCE_PAYLOAD_VC12, LEVELSPRUCE_PAYLOAD_VC12, &c->payload) != 0
-            || read_size(g, WINDOW, LEVELSPRUCE_WINDOW_LEAST_VC12, LEVELSPRUCE_WINDOW_MOST_VC12, &c->window) != 0 ? -1 : 0;
+                    || read_size(g, WINDOW, LEVELSPRUCE_WINDOW_LEAST_VC12, LEVELSPRUCE_WINDOW_MOST_VC12, &c->window) != 0
+                 ? -1
+                 : 0;
     return read_size(g, PAYLOAD, 1, LEVELSPRUCE_PAYLOAD_MOST, &c->payload) != 0
-        || read_size(g, WINDOW, LEVELSPRUCE_WINDOW_LEAST, LEVELSPRUCE_WINDOW_MOST, &c->window) != 0 ? -1 : 0;
+                || read_size(g, WINDOW, LEVELSPRUCE_WINDOW_LEAST, LEVELSPRUCE_WINDOW_MOST, &c->window) != 0
+             ? -1
+             : 0;
 }
 
 /* Shapes the link from the sizes given, the seed, or neither. */
@@ -379,15 +411,12 @@ int choices_read(struct choices *c, int count, char **words)
     if (choices_agree(&g) != 0)
         return -1;
     if (read_number(&g, EPOCHS, 1, EPOCH_MOST, &c->epochs) != 0 || shape(c, &g) != 0 || read_ports(&g, c) != 0
-        || read_each(&g, NUMBERS, c->slots, 255, c->sq) != 0
-        || read_each(&g, DELAYS, c->slots, DELAY_MOST, c->delay) != 0
-        || read_each(&g, FIRST, c->slots, FRAME_MOST, c->first) != 0
-        || read_size(&g, BACK, 0, DELAY_MOST, &c->back) != 0 || read_size(&g, NUMBER, 0, c->numbers - 1, &c->number) != 0
-        || read_events(&g, ADD, c->slots, &c->adds) != 0 || read_events(&g, REMOVE, c->slots, &c->removes) != 0
-        || read_events(&g, DAMAGE, c->slots, &c->damages) != 0 || read_failures(&g, c->slots, &c->failures) != 0
-        || read_size(&g, HOLD_OFF, 0, LEVELSPRUCE_TIMER_MOST, &c->hold_off) != 0
-        || read_size(&g, RESTORE, 0, LEVELSPRUCE_TIMER_MOST, &c->restore) != 0
-        || read_size(&g, LAPSE, 1, FRAME_MOST, &c->lapse) != 0
+        || read_each(&g, NUMBERS, c->slots, 255, c->sq) != 0 || read_each(&g, DELAYS, c->slots, DELAY_MOST, c->delay) != 0
+        || read_each(&g, FIRST, c->slots, FRAME_MOST, c->first) != 0 || read_size(&g, BACK, 0, DELAY_MOST, &c->back) != 0
+        || read_size(&g, NUMBER, 0, c->numbers - 1, &c->number) != 0 || read_events(&g, ADD, c->slots, &c->adds) != 0
+        || read_events(&g, REMOVE, c->slots, &c->removes) != 0 || read_events(&g, DAMAGE, c->slots, &c->damages) != 0
+        || read_failures(&g, c->slots, &c->failures) != 0 || read_size(&g, HOLD_OFF, 0, LEVELSPRUCE_TIMER_MOST, &c->hold_off) != 0
+        || read_size(&g, RESTORE, 0, LEVELSPRUCE_TIMER_MOST, &c->restore) != 0 || read_size(&g, LAPSE, 1, FRAME_MOST, &c->lapse) != 0
         || read_size(&g, LATE, 0, LEVELSPRUCE_WINDOW_MOST, &c->late) != 0)
         return -1;
     if (g.word[AT_ONCE] != NULL)

@@ -30,17 +30,17 @@ struct failures {
 
 struct choices {
     uint32_t slots, payload, window;
-    int fixed; /* the group has no LCAS */
-    int vc12; /* its packets go in K4, bit by bit */
+    int fixed;                             /* the group has no LCAS */
+    int vc12;                              /* its packets go in K4, bit by bit */
     uint32_t kind, frames, numbers, least; /* of the group: its kind, the frames of an epoch, how many numbers epochs have, the least window */
-    uint32_t sq[LINES_MOST]; /* the number under which each slot sends, where it has none */
+    uint32_t sq[LINES_MOST];               /* the number under which each slot sends, where it has none */
     uint32_t port[LINES_MOST], delay[LINES_MOST], first[LINES_MOST]; /* of each slot's line */
     uint32_t back, number, lapse, late;
     uint32_t hold_off, restore; /* of every port, in reports */
     struct events adds, removes, damages;
     struct failures failures;
     uint64_t epochs;
-    int whole_file; /* more epochs, until the file is sent */
+    int whole_file;   /* more epochs, until the file is sent */
     uint64_t carried; /* the bytes that so many epochs carry at most */
     const char *file, *out, *record, *heads;
     int at_once, doubtful, behind, each, quiet, help, version;

@@ -86,8 +86,8 @@ static int open_file(struct client *c, const struct choices *choices)
     c->length = (size_t)most;
     if (!choices->whole_file)
         return 0;
-    fprintf(stderr, "link: the file '%s' has more than %d bytes, and its end is not known: --epochs N sends what N epochs carry\n",
-            choices->file, UNKNOWN_MOST);
+    fprintf(stderr, "link: the file '%s' has more than %d bytes, and its end is not known: --epochs N sends what N epochs carry\n", choices->file,
+            UNKNOWN_MOST);
     return -1;
 }
 

@@ -11,7 +11,7 @@ struct client {
     uint8_t *bytes;
     size_t length;
     int repeats; /* the built-in text, over and over; a file is followed by zeros */
-    int cut; /* the file has more bytes than these */
+    int cut;     /* the file has more bytes than these */
     uint64_t sent;
     uint8_t *came, *has_come; /* bytes of the text or file that came out sure, and which did */
 };

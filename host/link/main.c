@@ -32,8 +32,8 @@ struct link {
     struct line lines[LINES_MOST];
     uint32_t slot_of[LINES_MOST]; /* of each port */
     struct receiving receiving;
-    uint64_t next_fetch; /* the frame time before which no report is fetched */
-    uint64_t next_epoch; /* the epoch after the one reported last */
+    uint64_t next_fetch;   /* the frame time before which no report is fetched */
+    uint64_t next_epoch;   /* the epoch after the one reported last */
     uint32_t with_nothing; /* the last epochs in a row that carried no byte */
     struct back back;
     struct says says;

@@ -82,8 +82,7 @@ static void start(struct receiving *r, const struct choices *c)
         hold_off[port] = c->hold_off;
         restore[port] = c->restore;
     }
-    must(levelspruce_receiver_start_as(c->kind, c->slots, c->payload, c->window, r->store_bytes, hold_off, c->slots, restore, c->slots, r->state,
-                                       r->rows),
+    must(levelspruce_receiver_start_as(c->kind, c->slots, c->payload, c->window, r->store_bytes, hold_off, c->slots, restore, c->slots, r->state, r->rows),
          "levelspruce_receiver_start_as");
 }
 
@@ -160,14 +159,10 @@ static int is_cause_of(const struct receiving *r, uint8_t cause, const uint8_t (
     switch (cause) {
     case LEVELSPRUCE_CAUSE_REFUSED:
         return seen[port][LEVELSPRUCE_SEEN_WHOLE] && (seen[port][LEVELSPRUCE_SEEN_ANSWER] != LEVELSPRUCE_ANSWER_DONE || seen[port][LEVELSPRUCE_SEEN_OTHER]);
-    case LEVELSPRUCE_CAUSE_LACKING:
-        return has_word(seen[port], r->fixed, 0) && !seen[port][LEVELSPRUCE_SEEN_HERE];
-    case LEVELSPRUCE_CAUSE_REPEATED:
-        return shares_number(r, seen, port);
-    case LEVELSPRUCE_CAUSE_UNSEEN:
-        return !seen[port][LEVELSPRUCE_SEEN_WHOLE];
-    default:
-        return 0;
+    case LEVELSPRUCE_CAUSE_LACKING: return has_word(seen[port], r->fixed, 0) && !seen[port][LEVELSPRUCE_SEEN_HERE];
+    case LEVELSPRUCE_CAUSE_REPEATED: return shares_number(r, seen, port);
+    case LEVELSPRUCE_CAUSE_UNSEEN: return !seen[port][LEVELSPRUCE_SEEN_WHOLE];
+    default: return 0;
     }
 }
 
@@ -193,8 +188,7 @@ int receiving_fetch(struct receiving *r, struct report *report)
     const uint8_t *count = record + LEVELSPRUCE_REPORT_COUNT;
 
     memcpy(r->before, r->state, r->rows * sizeof r->state[0]);
-    must(levelspruce_receiver_fetch(r->state, r->rows, r->store, r->store_bytes, r->out, r->out_bytes, record, sizeof record),
-         "levelspruce_receiver_fetch");
+    must(levelspruce_receiver_fetch(r->state, r->rows, r->store, r->store_bytes, r->out, r->out_bytes, record, sizeof record), "levelspruce_receiver_fetch");
     report->mark = record[LEVELSPRUCE_REPORT_MARK];
     report->number = record[LEVELSPRUCE_REPORT_EPOCH];
     report->x = record[LEVELSPRUCE_REPORT_X];

@@ -23,14 +23,14 @@ struct receiving {
     size_t store_bytes;
     uint8_t *out;
     size_t out_bytes;
-    uint8_t *nothing; /* the payload of a frame that came flagged */
+    uint8_t *nothing;               /* the payload of a frame that came flagged */
     struct recording recordings[2]; /* what the receiver is handed, whole and its heads */
 };
 
 struct report {
     uint8_t mark, number, x, cause;
     uint64_t ports; /* to which the cause applies, a bit each; none where it is not of single ports */
-    size_t bytes; /* of out */
+    size_t bytes;   /* of out */
 };
 
 /* 0, or -1 where there is no memory, or -2 where the recording cannot be written. */

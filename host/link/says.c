@@ -100,16 +100,15 @@ void says_link(struct says *s, const struct choices *c)
     else
         printf("reports\tone in %s frames\tlate\t%" PRIu32 "\n", c->vc12 ? "32" : "sixteen", c->late);
     for (slot = 0; slot < c->slots; slot++)
-        printf("line\tslot\t%" PRIu32 "\tport\t%" PRIu32 "\tdelay\t%" PRIu32 "\tfirst frame\t%" PRIu32 "\n", slot, c->port[slot],
-               c->delay[slot], c->first[slot]);
+        printf("line\tslot\t%" PRIu32 "\tport\t%" PRIu32 "\tdelay\t%" PRIu32 "\tfirst frame\t%" PRIu32 "\n", slot, c->port[slot], c->delay[slot],
+               c->first[slot]);
     for (slot = 0; c->fixed && slot < c->slots; slot++)
         printf("slot\t%" PRIu32 "\tsends\tFIXED\t%" PRIu32 "\n", slot, c->sq[slot]);
     says_events("add", &c->adds);
     says_events("remove", &c->removes);
     says_events("damage", &c->damages);
     for (i = 0; i < c->failures.count; i++)
-        printf("plan\tfail\tport\t%" PRIu32 "\tframes\t%" PRIu64 "\t%" PRIu64 "\n", c->failures.each[i].port, c->failures.each[i].from,
-               c->failures.each[i].to);
+        printf("plan\tfail\tport\t%" PRIu32 "\tframes\t%" PRIu64 "\t%" PRIu64 "\n", c->failures.each[i].port, c->failures.each[i].from, c->failures.each[i].to);
 }
 
 void says_command(struct says *s, const char *command, uint32_t slot, uint8_t answer)
@@ -137,8 +136,8 @@ static void says_changes(const uint8_t *told, const uint8_t *going)
 
     for (row = LEVELSPRUCE_BOARD_ROWS; row < LEVELSPRUCE_BOARD_BYTES; row += 2)
         if (memcmp(told + row, going + row, 2) != 0)
-            printf("slot\t%lu\twas\t%s\t%d\tnow\t%s\t%d\n", (unsigned long)(row - LEVELSPRUCE_BOARD_ROWS) / 2, levelspruce_word_name(told[row]),
-                   told[row + 1], levelspruce_word_name(going[row]), going[row + 1]);
+            printf("slot\t%lu\twas\t%s\t%d\tnow\t%s\t%d\n", (unsigned long)(row - LEVELSPRUCE_BOARD_ROWS) / 2, levelspruce_word_name(told[row]), told[row + 1],
+                   levelspruce_word_name(going[row]), going[row + 1]);
 }
 
 void says_start(struct says *s, uint64_t epoch, uint32_t x, size_t bytes, const uint8_t *going)
@@ -192,8 +191,7 @@ void says_ports(struct says *s, const uint8_t (*ports)[LEVELSPRUCE_PORT_BYTES], 
 
         if (strcmp(condition(now), condition(before)) != 0 && talks(s))
             printf("port\t%" PRIu32 "\t%s\tframe\t%" PRIu64 "\n", i, condition(now), time);
-        if ((now[LEVELSPRUCE_PORT_STATE] != before[LEVELSPRUCE_PORT_STATE] || now[LEVELSPRUCE_PORT_NUMBER] != before[LEVELSPRUCE_PORT_NUMBER])
-            && talks(s))
+        if ((now[LEVELSPRUCE_PORT_STATE] != before[LEVELSPRUCE_PORT_STATE] || now[LEVELSPRUCE_PORT_NUMBER] != before[LEVELSPRUCE_PORT_NUMBER]) && talks(s))
             printf("port\t%" PRIu32 "\t%s\t%d\n", i, levelspruce_state_name(now[LEVELSPRUCE_PORT_STATE]), now[LEVELSPRUCE_PORT_NUMBER]);
         if (now[LEVELSPRUCE_PORT_WAITING] != before[LEVELSPRUCE_PORT_WAITING] && talks(s))
             printf("port\t%" PRIu32 "\twaiting\t%s\n", i, levelspruce_waiting_name(now[LEVELSPRUCE_PORT_WAITING]));
@@ -218,7 +216,8 @@ void says_behind(struct says *s, const uint32_t *behind)
 void says_report(struct says *s, uint64_t epoch, uint8_t mark, uint8_t cause, uint64_t ports, size_t bytes, int right)
 {
     struct alike *a = &s->alike;
-    int goes_on = a->some && !s->each && a->mark == mark && a->cause == cause && a->ports == ports && a->bytes == bytes && a->right == right && a->last + 1 == epoch;
+    int goes_on = a->some && !s->each && a->mark == mark && a->cause == cause && a->ports == ports && a->bytes == bytes && a->right == right
+               && a->last + 1 == epoch;
 
     if (s->quiet)
         return;

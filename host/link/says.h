@@ -20,8 +20,8 @@ struct says {
     int quiet;
     int each; /* each report by itself */
     uint32_t slots;
-    struct alike alike; /* reports that are not said yet */
-    uint8_t wait; /* as last said */
+    struct alike alike;                     /* reports that are not said yet */
+    uint8_t wait;                           /* as last said */
     uint8_t going[LEVELSPRUCE_BOARD_BYTES]; /* the board told last */
     uint32_t x;
     uint8_t ports[LINES_MOST][LEVELSPRUCE_PORT_BYTES];
@@ -55,7 +55,8 @@ void says_ports(struct says *s, const uint8_t (*ports)[LEVELSPRUCE_PORT_BYTES], 
 /* How many frames each port in step lies behind the foremost, of those of which it is another than when this was last called. */
 void says_behind(struct says *s, const uint32_t *behind);
 
-/* The report of an epoch, why it is held or doubtful, and by which ports. Those that say the same stand in one line, which is printed before the next other one. */
+/* The report of an epoch, why it is held or doubtful, and by which ports. Those that say the same stand in one line, which is printed before the next other
+ * one. */
 void says_report(struct says *s, uint64_t epoch, uint8_t mark, uint8_t cause, uint64_t ports, size_t bytes, int right);
 
 /* Says the reports that are not said yet. */

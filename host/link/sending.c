@@ -3,7 +3,6 @@
 #include <stdlib.h>
 #include <string.h>
 
-
 int sending_open(struct sending *s, const struct choices *c)
 {
     memset(s, 0, sizeof *s);
@@ -30,8 +29,7 @@ static uint32_t next_gid(struct sending *s)
 typedef uint8_t command(uint8_t *state, size_t state_length, uint32_t slot);
 
 /* Gives each command that is due. One that meets an open wait is given again at the next start. */
-static void give(struct sending *s, const char *name, command *call, const struct events *events, uint8_t *done, uint64_t epoch,
-                 struct says *says)
+static void give(struct sending *s, const char *name, command *call, const struct events *events, uint8_t *done, uint64_t epoch, struct says *says)
 {
     size_t i;
 
@@ -132,8 +130,7 @@ void sending_start_epoch(struct sending *s, uint64_t epoch, const struct client 
 /* Spreads the group frame once for all members. levelspruce_sender_payload gives the same bytes slot by slot, more slowly. */
 static void spread(struct sending *s)
 {
-    must(levelspruce_spread(s->ranks[LEVELSPRUCE_RANKS_X], s->choices->payload, s->frame, s->frame_bytes, s->members, s->frame_bytes),
-         "levelspruce_spread");
+    must(levelspruce_spread(s->ranks[LEVELSPRUCE_RANKS_X], s->choices->payload, s->frame, s->frame_bytes, s->members, s->frame_bytes), "levelspruce_spread");
 }
 
 /* The payload of a slot: the bytes of its rank, or zeros where it has none. */

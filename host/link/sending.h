@@ -22,11 +22,11 @@ struct sending {
     const struct choices *choices;
     uint8_t state[LEVELSPRUCE_SENDER_BYTES];
     uint8_t packets[LINES_MOST][LEVELSPRUCE_PACKET_BYTES_VC12]; /* the longer of the two */
-    uint8_t added[EVENTS_MOST], removed[EVENTS_MOST]; /* which commands are done */
-    uint32_t gid; /* fifteen bits that go round */
-    uint32_t waited; /* starts of epochs at which the wait stood open */
-    uint8_t ranks[LEVELSPRUCE_RANKS_BYTES]; /* of the epoch that runs */
-    uint8_t *frame, *members; /* the group frame, and the same bytes member by member in the order of ranks */
+    uint8_t added[EVENTS_MOST], removed[EVENTS_MOST];           /* which commands are done */
+    uint32_t gid;                                               /* fifteen bits that go round */
+    uint32_t waited;                                            /* starts of epochs at which the wait stood open */
+    uint8_t ranks[LEVELSPRUCE_RANKS_BYTES];                     /* of the epoch that runs */
+    uint8_t *frame, *members;                                   /* the group frame, and the same bytes member by member in the order of ranks */
     size_t frame_bytes;
     struct carried carried[CARRIED_MOST];
 };

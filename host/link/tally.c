@@ -15,13 +15,12 @@ int tally_open(struct tally *t, const char *out, int doubtful)
     return t->out == NULL ? -1 : 0;
 }
 
-void tally_report(struct tally *t, uint64_t epoch, const struct report *report, const uint8_t *bytes, const struct sending *sending,
-                  struct client *client, struct says *says)
+void tally_report(struct tally *t, uint64_t epoch, const struct report *report, const uint8_t *bytes, const struct sending *sending, struct client *client,
+                  struct says *says)
 {
     const struct carried *carried = sending_carried(sending, epoch);
     int sure = report->mark == LEVELSPRUCE_MARK_SURE;
-    int right = carried != NULL && carried->bytes == report->bytes
-        && client_sent(client, carried->from, bytes, report->bytes);
+    int right = carried != NULL && carried->bytes == report->bytes && client_sent(client, carried->from, bytes, report->bytes);
 
     says_report(says, epoch, report->mark, report->cause, report->ports, report->bytes, right);
     t->epochs[report->mark]++;

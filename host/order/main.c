@@ -91,13 +91,11 @@ static void give(void)
 
     if (count == 0)
         return;
-    if (levelspruce_card_order(card, sizeof card, (const uint32_t (*)[LEVELSPRUCE_COMMAND_NUMBERS])commands, count, answers, count)
-        != LEVELSPRUCE_ANSWER_DONE)
+    if (levelspruce_card_order(card, sizeof card, (const uint32_t(*)[LEVELSPRUCE_COMMAND_NUMBERS])commands, count, answers, count) != LEVELSPRUCE_ANSWER_DONE)
         stop("an order was refused whole");
     for (i = 0; i < count; i++) {
         says(answers[i], waiting[i].line, waiting[i].word);
-        printf("\tgroup\t%lu\tslot\t%lu", (unsigned long)commands[i][LEVELSPRUCE_COMMAND_GROUP],
-               (unsigned long)commands[i][LEVELSPRUCE_COMMAND_SLOT]);
+        printf("\tgroup\t%lu\tslot\t%lu", (unsigned long)commands[i][LEVELSPRUCE_COMMAND_GROUP], (unsigned long)commands[i][LEVELSPRUCE_COMMAND_SLOT]);
         says_why(answers[i], waiting[i].word, commands[i][LEVELSPRUCE_COMMAND_GROUP]);
     }
     count = 0;

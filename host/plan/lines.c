@@ -84,8 +84,8 @@ int same_name(const struct named *one, const struct named *other)
 
 static int take_first(struct text line, struct lines *lines)
 {
-    return take_word(&line, "join") && take_number(&line, &lines->wanted) && take_word(&line, "window")
-        && take_number(&line, &lines->window) && line.at == NULL;
+    return take_word(&line, "join") && take_number(&line, &lines->wanted) && take_word(&line, "window") && take_number(&line, &lines->window)
+        && line.at == NULL;
 }
 
 /* Of two paths with one name nobody could say which is meant. */
@@ -95,8 +95,8 @@ static int take_path(struct text line, unsigned long number, struct lines *lines
     uint32_t delay;
     size_t i;
 
-    if (!take_word(&line, "path") || !take_name(&line, number, &name, &wrong->why) || !take_word(&line, "delay")
-        || !take_number(&line, &delay) || line.at != NULL)
+    if (!take_word(&line, "path") || !take_name(&line, number, &name, &wrong->why) || !take_word(&line, "delay") || !take_number(&line, &delay)
+        || line.at != NULL)
         return 0;
     for (i = 0; i < lines->count; i++)
         if (same_name(&lines->paths[i], &name)) {

@@ -184,8 +184,7 @@ static int check(void)
 
     for (i = 0; i < lines.taken_count; i++)
         set[i] = number_of(&lines.taken[i]);
-    if (levelspruce_paths_check(lines.delays, lines.count, lines.wanted, lines.window, set, lines.taken_count, &accepted, 1)
-        != LEVELSPRUCE_ANSWER_DONE)
+    if (levelspruce_paths_check(lines.delays, lines.count, lines.wanted, lines.window, set, lines.taken_count, &accepted, 1) != LEVELSPRUCE_ANSWER_DONE)
         return says_range();
     printf(accepted ? "accepted\n" : "not accepted\n");
     if (accepted)

@@ -43,7 +43,8 @@ fn packets() -> bool {
     let lows = read(&given.map(|b| b & 0xF0 | 0x0A)) == (0, fields(58, 5));
     let mut short = [0; 15];
     let mut nine = [0; 9];
-    let lengths = (write_fixed(256, 256, &mut short), read_fixed(&short, &mut nine), read_fixed(&given, &mut nine)) == (LENGTH_WRONG, LENGTH_WRONG, LENGTH_WRONG);
+    let lengths =
+        (write_fixed(256, 256, &mut short), read_fixed(&short, &mut nine), read_fixed(&given, &mut nine)) == (LENGTH_WRONG, LENGTH_WRONG, LENGTH_WRONG);
     let large = [(256, 0), (0, 256), (u32::MAX, 0), (0, 1 << 31)].iter().all(|(epoch, sq)| {
         let mut h4 = [0xA5; PACKET_BYTES];
         write_fixed(*epoch, *sq, &mut h4) == 8 && h4 == [0xA5; PACKET_BYTES]
@@ -137,7 +138,11 @@ fn judgements(count: &mut Count) {
             let numbers = [k % 5, k / 5 % 5, k / 25];
             let brings: Vec<Brings> = numbers.iter().map(|number| Number(*number)).collect();
             let order: Vec<u8> = (0..3).filter_map(|q| numbers.iter().position(|number| *number == q).map(|port| port as u8)).collect();
-            if order.len() == 3 { is_sure(&brings, &order) } else { is_held(&brings) }
+            if order.len() == 3 {
+                is_sure(&brings, &order)
+            } else {
+                is_held(&brings)
+            }
         })
     });
     count.note("any other word, or any other MFI2, is held", {

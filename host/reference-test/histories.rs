@@ -11,8 +11,7 @@ use crate::source::{packet, Says};
 use reference::packet::{read, read_fixed, write_fixed, FIELDS_BYTES};
 use reference::receiver::rows::{self, Row};
 use reference::receiver::{
-    epoch_of, fast, first_tag, Flag, Port, Receiver, Report, DOUBTFUL, HELD, KIND_FIXED, KIND_H4, STATE_FAIL, STATE_IDLE, STATE_OK, SURE,
-    TAGS,
+    epoch_of, fast, first_tag, Flag, Port, Receiver, Report, DOUBTFUL, HELD, KIND_FIXED, KIND_H4, STATE_FAIL, STATE_IDLE, STATE_OK, SURE, TAGS,
 };
 use std::collections::HashMap;
 
@@ -328,9 +327,7 @@ struct Host {
 impl Host {
     fn new(random: &mut Random, kind: u32, ports: usize, window: usize) -> Host {
         let base = random.below(TAGS as u64) as usize;
-        let paths = (0..ports)
-            .map(|_| Path { tag: base + random.below(window as u64 - 15) as usize, ..Path::default() })
-            .collect();
+        let paths = (0..ports).map(|_| Path { tag: base + random.below(window as u64 - 15) as usize, ..Path::default() }).collect();
         let calm = random.one_of(&[30, 100, 300, 1000, 1000, 3000]);
         Host { kind, seed: random.next(), paths, calm, packets_calm: random.one_of(&[10, 20, 50, 200]) }
     }

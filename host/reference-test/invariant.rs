@@ -67,8 +67,10 @@ fn of_bits(p: &Port) -> Vec<(&'static str, bool)> {
     let whole = place == 0 || place > 4;
     vec![
         ("neither breaks nor odd packets", p.breaks == 0 && !p.odd.is_set()),
-        ("the bits make an epoch, and where neither a run is nor the latest frame came flagged they are 0",
-            p.bits < 32 && (count > 0 || p.failed.is_set() || p.bits == 0)),
+        (
+            "the bits make an epoch, and where neither a run is nor the latest frame came flagged they are 0",
+            p.bits < 32 && (count > 0 || p.failed.is_set() || p.bits == 0),
+        ),
         ("before the fifth bit the next tag is the count of frames", count == 0 || count > 4 || p.next == u16::from(count)),
         ("so many bits as have come", count == 0 || whole || p.bits < 1 << place),
         ("behind the fifth they are the packet's epoch", count == 0 || !whole || p.bits == p.clock().epoch_of(p.latest_tag())),
@@ -87,18 +89,9 @@ fn of_window(r: &Receiver, p: &Port) -> Vec<(&'static str, bool)> {
     let brought = (off / frames).saturating_sub(later) as u32;
     let so_many = 1u128.checked_shl(brought).map_or(u128::MAX, |bit| bit - 1);
     vec![
-        (
-            "nothing is kept while receiving has not begun",
-            r.begun.is_set() || !joined && !since && p.marks == 0 && later == 0 && !p.whole.is_set(),
-        ),
-        (
-            "who joined is in the window or right after it",
-            !joined || off <= r.window && frames * later < r.window && (later == 0 || frames * later < off),
-        ),
-        (
-            "from where it joined a port has marks up to where it is",
-            !joined || marks_from(later) == so_many,
-        ),
+        ("nothing is kept while receiving has not begun", r.begun.is_set() || !joined && !since && p.marks == 0 && later == 0 && !p.whole.is_set()),
+        ("who joined is in the window or right after it", !joined || off <= r.window && frames * later < r.window && (later == 0 || frames * later < off)),
+        ("from where it joined a port has marks up to where it is", !joined || marks_from(later) == so_many),
         ("marks are of the window", marks_from(r.window / frames) == 0),
         ("who has not joined has joined nowhere later", joined || later == 0),
         (

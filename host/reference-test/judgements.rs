@@ -266,7 +266,7 @@ fn rs_ack() -> bool {
         ([send(ADD, 0), send(ADD, 1)], false),
         ([send(NORM, 0), send(ADD, 1)], true),
         ([send(EOS, 0), send(ADD, 1)], false),
-        ([send(EOS, 0), idle], true), // ADD became IDLE
+        ([send(EOS, 0), idle], true),  // ADD became IDLE
         ([send(DNU, 0), idle], false), // all alike
         ([send(DNU, 0), send(ADD, 1)], false),
         ([send(EOS, 0), send(ADD, 1)], false),

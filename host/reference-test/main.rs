@@ -1,10 +1,10 @@
 //! Checks the reference by itself: 01's limits, links from the reference's sender, VC-12's packets and groups, long histories of
 //! unruly hosts, and its mending of recordings. Every run makes the same ones.
 
+mod adds;
 #[path = "../differential/count.rs"]
 #[allow(dead_code)] // not all of it is used here
 mod count;
-mod adds;
 mod fixed;
 mod histories;
 mod invariant;

@@ -113,13 +113,7 @@ fn no_last_end() -> bool {
     is(unended(&["1 1 16"]), b"1\t1\t16", b"", 0, 0)
         && is(unended(&["1 1 16", "0 05 0 AB"]), b"1\t1\t16\n0\t05\t0\tAB", b"", 0, 0)
         && is(unended(&["1 1 16", "0 05 0 AB", "0 0"]), b"1\t1\t16\n0\t05\t0\tAB\n", b"3\tline\t0\t0\t\n", 1, 0)
-        && is(
-            unended(&["1 1 16", "0 05 0 AB", "0 00 0 AB", "0 07 0 AB"]),
-            b"1\t1\t16\n0\t05\t0\tAB\n0\t06\t0\tAB\n0\t07\t0\tAB",
-            b"3\tH4\t00\t06\n",
-            0,
-            1,
-        )
+        && is(unended(&["1 1 16", "0 05 0 AB", "0 00 0 AB", "0 07 0 AB"]), b"1\t1\t16\n0\t05\t0\tAB\n0\t06\t0\tAB\n0\t07\t0\tAB", b"3\tH4\t00\t06\n", 0, 1)
 }
 
 /// Lines of three ports, of which many are torn.
@@ -149,18 +143,19 @@ fn twice_and_undone() -> bool {
         let torn = made_up(&mut random);
         let plain = mended(&torn);
         let alike = fast::mended(&torn) == plain;
-        alike && match plain {
-            Ok(once) => {
-                dropped += once.dropped;
-                restored += once.restored;
-                let mut ended = torn.clone();
-                ended.extend(b"\n");
-                let again = undone(&once.recording, &once.notes);
-                let unnoted = Mended { recording: once.recording.clone(), notes: Vec::new(), dropped: 0, restored: 0 };
-                mended(&once.recording) == Ok(unnoted) && (again.as_ref() == Some(&torn) || again == Some(ended))
+        alike
+            && match plain {
+                Ok(once) => {
+                    dropped += once.dropped;
+                    restored += once.restored;
+                    let mut ended = torn.clone();
+                    ended.extend(b"\n");
+                    let again = undone(&once.recording, &once.notes);
+                    let unnoted = Mended { recording: once.recording.clone(), notes: Vec::new(), dropped: 0, restored: 0 };
+                    mended(&once.recording) == Ok(unnoted) && (again.as_ref() == Some(&torn) || again == Some(ended))
+                }
+                Err(_) => torn.len() < 7,
             }
-            Err(_) => torn.len() < 7,
-        }
     });
     println!("dropped\t{}\trestored\t{}", dropped, restored);
     held && dropped > 10_000 && restored > 10_000

@@ -166,9 +166,7 @@ fn lost_exactly_so() -> bool {
                     let answer = lent.hand(0, false, carried, &[0]);
                     let p = &lent.receiver.ports[0];
                     let (nibble, mfi1) = (usize::from(carried >> 4), usize::from(carried & 15));
-                    let is_break = mfi1 != next % 16
-                        || next % 16 == 0 && nibble != next / 256
-                        || next % 16 == 1 && nibble != next / 16 % 16;
+                    let is_break = mfi1 != next % 16 || next % 16 == 0 && nibble != next / 256 || next % 16 == 1 && nibble != next / 16 % 16;
                     let mut ended = row;
                     ended[15] = carried >> 4;
                     let checked = crc(&ended) == ended[14] << 4 | ended[15];
@@ -323,9 +321,8 @@ fn wrong_and_sure(from: usize, by: usize, flagged: bool) -> usize {
 /// By whole multiframes at any of the sixteen places, by one frame at the last three. Where the packet's last nibble is the same
 /// in both, as from epoch 191 to 192, and the switch falls on it, that packet comes right and the next epoch is wrong too.
 fn switched_paths() -> bool {
-    let places = |epoch: usize, by: usize, flagged: bool| -> Vec<usize> {
-        (16 * epoch..16 * epoch + 16).map(|from| wrong_and_sure(from, by, flagged)).collect()
-    };
+    let places =
+        |epoch: usize, by: usize, flagged: bool| -> Vec<usize> { (16 * epoch..16 * epoch + 16).map(|from| wrong_and_sure(from, by, flagged)).collect() };
     let one_frame: Vec<usize> = (0..16).map(|place| usize::from(place >= 13)).collect();
     let without = places(4, 16, false) == [1; 16] && places(4, TAGS - 16, false) == [1; 16] && places(4, 1, false) == one_frame;
     let twice = places(1, 16, false)[..15] == [1; 15] && places(1, 16, false)[15] == 2;

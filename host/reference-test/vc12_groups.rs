@@ -211,9 +211,8 @@ fn ahead() -> bool {
 }
 
 fn starts() -> bool {
-    let start = |kind: u32, payload: u32, window: u32| {
-        Receiver::empty().start_as(kind, 3, payload, window, 3 * window as usize * (payload as usize + 1), &[], &[])
-    };
+    let start =
+        |kind: u32, payload: u32, window: u32| Receiver::empty().start_as(kind, 3, payload, window, 3 * window as usize * (payload as usize + 1), &[], &[]);
     let windows = [(31, 4), (32, 0), (512, 0), (513, 4)].iter().all(|(w, answer)| start(KIND_VC12, 136, *w) == *answer);
     let payloads = [(135, 4), (136, 0), (137, 4)].iter().all(|(p, answer)| start(KIND_VC12, *p, 64) == *answer);
     let kinds = [(KIND_H4, 0), (KIND_VC12, 0), (KIND_FIXED, 0), (3, 4), (257, 4)].iter().all(|(kind, answer)| start(*kind, 136, 64) == *answer);

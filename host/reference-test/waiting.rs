@@ -197,7 +197,11 @@ fn starts() -> bool {
             4 => lent[0][1..] == [0; 15] && lent[1..].iter().all(|row| *row == [0xEE; 16]),
             _ => lent.iter().all(|row| *row == [0xEE; 16]),
         };
-        if same && left { answer } else { 255 }
+        if same && left {
+            answer
+        } else {
+            255
+        }
     };
     let right = answer(0, 2, length, &[], &[]) == 0 && answer(0, 2, length, &[5000, 0], &[]) == 0 && answer(0, 2, length, &[0, 1], &[2, 5000]) == 0;
     let four = answer(0, 2, length, &[5001, 0], &[]) == 4

@@ -88,12 +88,15 @@ pub struct Clock {
     pub idle: u8,
 }
 
-const H4_CLOCK: Clock =
-    Clock { frames: EPOCH_FRAMES, tags: TAGS, lead: 8, window: (16, 2048), step: STEP_FRAMES, mst_epochs: 32, idle: 255 };
+const H4_CLOCK: Clock = Clock { frames: EPOCH_FRAMES, tags: TAGS, lead: 8, window: (16, 2048), step: STEP_FRAMES, mst_epochs: 32, idle: 255 };
 const VC12_CLOCK: Clock = Clock { frames: 32, tags: 1024, lead: 0, window: (32, 512), step: 64, mst_epochs: 8, idle: 63 };
 
 pub fn clock(kind: u32) -> Clock {
-    if kind == KIND_VC12 { VC12_CLOCK } else { H4_CLOCK }
+    if kind == KIND_VC12 {
+        VC12_CLOCK
+    } else {
+        H4_CLOCK
+    }
 }
 
 impl Clock {
@@ -489,9 +492,7 @@ impl Receiver {
     }
 
     /// Starts with a hold-off and a wait-to-restore for each port; an empty list has zero for all.
-    pub fn start_as(
-        &mut self, kind: u32, ports: u32, payload: u32, window: u32, store_length: usize, hold_off: &[u32], restore: &[u32],
-    ) -> u8 {
+    pub fn start_as(&mut self, kind: u32, ports: u32, payload: u32, window: u32, store_length: usize, hold_off: &[u32], restore: &[u32]) -> u8 {
         let times_fit = hold_off.iter().chain(restore).all(|time| *time <= TIMER_MOST);
         let payload_fits = kind != KIND_VC12 || payload == PAYLOAD_VC12;
         if !Receiver::fits_as(kind, ports, payload, window) || !payload_fits || !times_fit {
@@ -500,13 +501,8 @@ impl Receiver {
         }
         let time = |list: &[u32], port: usize| list.get(port).map_or(0, |time| *time as u16);
         let port = |i: usize| Port { hold_off: time(hold_off, i), restore: time(restore, i), ..Port::new(kind) };
-        let started = Receiver {
-            kind,
-            ports: (0..ports as usize).map(port).collect(),
-            payload: payload as usize,
-            window: window as usize,
-            ..Receiver::empty()
-        };
+        let started =
+            Receiver { kind, ports: (0..ports as usize).map(port).collect(), payload: payload as usize, window: window as usize, ..Receiver::empty() };
         let is_list = |list: &[u32]| list.is_empty() || list.len() == ports as usize;
         if store_length != started.store_length() || !is_list(hold_off) || !is_list(restore) {
             return 9;
@@ -567,7 +563,11 @@ impl Receiver {
             10
         } else {
             advanced.count(h4);
-            if advanced.in_step() { 0 } else { 12 }
+            if advanced.in_step() {
+                0
+            } else {
+                12
+            }
         };
         if answer == 0 && self.begun.is_set() {
             let clock = self.clock();
@@ -703,7 +703,11 @@ impl Receiver {
 
     /// Why, held, doubtful or sure, and the ports to join in the order of their ranks (none if held).
     fn judge(&self) -> (u8, u8, Vec<usize>) {
-        if self.kind == KIND_FIXED { self.judge_fixed() } else { self.judge_lcas() }
+        if self.kind == KIND_FIXED {
+            self.judge_fixed()
+        } else {
+            self.judge_lcas()
+        }
     }
 
     /// "The ports' numbers must be exactly 0 to X-1 or the epoch is held", and "a set number of ports never changes while running", so
@@ -720,15 +724,18 @@ impl Receiver {
             (CAUSE_REPEATED, numbers.windows(2).any(|pair| pair[0] == pair[1])),
             (CAUSE_NUMBERS, numbers != (0..self.ports.len()).collect::<Vec<usize>>()),
         ]);
-        if cause == 0 { (cause, SURE, numbered.iter().map(|(_, i)| *i).collect()) } else { (cause, HELD, Vec::new()) }
+        if cause == 0 {
+            (cause, SURE, numbered.iter().map(|(_, i)| *i).collect())
+        } else {
+            (cause, HELD, Vec::new())
+        }
     }
 
     fn judge_lcas(&self) -> (u8, u8, Vec<usize>) {
         let whole = self.whole();
         let some_missing = whole.len() < self.ports.len();
         let some_refused = whole.iter().any(|(_, packet)| packet.is_none());
-        let good: Vec<(usize, u8, u8, u8)> =
-            whole.iter().filter_map(|(i, packet)| packet.map(|(word, gid, number)| (*i, word, gid, number))).collect();
+        let good: Vec<(usize, u8, u8, u8)> = whole.iter().filter_map(|(i, packet)| packet.map(|(word, gid, number)| (*i, word, gid, number))).collect();
 
         let mut active: Vec<(u8, usize, u8)> = good.iter().filter(|g| is_active(g.1)).map(|g| (g.3, g.0, g.1)).collect();
         active.sort();
@@ -763,9 +770,7 @@ impl Receiver {
 
     fn work_out_states(&mut self) {
         let listed = |word: u8, number: u8| is_numbered(word).then_some(number);
-        let turns = self.ports.iter().any(|p| {
-            listed(p.word, p.number) != listed(p.told_word, p.told_number) || p.told_word == ADD && p.word == IDLE
-        });
+        let turns = self.ports.iter().any(|p| listed(p.word, p.number) != listed(p.told_word, p.told_number) || p.told_word == ADD && p.word == IDLE);
         if turns {
             self.rs_ack = Flag::from(!self.rs_ack.is_set());
         }

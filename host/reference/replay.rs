@@ -3,8 +3,7 @@
 use crate::packet::DONE;
 use crate::receiver::read::NOBODY;
 use crate::receiver::{
-    clock, fast, Receiver as Plain, Report, Shown, DOUBTFUL, HELD, KIND_FIXED, KIND_H4, KIND_VC12, NONE, NONE_DUE, PAYLOAD_VC12, STATE_FAIL,
-    STATE_IDLE,
+    clock, fast, Receiver as Plain, Report, Shown, DOUBTFUL, HELD, KIND_FIXED, KIND_H4, KIND_VC12, NONE, NONE_DUE, PAYLOAD_VC12, STATE_FAIL, STATE_IDLE,
 };
 
 const LINE_MOST: usize = 8192;
@@ -90,13 +89,8 @@ impl Receives for fast::Receiver {
 
 /// "The epoch's line of a held or doubtful report names cause and port in words", by the causes' numbers.
 const CAUSES: [&str; 8] = [
-    "none",
-    "a ruling packet was refused",
-    "an active port lacks a frame",
-    "numbers of active and DNU ports repeat",
-    "GID differs among ports that are not IDLE",
-    "EOS is not on the highest active port alone",
-    "a port has no whole ruling packet",
+    "none", "a ruling packet was refused", "an active port lacks a frame", "numbers of active and DNU ports repeat",
+    "GID differs among ports that are not IDLE", "EOS is not on the highest active port alone", "a port has no whole ruling packet",
     "the numbers are not 0 to n - 1",
 ];
 

@@ -291,7 +291,11 @@ impl Sender {
             Some(Lent { gid, mst, rs_ack }) => {
                 let Row { word, number } = self.going.rows[slot as usize];
                 let fields = Fields { epoch: self.epoch, word, gid, mst, rs_ack, sq: number, reserved: 0 };
-                if self.table.kind == KIND_VC12 { packet::write_vc12(&fields, h4) } else { packet::write(&fields, h4) }
+                if self.table.kind == KIND_VC12 {
+                    packet::write_vc12(&fields, h4)
+                } else {
+                    packet::write(&fields, h4)
+                }
             }
         }
     }

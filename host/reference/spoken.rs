@@ -142,7 +142,11 @@ fn runs(mut list: &[Change]) -> Vec<&[Change]> {
 }
 
 fn numbers(first: u8, last: u8) -> String {
-    if first == last { first.to_string() } else { format!("{}\tto\t{}", first, last) }
+    if first == last {
+        first.to_string()
+    } else {
+        format!("{}\tto\t{}", first, last)
+    }
 }
 
 /// The word and the numbers of slots in a run.
@@ -192,7 +196,11 @@ pub fn told(old: &[u8], new: &[u8], in_runs: bool) -> Option<String> {
     if changes(old, new, &mut list) != 0 {
         return None;
     }
-    if in_runs { lines_in_runs(&list) } else { lines(&list) }
+    if in_runs {
+        lines_in_runs(&list)
+    } else {
+        lines(&list)
+    }
 }
 
 /// Lines written to the front of a text, or 2 where there are none to write.

@@ -16,13 +16,8 @@ fn number(field: &str) -> u64 {
 
 /// The causes in words, in the order of their numbers.
 const CAUSES: [&str; 7] = [
-    "a ruling packet was refused",
-    "an active port lacks a frame",
-    "numbers of active and DNU ports repeat",
-    "GID differs among ports that are not IDLE",
-    "EOS is not on the highest active port alone",
-    "a port has no whole ruling packet",
-    "the numbers are not 0 to n - 1",
+    "a ruling packet was refused", "an active port lacks a frame", "numbers of active and DNU ports repeat", "GID differs among ports that are not IDLE",
+    "EOS is not on the highest active port alone", "a port has no whole ruling packet", "the numbers are not 0 to n - 1",
 ];
 
 /// What stands behind a line from the word 'cause' on, and the line without it.
@@ -129,7 +124,9 @@ impl Desk<'_> {
         let status = i32::from(wanted.iter().any(|line| line.starts_with("answer\t")));
         let same = lines.iter().map(|(line, why)| (line.as_str(), why.as_deref())).eq(wanted.into_iter().map(part_cause))
             && lines.iter().all(|(line, why)| why.is_some() == says_why(line))
-            && text[counts..] == counts_of(&lines) && output.status.code() == Some(status) && output.stderr.is_empty();
+            && text[counts..] == counts_of(&lines)
+            && output.status.code() == Some(status)
+            && output.stderr.is_empty();
         if !same {
             println!("differs\tdesk\tfiles {:?}\nreplay\t{}\ndesk\t{}", files, expected.escape_debug(), text.escape_debug());
         }
@@ -149,8 +146,7 @@ impl Desk<'_> {
             path
         };
         let parts = [file("0", &recording[..cut]), file("1", &recording[cut..])];
-        self.prints(&[file("whole", recording)], &expected, epochs, drawn)
-            && self.prints(&parts, &expected, epochs, drawn)
+        self.prints(&[file("whole", recording)], &expected, epochs, drawn) && self.prints(&parts, &expected, epochs, drawn)
     }
 }
 

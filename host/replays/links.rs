@@ -70,7 +70,12 @@ pub fn compared(folder: &str, link: &[String], replay: &[String], desk: Option<&
     let choices = format!(
         "--at-once --each{} --seed {} --slots {} --payload {} --window {} --number {} --epochs 60 --record {}{}",
         [" --fixed", " --vc12", "", ""][seed as usize % 4],
-        seed, slots, payload, window, first, file,
+        seed,
+        slots,
+        payload,
+        window,
+        first,
+        file,
         if vc12 { String::new() } else { format!(" --record-heads {}.heads", file) }
     );
     let run = |command: &[String], words: &[&str]| {

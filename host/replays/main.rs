@@ -211,7 +211,8 @@ fn main() {
 
     if let Some(link) = commands.next() {
         let mut drawn = desks::Drawn::default();
-        let compared: Vec<links::Compared> = (1..=LINKS).map(|seed| links::compared(&program.folder, link, &program.words, desk.as_ref(), &mut drawn, seed)).collect();
+        let compared: Vec<links::Compared> =
+            (1..=LINKS).map(|seed| links::compared(&program.folder, link, &program.words, desk.as_ref(), &mut drawn, seed)).collect();
         let total = |f: fn(&links::Compared) -> usize| compared.iter().map(f).sum::<usize>();
         let (reports, states, together) = (total(|c| c.reports), total(|c| c.states), total(|c| c.together));
         println!("links\t{}\treports {}\tstates {}\twhere several reports came together {}", LINKS, reports, states, together);
@@ -219,7 +220,10 @@ fn main() {
         count.note("it said many reports and states", reports > 4000 && states > 500);
         if desk.is_some() {
             println!("desk\tlinks {}\tlines {}\tdrawn together in {}", LINKS, drawn.lines, drawn.printed);
-            count.note("the program for a desk prints what the replay program prints of them, drawn together", compared.iter().all(|c| c.drawn) && 2 * drawn.printed < drawn.lines);
+            count.note(
+                "the program for a desk prints what the replay program prints of them, drawn together",
+                compared.iter().all(|c| c.drawn) && 2 * drawn.printed < drawn.lines,
+            );
             count.note("and says why of each report that is not sure, and of no other line", compared.iter().all(|c| c.drawn) && drawn.whys > 100);
         }
 

@@ -74,7 +74,10 @@ impl Mender<'_> {
         let file = self.path("recorded");
         let choices = format!(
             "--at-once --seed {} --slots {} --payload {} --window 64 --epochs 12 --record {}",
-            1 + random.below(1_000_000), 1 + random.below(4), random.one_of(&[1, 7]), file
+            1 + random.below(1_000_000),
+            1 + random.below(4),
+            random.one_of(&[1, 7]),
+            file
         );
         let linked = Command::new(&link[0]).args(&link[1..]).args(choices.split(' ')).output().expect("the example link starts");
         let mut torn = std::fs::read(&file).expect("a recording");

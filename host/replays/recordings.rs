@@ -173,19 +173,21 @@ pub fn made_up(random: &mut Random, frames: usize) -> Vec<Vec<u8>> {
 /// First lines that are refused, or of the greatest store that is lent and of one port more; pairs that are taken and that are not.
 pub fn openings() -> Vec<Vec<u8>> {
     let mut lines: Vec<Vec<u8>> = [
-        "x", "", "0\t1\t16", "1\t0\t16", "1\t1\t15", "65\t1\t16", "1\t2341\t16", "1\t1\t2049", "1\t1", "1\t1\t16\t", "1\t1\t16\tkind\tH4", "1\t1\t16\r", "1\t1 \t16",
-        "000000001\t1\t16", "0000000001\t1\t16", "1\t100000\t16", "999999999\t1\t16", "4294967297\t1\t16", "-1\t1\t16", "64\t1\t512", "64\t1\t513", "63\t1\t520", "64\t63\t16",
-        "64\t64\t16", "32\t31\t64", "33\t31\t64", "16\t63\t64", "17\t63\t64", "1\t31\t2048", "1\t32\t2048", "6\t756\t64",
-        "1\t1\t16\tkind", "1\t1\t16\tkind\t", "1\t1\t16\tkind\tK4", "1\t1\t16\tkind\tFIXED", "1\t1\t16\tkind\tfixed", "1\t1\t16\tkind\tH4\tkind\tH4", "1\t1\t16\tkind\tH4\t",
-        "1\t1\t16\thold-off", "1\t1\t16\thold-off\t", "1\t1\t16\thold-off\t0", "1\t1\t16\thold-off\t5000", "1\t1\t16\thold-off\t5001", "1\t1\t16\thold-off\t999999999",
-        "1\t1\t16\thold-off\t0000005000", "1\t1\t16\thold-off\t000005000", "1\t1\t16\thold-off\t5\t5", "2\t1\t16\thold-off\t5", "2\t1\t16\thold-off\t5\tx",
-        "1\t1\t16\thold-off\t5\thold-off\t5", "1\t1\t16\twait-to-restore\t5", "1\t1\t16\twait-to-restore\t5001", "1\t1\t16\twait-to-restore\t1\thold-off\t2",
-        "1\t1\t16\thold-off\t1\twait-to-restore\t2", "1\t1\t16\thold-off\t5001\twait-to-restore\tx", "1\t1\t16\thold-off\t1\twait-to-restore", "1\t1\t16\twait_to_restore\t1",
-        "1\t1\t16\tkind\tFIXED\thold-off\t3\twait-to-restore\t4", "1\t1\t16\thold-off\t3\twait-to-restore\t4\tkind\tFIXED", "0\t1\t16\thold-off", "0\t1\t16\thold-off\t1",
-        "1\t1\t16\thold-off\tkind\tH4", "1\t1\t16\t\tkind\tH4",
-        "1\t136\t32\tkind\tVC12", "1\t135\t32\tkind\tVC12", "1\t137\t32\tkind\tVC12", "1\t1\t32\tkind\tVC12", "1\t136\t31\tkind\tVC12", "1\t136\t478\tkind\tVC12",
+        "x", "", "0\t1\t16", "1\t0\t16", "1\t1\t15", "65\t1\t16", "1\t2341\t16", "1\t1\t2049", "1\t1", "1\t1\t16\t", "1\t1\t16\tkind\tH4", "1\t1\t16\r",
+        "1\t1 \t16", "000000001\t1\t16", "0000000001\t1\t16", "1\t100000\t16", "999999999\t1\t16", "4294967297\t1\t16", "-1\t1\t16", "64\t1\t512",
+        "64\t1\t513", "63\t1\t520", "64\t63\t16", "64\t64\t16", "32\t31\t64", "33\t31\t64", "16\t63\t64", "17\t63\t64", "1\t31\t2048", "1\t32\t2048",
+        "6\t756\t64", "1\t1\t16\tkind", "1\t1\t16\tkind\t", "1\t1\t16\tkind\tK4", "1\t1\t16\tkind\tFIXED", "1\t1\t16\tkind\tfixed",
+        "1\t1\t16\tkind\tH4\tkind\tH4", "1\t1\t16\tkind\tH4\t", "1\t1\t16\thold-off", "1\t1\t16\thold-off\t", "1\t1\t16\thold-off\t0",
+        "1\t1\t16\thold-off\t5000", "1\t1\t16\thold-off\t5001", "1\t1\t16\thold-off\t999999999", "1\t1\t16\thold-off\t0000005000",
+        "1\t1\t16\thold-off\t000005000", "1\t1\t16\thold-off\t5\t5", "2\t1\t16\thold-off\t5", "2\t1\t16\thold-off\t5\tx", "1\t1\t16\thold-off\t5\thold-off\t5",
+        "1\t1\t16\twait-to-restore\t5", "1\t1\t16\twait-to-restore\t5001", "1\t1\t16\twait-to-restore\t1\thold-off\t2",
+        "1\t1\t16\thold-off\t1\twait-to-restore\t2", "1\t1\t16\thold-off\t5001\twait-to-restore\tx", "1\t1\t16\thold-off\t1\twait-to-restore",
+        "1\t1\t16\twait_to_restore\t1", "1\t1\t16\tkind\tFIXED\thold-off\t3\twait-to-restore\t4", "1\t1\t16\thold-off\t3\twait-to-restore\t4\tkind\tFIXED",
+        "0\t1\t16\thold-off", "0\t1\t16\thold-off\t1", "1\t1\t16\thold-off\tkind\tH4", "1\t1\t16\t\tkind\tH4", "1\t136\t32\tkind\tVC12",
+        "1\t135\t32\tkind\tVC12", "1\t137\t32\tkind\tVC12", "1\t1\t32\tkind\tVC12", "1\t136\t31\tkind\tVC12", "1\t136\t478\tkind\tVC12",
         "1\t136\t479\tkind\tVC12", "1\t136\t512\tkind\tVC12", "1\t136\t513\tkind\tVC12", "14\t136\t32\tkind\tVC12", "15\t136\t32\tkind\tVC12",
-        "1\t136\t32\tkind\tvc12", "1\t136\t32\tkind\tVC-12", "1\t136\t32\tkind\tVC12\thold-off\t5000", "1\t136\t32\thold-off\t5001\tkind\tVC12", "999999999\t1\t16\thold-off\t1",
+        "1\t136\t32\tkind\tvc12", "1\t136\t32\tkind\tVC-12", "1\t136\t32\tkind\tVC12\thold-off\t5000", "1\t136\t32\thold-off\t5001\tkind\tVC12",
+        "999999999\t1\t16\thold-off\t1",
     ]
     .iter()
     .map(|l| l.as_bytes().to_vec())

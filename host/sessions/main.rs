@@ -17,12 +17,7 @@ use std::io::Write;
 use std::process::{Command, Stdio};
 
 fn program(words: &[String], input: &[u8]) -> Vec<u8> {
-    let mut child = Command::new(&words[0])
-        .args(&words[1..])
-        .stdin(Stdio::piped())
-        .stdout(Stdio::piped())
-        .spawn()
-        .expect("the session program starts");
+    let mut child = Command::new(&words[0]).args(&words[1..]).stdin(Stdio::piped()).stdout(Stdio::piped()).spawn().expect("the session program starts");
     let mut to = child.stdin.take().expect("it has a standard input");
     let input = input.to_vec();
     let writer = std::thread::spawn(move || to.write_all(&input));

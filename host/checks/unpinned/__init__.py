@@ -34,7 +34,7 @@ from checks.unpinned.values import Trouble
 from checks.unpinned.working import Made
 
 # crates whose files are examples, and crates of plain words, which those above try
-EXAMPLES, WORDS = ("conformance", "pinned", "tables"), ("ground", "counting")
+EXAMPLES, WORDS = ("conformance", "pinned", "tables"), ("ground",)
 # seconds of the longest example that `-q` takes
 QUICK = 0.3
 

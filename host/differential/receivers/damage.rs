@@ -1,8 +1,8 @@
 //! State bytes that no call wrote.
 
 use crate::random::Random;
-use reference::receiver::rows::{rows_for, Row, ROWS_A_PORT};
 use reference::packet::VC12_START;
+use reference::receiver::rows::{rows_for, Row, ROWS_A_PORT};
 use reference::receiver::{clock, Receiver, KIND_VC12};
 
 fn flag(random: &mut Random) -> u8 {

@@ -39,7 +39,9 @@ fn wanted<T: Clone>(expected: &Result<Vec<T>, u8>, lent: &[T]) -> (u8, Vec<T>) {
 }
 
 /// The first call that differs.
-pub fn difference(random: &mut Random, plain: Option<&Receiver>, by_rows: &[Row], rows: &[Row], ports: usize, read: &mut Read) -> Option<(&'static str, usize)> {
+pub fn difference(
+    random: &mut Random, plain: Option<&Receiver>, by_rows: &[Row], rows: &[Row], ports: usize, read: &mut Read,
+) -> Option<(&'static str, usize)> {
     let seen = plain.map_or_else(|| read::seen(by_rows), |p| Ok(p.seen()));
     let cause = plain.map_or_else(|| read::cause(by_rows), |p| Ok(p.cause())).map(Vec::from);
     let heard = plain.map_or_else(|| read::heard(by_rows), |p| Ok(p.heard())).map(Vec::from);

@@ -65,7 +65,11 @@ fn all_hex(digits: &[u8]) -> bool {
 }
 
 fn value(digit: u8) -> u8 {
-    if digit <= b'9' { digit - b'0' } else { (digit | 0x20) - b'a' + 10 }
+    if digit <= b'9' {
+        digit - b'0'
+    } else {
+        (digit | 0x20) - b'a' + 10
+    }
 }
 
 /// The port of a frame's line that begins here, where its count stands and where its bytes end, if the port has one digit or two.

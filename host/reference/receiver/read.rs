@@ -128,7 +128,11 @@ impl Receiver {
 /// The same on rows: 9 where they do not fit.
 fn fitting(rows: &[Row]) -> Result<Receiver, u8> {
     let receiver = Receiver::from_rows(rows);
-    if fit(&receiver, rows) { Ok(receiver) } else { Err(9) }
+    if fit(&receiver, rows) {
+        Ok(receiver)
+    } else {
+        Err(9)
+    }
 }
 
 pub fn seen(rows: &[Row]) -> Result<Vec<[u8; 10]>, u8> {

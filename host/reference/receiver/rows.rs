@@ -124,9 +124,7 @@ pub fn start(rows: &mut [Row], ports: u32, payload: u32, window: u32, store_leng
     start_as(rows, KIND_H4, ports, payload, window, store_length, &[], &[])
 }
 
-pub fn start_as(
-    rows: &mut [Row], kind: u32, ports: u32, payload: u32, window: u32, store_length: usize, hold_off: &[u32], restore: &[u32],
-) -> u8 {
+pub fn start_as(rows: &mut [Row], kind: u32, ports: u32, payload: u32, window: u32, store_length: usize, hold_off: &[u32], restore: &[u32]) -> u8 {
     let mut receiver = Receiver::empty();
     let answer = receiver.start_as(kind, ports, payload, window, store_length, hold_off, restore);
     match answer {
@@ -202,7 +200,11 @@ pub fn fetch(rows: &mut [Row], store: &[u8], output: &mut [u8]) -> (u8, Report) 
 
 pub fn ports(rows: &[Row]) -> Result<Vec<Shown>, u8> {
     let receiver = Receiver::from_rows(rows);
-    if fit(&receiver, rows) { Ok(receiver.ports()) } else { Err(9) }
+    if fit(&receiver, rows) {
+        Ok(receiver.ports())
+    } else {
+        Err(9)
+    }
 }
 
 /// RS-Ack is read from the group's row, also where the group is an empty one, unless that is FIXED.
