@@ -17,7 +17,7 @@ TEXTS = [
     ("a check that cannot be worked out", ODD, ["rules"], 1, "0 passed, 1 failed"),
     ("what writes, and then checks", LONG, ["pages", "-w"], 0, "1 passed, 0 failed"),
     ("what only prints", {**WELL, "docs/RULES.md": "", "docs/PROMISES.md": ""}, ["believed", "-s"], 0, ""),
-    ("a word that a check does not know", WELL, ["rules", "-w"], 2, "leads from each rule to what states, proves and tries it."),
+    ("a word that a check does not know", WELL, ["rules", "-q"], 2, "leads from each rule to what states, proves and tries it."),
     ("a check that is not there", WELL, ["none"], 2, "there is no check none; host/check --help names them"),
 ]
 
