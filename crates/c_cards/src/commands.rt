@@ -1,6 +1,6 @@
 // A whole work order for C: each command is the card's own C call, on the bytes that those before it left. So it is one by one on any bytes.
-use crate::cards;
-use crate::cards::CARD_BYTES;
+use crate::card_calls;
+use crate::card_calls::CARD_BYTES;
 ghost use mathlib.Core.Path.{_≡_};
 ghost use lib.ListN.{length};
 ghost use Rattle.c_cards.specs.Orders.{commandAnswerOn, commandStateOn, kindAnswerOn, kindStateOn, orderAnswerOn, orderAnswersOn, orderStateOn, ordersOn};
@@ -10,10 +10,10 @@ fn by_kind(kind: u32, group: u32, slot: u32, state: &mut [u8]) -> u8
     ensures { λ r. ⌜ (r ≡ kindAnswerOn kind group slot (now (state .entry))) × (now (state .exit) ≡ kindStateOn kind group slot (now (state .entry))) ⌝ }
 {
     match kind {
-        0 => cards::levelspruce_card_add(state, group, slot),
-        1 => cards::levelspruce_card_remove(state, group, slot),
-        2 => cards::levelspruce_card_claim(state, group, slot),
-        3 => cards::levelspruce_card_release(state, group, slot),
+        0 => card_calls::levelspruce_card_add(state, group, slot),
+        1 => card_calls::levelspruce_card_remove(state, group, slot),
+        2 => card_calls::levelspruce_card_claim(state, group, slot),
+        3 => card_calls::levelspruce_card_release(state, group, slot),
         _ => 8,
     }
 }

@@ -1,7 +1,7 @@
 // The changes of the board going out for C. 'A board is taken only at an epoch's start': the board is taken from the state itself and not handed in, so
 // that a console cannot speak another.
 use crate::boards;
-use crate::cards;
+use crate::card_calls;
 use crate::changes;
 use crate::changes::CHANGES_BYTES;
 use crate::keeping;
@@ -64,11 +64,11 @@ pub extern "C" fn levelspruce_card_changes(
         × (now (told .exit) ≡ changesToldOn (now (state .entry)) group (now (told .entry)) (now (changes .entry)))
         × (now (changes .exit) ≡ changesBytesOn (now (state .entry)) group (now (told .entry)) (now (changes .entry))) ⌝ }
 {
-    let first = cards::refusal(state.len(), group);
+    let first = card_calls::refusal(state.len(), group);
     if first != 0 {
         return first;
     }
-    let sender = cards::part_in(state, group);
+    let sender = card_calls::part_in(state, group);
     let going = spoken::taken(sender);
     tell(going, told, changes)
 }
