@@ -366,15 +366,16 @@ static void settings(void)
 }
 
 /* Port 1 lies 100 frames behind and outside the window. Port 0 fails, so receiving stops, and begins on port 1 alone: epochs that were reported come once more.
+ * That is one call, and at no time a host sees all ports without a place. It hands nothing over of the epoch handed over last and the seven before it.
  */
 static void heard_again(void)
 {
     const uint8_t nothing[P] = { 0 };
-    uint8_t heard[LEVELSPRUCE_HEARD_BYTES] = { 0 };
-    uint32_t time, last = 0, again = 0;
-    int held = levelspruce_receiver_start(PORTS, P, W, sizeof store, rows, ROWS) == 0;
+    uint8_t heard[LEVELSPRUCE_HEARD_BYTES] = { 0 }, ports[PORTS][LEVELSPRUCE_PORT_BYTES], port;
+    uint32_t time, last = 0, again = 0, more = 0, newest = 0;
+    int held = levelspruce_receiver_start(PORTS, P, W, sizeof store, rows, ROWS) == 0, dark = 0, old = 0;
 
-    for (time = 8; time < 800 && again == 0; time++) {
+    for (time = 8; time < 800; time++) {
         if (time >= 600)
             held &= levelspruce_receiver_frame(rows, ROWS, 0, 1, 0, nothing, P, store, sizeof store) == LEVELSPRUCE_ANSWER_FAILED;
         else
@@ -383,16 +384,31 @@ static void heard_again(void)
             held &= levelspruce_receiver_frame(rows, ROWS, 1, 1, 0, nothing, P, store, sizeof store) == LEVELSPRUCE_ANSWER_FAILED;
         else
             hand(1, time - 100, 0);
-        while (again == 0 && levelspruce_receiver_fetch(rows, ROWS, store, sizeof store, out, sizeof out, record, sizeof record) == 0
+        held &= levelspruce_receiver_ports(state(), ROWS, ports, PORTS) == 0;
+        for (port = 0; port < PORTS && !ports[port][LEVELSPRUCE_PORT_READABLE]; port++)
+            ;
+        dark |= newest != 0 && port == PORTS;
+        while (levelspruce_receiver_fetch(rows, ROWS, store, sizeof store, out, sizeof out, record, sizeof record) == 0
                && record[LEVELSPRUCE_REPORT_MARK] != 0) {
+            uint8_t epoch = record[LEVELSPRUCE_REPORT_EPOCH];
+
             held &= levelspruce_receiver_heard(state(), ROWS, heard, sizeof heard) == 0;
-            again = record[LEVELSPRUCE_REPORT_EPOCH] < last ? record[LEVELSPRUCE_REPORT_EPOCH] : 0;
-            last = again == 0 ? record[LEVELSPRUCE_REPORT_EPOCH] : last;
+            if (again == 0 && epoch < last) {
+                again = epoch;
+                old = heard[LEVELSPRUCE_HEARD_EPOCH] == again && heard[LEVELSPRUCE_HEARD_RS_ACK] == ack_of(again) && ack_of(again) != ack_of(last);
+            }
+            if (again == 0)
+                last = epoch;
+            if ((uint8_t)(newest - epoch) >= 8) {
+                held &= newest == 0 || epoch == newest + 1;
+                more += again != 0;
+                newest = epoch;
+            }
         }
     }
-    check("where receiving begins on a slower line alone, epochs are heard once more, with what they said then",
-          held && again != 0 && again < last && heard[LEVELSPRUCE_HEARD_EPOCH] == again && heard[LEVELSPRUCE_HEARD_RS_ACK] == ack_of(again)
-              && ack_of(again) != ack_of(last));
+    check("where receiving begins on a slower line alone, epochs are heard once more, with what they said then", held && again != 0 && again < last && old);
+    check("no host sees then that all ports have lost their place", !dark);
+    check("one that hands nothing over of the last epoch and the seven before it hands each over once", held && more > 0 && newest == last + more);
 }
 
 int main(void)
