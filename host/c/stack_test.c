@@ -16,6 +16,7 @@ static uint8_t card[LEVELSPRUCE_CARD_BYTES], owned[LEVELSPRUCE_OWNED_BYTES];
 static uint8_t sender[LEVELSPRUCE_SENDER_BYTES], receiver[LEVELSPRUCE_RECEIVER_ROWS(PORTS)][LEVELSPRUCE_ROW_BYTES];
 static uint8_t h4[LEVELSPRUCE_PACKET_BYTES], bits[LEVELSPRUCE_PACKET_BYTES_VC12], frame[PORTS * P], member[PORTS * P], ports[PORTS][LEVELSPRUCE_PORT_BYTES];
 static uint8_t board[LEVELSPRUCE_BOARD_BYTES], list[LEVELSPRUCE_CHANGES_BYTES], ranks[LEVELSPRUCE_RANKS_BYTES], reply[LEVELSPRUCE_REPLY_BYTES];
+static uint8_t settings[LEVELSPRUCE_SENDER_SETTINGS_BYTES];
 static uint8_t seen[PORTS][LEVELSPRUCE_SEEN_BYTES], cause[LEVELSPRUCE_CAUSE_BYTES], heard[LEVELSPRUCE_HEARD_BYTES];
 static uint8_t fields[LEVELSPRUCE_FIELDS_BYTES], report[LEVELSPRUCE_REPORT_BYTES];
 static uint8_t store[LEVELSPRUCE_STORE_BYTES(PORTS, P, W)], out[LEVELSPRUCE_OUTPUT_BYTES(PORTS, P)];
@@ -58,6 +59,7 @@ static void sending_as(uint32_t kind, uint32_t p, uint8_t *packet, size_t packet
     answers |= levelspruce_sender_board_going(sender, sizeof sender, board, sizeof board);
     answers |= levelspruce_sender_changes(sender, sizeof sender, board, sizeof board, list, sizeof list);
     answers |= levelspruce_sender_ranks(sender, sizeof sender, ranks, sizeof ranks);
+    answers |= levelspruce_sender_settings(sender, sizeof sender, settings, sizeof settings);
     answers |= levelspruce_sender_packet(sender, sizeof sender, 3, packet, packet_bytes);
     answers |= levelspruce_sender_payload(sender, sizeof sender, 3, p, frame, (size_t)ranks[LEVELSPRUCE_RANKS_X] * p, member, p);
     while (board[LEVELSPRUCE_BOARD_WAIT]) {

@@ -30,6 +30,7 @@ extern "C" {
     fn levelspruce_sender_board(state: *const u8, state_length: usize, board: *mut u8, board_length: usize) -> u8;
     fn levelspruce_sender_board_going(state: *const u8, state_length: usize, board: *mut u8, board_length: usize) -> u8;
     fn levelspruce_sender_ranks(state: *const u8, state_length: usize, ranks: *mut u8, ranks_length: usize) -> u8;
+    fn levelspruce_sender_settings(state: *const u8, state_length: usize, settings: *mut u8, settings_length: usize) -> u8;
     fn levelspruce_card_start(count: u32, first_epoch_0: u32, first_epoch_1: u32, state: *mut u8, state_length: usize) -> u8;
     fn levelspruce_card_start_as(kind: u32, count: u32, first_epoch_0: u32, first_epoch_1: u32, state: *mut u8, state_length: usize) -> u8;
     fn levelspruce_card_claim(state: *mut u8, state_length: usize, group: u32, slot: u32) -> u8;
@@ -169,6 +170,10 @@ pub fn sender_board_going(state: &[u8], board: &mut [u8]) -> u8 {
 
 pub fn sender_ranks(state: &[u8], ranks: &mut [u8]) -> u8 {
     unsafe { levelspruce_sender_ranks(state.as_ptr(), state.len(), ranks.as_mut_ptr(), ranks.len()) }
+}
+
+pub fn sender_settings(state: &[u8], settings: &mut [u8]) -> u8 {
+    unsafe { levelspruce_sender_settings(state.as_ptr(), state.len(), settings.as_mut_ptr(), settings.len()) }
 }
 
 pub fn card_start(count: u32, first_epochs: [u32; 2], state: &mut [u8]) -> u8 {

@@ -150,11 +150,16 @@ fn history(random: &mut Random, kind: u32, calls: &mut Test, sent: &mut Test, to
                 (sender.start_epoch(gid, mst, ack), card::sender_start_epoch(&mut state, gid, mst, ack))
             }
         };
-        let (mut board, mut going, mut ranks) = (vec![0u8; 130], vec![0u8; 130], vec![0u8; 68]);
-        let read = (card::sender_board(&state, &mut board), card::sender_board_going(&state, &mut going), card::sender_ranks(&state, &mut ranks));
+        let (mut board, mut going, mut ranks, mut settings) = (vec![0u8; 130], vec![0u8; 130], vec![0u8; 68], vec![0u8; 5]);
+        let read = [
+            card::sender_board(&state, &mut board),
+            card::sender_board_going(&state, &mut going),
+            card::sender_ranks(&state, &mut ranks),
+            card::sender_settings(&state, &mut settings),
+        ];
         let untouched = expected == 0 || state == before;
-        let wanted = (expected, (0, 0, 0), sender.table.board().bytes(), sender.going.bytes(), sender.ranks(), true);
-        calls.case(expected, &wanted, &(answer, read, board, going, ranks, untouched), &(slots, turn));
+        let wanted = (expected, [0; 4], sender.table.board().bytes(), sender.going.bytes(), sender.ranks(), sender.settings(), true);
+        calls.case(expected, &wanted, &(answer, read, board, going, ranks, settings, untouched), &(slots, turn));
         sends(random, kind, sent, &sender, &state, slots);
         tellings::tell(random, told, &sender.going.bytes(), &mut board_told, |board, changes| card::sender_changes(&state, board, changes));
     }

@@ -334,4 +334,11 @@ impl Sender {
         }
         bytes
     }
+
+    /// What a host that was handed a sender asks, as the header lays it out: kind, slots, the next epoch to start, whether a wait is open, and
+    /// the remembered RS-Ack.
+    pub fn settings(&self) -> Vec<u8> {
+        let next = if self.lent.is_some() { clock(self.table.kind).next_epoch(self.epoch as u8) } else { self.epoch as u8 };
+        vec![self.table.kind as u8, self.table.count as u8, next, u8::from(self.table.waits()), u8::from(self.table.heard)]
+    }
 }
