@@ -100,6 +100,20 @@ static void start(struct kept card, struct program *p)
     put_back(card, state);
 }
 
+/* The settings of a group, whose part of the state is a sender's own. */
+static void settings(struct kept card, struct program *p)
+{
+    static const struct kept nothing;
+    struct kept part = { card.bytes + ROW + byte_of(p) % LEVELSPRUCE_GROUPS * PART, PART };
+    struct block state = lend(STATE, part, about(p, PART)), out = lend(RESULT, nothing, about(p, LEVELSPRUCE_SENDER_SETTINGS_BYTES));
+    uint8_t answer = levelspruce_sender_settings(state.bytes, state.length, out.bytes, out.length);
+
+    if (answer != (state.length == PART && out.length == LEVELSPRUCE_SENDER_SETTINGS_BYTES ? 0 : 9))
+        fail("settings answer another number than the first that fits");
+    stands(out, answer == 0 ? out.length : 0, "refused settings were written");
+    stands(state, 0, "settings changed the state");
+}
+
 /* Some bytes of the state become any. */
 static void damage(struct kept card, struct program *p)
 {
@@ -118,7 +132,7 @@ int LLVMFuzzerTestOneInput(const uint8_t *data, size_t size)
     turn = 0;
     kind = LEVELSPRUCE_KIND_H4;
     while (p.at < p.end) {
-        uint32_t which = byte_of(&p) % (CALLS + 3);
+        uint32_t which = byte_of(&p) % (CALLS + 4);
 
         if (which < CALLS)
             any_call(card, told, &p, (int)which);
@@ -126,6 +140,8 @@ int LLVMFuzzerTestOneInput(const uint8_t *data, size_t size)
             start(card, &p);
         else if (which == CALLS + 1)
             damage(card, &p);
+        else if (which == CALLS + 2)
+            settings(card, &p);
         else
             fill(card.bytes, card.length, byte_of(&p));
     }
