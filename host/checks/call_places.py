@@ -2,7 +2,8 @@
 
 - Under 'A new call in C' each file is named, by itself or by a folder above it, in which the name of a C call stands; and what is
   named there is there.
-- No crate of crates.txt has its seconds twice on the page, as 'NAME 12' or as 'NAME (12 s)'.
+- Each crate of crates.txt has its seconds once on the page, as 'NAME 12' or as 'NAME (12 s)'; and none that takes 30 or more
+  has a must-fail edit, since the gate pays a whole check for each.
 """
 import re
 
@@ -38,8 +39,9 @@ def places(top, page):
 def seconds(top, page):
     """What is wrong with the seconds of crates."""
     crates = re.findall(r"^(\w+):", text_of(top / "crates.txt"), flags=re.M)
-    times = {c: len(re.findall(rf"(?<!\w){c} \(?\d+(?: s\))?(?=[\s,.:;)])", page)) for c in crates}
-    wrong = [f"{c}\thas its seconds {n} times" for c, n in times.items() if n > 1]
+    times = {c: re.findall(rf"(?<!\w){c}\s\(?(\d+)(?: s\))?(?=[\s,.:;)])", page) for c in crates}
+    wrong = [f"{c}\thas its seconds {len(n)} times" for c, n in times.items() if len(n) != 1]
+    wrong += [f"{c}\ttakes {n[0]} seconds and has a must-fail edit" for c, n in times.items() if n and int(n[0]) >= 30 and any((top / "crates" / c).glob("must-fail/*"))]
     return wrong if any(times.values()) else ["no seconds found\tthis check would hold of anything"]
 
 

@@ -20,6 +20,9 @@ TEXTS = [
     ("no such section", LOOP + CALL.replace("A new call", "An old call"), {}, "no call or no place found"),
     ("seconds twice", LOOP + "Go up: two (45 s).\n\n" + CALL, {}, "two\thas its seconds 2 times"),
     ("no seconds", CALL, {}, "no seconds found"),
+    ("a crate with none", LOOP.replace(", two 40", "") + CALL, {}, "two\thas its seconds 0 times"),
+    ("a must-fail edit in a quick crate", LOOP + CALL, {"crates/one/must-fail/x.edit": "x"}, ""),
+    ("a must-fail edit in a slow one", LOOP + CALL, {"crates/two/must-fail/x.edit": "x"}, "two\ttakes 40 seconds and has a must-fail edit"),
     ("a number behind another word", LOOP + "phase_two 7, twos 8.\n\n" + CALL, {}, ""),
 ]
 
