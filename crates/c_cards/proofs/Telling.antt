@@ -5,214 +5,214 @@ use Prim.Native.Nat.{ℕ, ◌+◌, ◌-◌, ◌*◌, ◌/◌, ◌%◌, ◌≤◌
 use native.Mathlib.Omega.{arith}
 use lib.ListN.{length, get_or}
 use borrow.Author.Tests.{eq-eqb, ne_eqb, le-ltb, lt-ltb}
-use Rattle.ground.specs.Drawn.{Filling, fillAt, fillAt-ext, filling, filling-all, filling-piece}
+use Rattle.ground.specs.Drawn.{Filling, fill_at, fill_at_ext, filling, filling_all, filling_piece}
 use Rattle.sender.specs.declared.board.Board.{Board}
-use Rattle.spoken.specs.Applying.{appliedOf, changeIn}
-use Rattle.spoken.specs.Changes.{answerNumber, comparedOf}
+use Rattle.spoken.specs.Applying.{applied_of, change_in}
+use Rattle.spoken.specs.Changes.{answer_number, compared_of}
 use Rattle.spoken.specs.declared.applying.Applied.{Applied}
 use Rattle.spoken.specs.declared.comparing.Compared.{Compared}
 use Rattle.spoken.specs.declared.lists.Change.{Change}
 use Rattle.spoken.specs.declared.lists.Changes.{Changes}
 use Rattle.spoken.specs.declared.speaking.Speech.{Speech}
-use Rattle.spoken.specs.Shown.{waitCode}
-use Rattle.spoken.specs.Speaking.{SPEECH-ROOM, speechBytes, speechOf}
-use Rattle.spoken.specs.SpeakingRuns.{runsSpeechBytes, runsSpeechOf}
-use Rattle.c_face.specs.Boards.{boardBytesOf}
-use Rattle.c_cards.specs.Changes.{answerBy, appliedAnswerC, appliedBytesC, boardFrom, bytesBy, changeBytes, changesByte, changesBytesOf, changesFrom, comparedAnswerC, comparedBytesC, listByte, spokenAnswerC, spokenBytesC, written_by, writtenC}
-use Rattle.c_cards.specs.Runs.{runsAnswerC, runsBytesC, runsWrittenC}
+use Rattle.spoken.specs.Shown.{wait_code}
+use Rattle.spoken.specs.Speaking.{SPEECH-ROOM, speech_bytes, speech_of}
+use Rattle.spoken.specs.SpeakingRuns.{runs_speech_bytes, runs_speech_of}
+use Rattle.c_face.specs.Boards.{board_bytes_of}
+use Rattle.c_cards.specs.Changes.{answer_by, applied_answer_c, applied_bytes_c, board_from, bytes_by, change_bytes, changes_byte, changes_bytes_of, changes_from, compared_answer_c, compared_bytes_c, list_byte, spoken_answer_c, spoken_bytes_c, written_by, written_c}
+use Rattle.c_cards.specs.Runs.{runs_answer_c, runs_bytes_c, runs_written_c}
 
 -- five bytes more
-pub five-more : {out₀ out new : List ℕ} (list : List Change) (i : ℕ) (five : List ℕ) → five ≡ changeBytes (changeIn list i) → Filling 2 (5 * i) (listByte list) out₀ out
-    → new ≡ fillAt (2 + 5 * i) (length five) (λ k. get_or five k 0) out → Filling 2 (5 * (i + 1)) (listByte list) out₀ new
-five-more {out₀} {out} {new} list i five e f s =
-    let t : new ≡ fillAt (2 + 5 * i) 5 (λ k. get_or (changeBytes (changeIn list i)) k 0) out = s ∙ ap (λ (l : List ℕ). fillAt (2 + 5 * i) (length l) (λ k. get_or l k 0) out) e in
+pub five_more : {out₀ out new : List ℕ} (list : List Change) (i : ℕ) (five : List ℕ) → five ≡ change_bytes (change_in list i) → Filling 2 (5 * i) (list_byte list) out₀ out
+    → new ≡ fill_at (2 + 5 * i) (length five) (λ k. get_or five k 0) out → Filling 2 (5 * (i + 1)) (list_byte list) out₀ new
+five_more {out₀} {out} {new} list i five e f s =
+    let t : new ≡ fill_at (2 + 5 * i) 5 (λ k. get_or (change_bytes (change_in list i)) k 0) out = s ∙ ap (λ (l : List ℕ). fill_at (2 + 5 * i) (length l) (λ k. get_or l k 0) out) e in
     let n : 5 * i + 5 ≡ 5 * (i + 1) = omega arith in
-    rw n at (filling-piece 5 (λ k. get_or (changeBytes (changeIn list i)) k 0) new f t agree)
+    rw n at (filling_piece 5 (λ k. get_or (change_bytes (change_in list i)) k 0) new f t agree)
   where
-    agree : (j : ℕ) → j < 5 → get_or (changeBytes (changeIn list i)) j 0 ≡ listByte list (5 * i + j)
+    agree : (j : ℕ) → j < 5 → get_or (change_bytes (change_in list i)) j 0 ≡ list_byte list (5 * i + j)
     agree j h =
         let q : (5 * i + j) / 5 ≡ i = omega arith in
         let r : (5 * i + j) % 5 ≡ j = omega arith in
         rw (q, r) refl
 
 module _ (cs : Changes) where
-  head_bytes : (j : ℕ) → j < 2 → get_or (cs.count ∷ waitCode cs.wait ∷ []) j 0 ≡ changesByte cs j
-  unfolding changesByte
+  head_bytes : (j : ℕ) → j < 2 → get_or (cs.count ∷ wait_code cs.wait ∷ []) j 0 ≡ changes_byte cs j
+  unfolding changes_byte
   head_bytes j h = rw (lt-ltb j 2 h) refl
 
-  list-bytes : (j : ℕ) → j < 320 → listByte cs.list j ≡ changesByte cs (2 + j)
-  unfolding changesByte
-  list-bytes j h = let e : 2 + j - 2 ≡ j = omega arith in rw (le-ltb (2 + j) 2 (omega arith), e) refl
+  list_bytes : (j : ℕ) → j < 320 → list_byte cs.list j ≡ changes_byte cs (2 + j)
+  unfolding changes_byte
+  list_bytes j h = let e : 2 + j - 2 ≡ j = omega arith in rw (le-ltb (2 + j) 2 (omega arith), e) refl
 
-  pub changes-whole : (w : ℕ) (d a out : List ℕ) → length d ≡ 322 → w ≡ waitCode cs.wait → a ≡ fillAt 0 2 (λ k. get_or (cs.count ∷ w ∷ []) k 0) d
-      → out ≡ fillAt 2 320 (listByte cs.list) a → out ≡ changesBytesOf cs
-  unfolding changesBytesOf
-  changes-whole w d a out l ew ea eo =
-      let e : a ≡ fillAt 0 2 (λ k. get_or (cs.count ∷ waitCode cs.wait ∷ []) k 0) d = ea ∙ ap (λ (v : ℕ). fillAt 0 2 (λ k. get_or (cs.count ∷ v ∷ []) k 0) d) ew in
-      let A : Filling 0 2 (changesByte cs) d a = filling 0 2 (changesByte cs) d a (e ∙ fillAt-ext 0 2 (λ k. get_or (cs.count ∷ waitCode cs.wait ∷ []) k 0) (changesByte cs) d head_bytes) in
-      let B : Filling 0 322 (changesByte cs) d out = filling-piece 320 (listByte cs.list) out A eo list-bytes in
-      filling-all B l
+  pub changes_whole : (w : ℕ) (d a out : List ℕ) → length d ≡ 322 → w ≡ wait_code cs.wait → a ≡ fill_at 0 2 (λ k. get_or (cs.count ∷ w ∷ []) k 0) d
+      → out ≡ fill_at 2 320 (list_byte cs.list) a → out ≡ changes_bytes_of cs
+  unfolding changes_bytes_of
+  changes_whole w d a out l ew ea eo =
+      let e : a ≡ fill_at 0 2 (λ k. get_or (cs.count ∷ wait_code cs.wait ∷ []) k 0) d = ea ∙ ap (λ (v : ℕ). fill_at 0 2 (λ k. get_or (cs.count ∷ v ∷ []) k 0) d) ew in
+      let A : Filling 0 2 (changes_byte cs) d a = filling 0 2 (changes_byte cs) d a (e ∙ fill_at_ext 0 2 (λ k. get_or (cs.count ∷ wait_code cs.wait ∷ []) k 0) (changes_byte cs) d head_bytes) in
+      let B : Filling 0 322 (changes_byte cs) d out = filling_piece 320 (list_byte cs.list) out A eo list_bytes in
+      filling_all B l
 
 -- what the crate's own calls say, on the boards and changes that the bytes are
-pub compared-both : (old new : List ℕ) (a b : Board) (r : Compared) → a ≡ boardFrom old → b ≡ boardFrom new → r ≡ comparedOf a b → r ≡ comparedOf (boardFrom old) (boardFrom new)
-compared-both old new a b r ea eb e = e ∙ rw (ea, eb)
+pub compared_both : (old new : List ℕ) (a b : Board) (r : Compared) → a ≡ board_from old → b ≡ board_from new → r ≡ compared_of a b → r ≡ compared_of (board_from old) (board_from new)
+compared_both old new a b r ea eb e = e ∙ rw (ea, eb)
 
-pub applied-both : (board changes : List ℕ) (b : Board) (cs : Changes) (r : Applied) → b ≡ boardFrom board → cs ≡ changesFrom changes → r ≡ appliedOf b cs
-    → r ≡ appliedOf (boardFrom board) (changesFrom changes)
-applied-both board changes b cs r eb ec e = e ∙ rw (eb, ec)
+pub applied_both : (board changes : List ℕ) (b : Board) (cs : Changes) (r : Applied) → b ≡ board_from board → cs ≡ changes_from changes → r ≡ applied_of b cs
+    → r ≡ applied_of (board_from board) (changes_from changes)
+applied_both board changes b cs r eb ec e = e ∙ rw (eb, ec)
 
 module _ (old new out : List ℕ) where
-  compared-kept : (n : ℕ) → comparedAnswerC old new out ≡ n → (n ≡ 0 → ⊥) → (n ≡ comparedAnswerC old new out) × (out ≡ comparedBytesC old new out)
-  unfolding comparedBytesC
-  compared-kept n e d = (sym e, rw (e, ne_eqb n 0 d) refl)
+  compared_kept : (n : ℕ) → compared_answer_c old new out ≡ n → (n ≡ 0 → ⊥) → (n ≡ compared_answer_c old new out) × (out ≡ compared_bytes_c old new out)
+  unfolding compared_bytes_c
+  compared_kept n e d = (sym e, rw (e, ne_eqb n 0 d) refl)
 
-  pub compared-first : (length old ≡ 130 → ⊥) → (9 ≡ comparedAnswerC old new out) × (out ≡ comparedBytesC old new out)
-  unfolding comparedAnswerC
-  compared-first d = compared-kept 9 (rw (ne_eqb (length old) 130 d)) (λ z. omega arith)
+  pub compared_first : (length old ≡ 130 → ⊥) → (9 ≡ compared_answer_c old new out) × (out ≡ compared_bytes_c old new out)
+  unfolding compared_answer_c
+  compared_first d = compared_kept 9 (rw (ne_eqb (length old) 130 d)) (λ z. omega arith)
 
-  pub compared-second : length old ≡ 130 → (length new ≡ 130 → ⊥) → (9 ≡ comparedAnswerC old new out) × (out ≡ comparedBytesC old new out)
-  unfolding comparedAnswerC
-  compared-second l d = compared-kept 9 (rw (eq-eqb (length old) 130 l, ne_eqb (length new) 130 d)) (λ z. omega arith)
+  pub compared_second : length old ≡ 130 → (length new ≡ 130 → ⊥) → (9 ≡ compared_answer_c old new out) × (out ≡ compared_bytes_c old new out)
+  unfolding compared_answer_c
+  compared_second l d = compared_kept 9 (rw (eq-eqb (length old) 130 l, ne_eqb (length new) 130 d)) (λ z. omega arith)
 
-  pub compared-third : length old ≡ 130 → length new ≡ 130 → (length out ≡ 322 → ⊥) → (9 ≡ comparedAnswerC old new out) × (out ≡ comparedBytesC old new out)
-  unfolding comparedAnswerC
-  compared-third l m d = compared-kept 9 (rw (eq-eqb (length old) 130 l, eq-eqb (length new) 130 m, ne_eqb (length out) 322 d)) (λ z. omega arith)
+  pub compared_third : length old ≡ 130 → length new ≡ 130 → (length out ≡ 322 → ⊥) → (9 ≡ compared_answer_c old new out) × (out ≡ compared_bytes_c old new out)
+  unfolding compared_answer_c
+  compared_third l m d = compared_kept 9 (rw (eq-eqb (length old) 130 l, eq-eqb (length new) 130 m, ne_eqb (length out) 322 d)) (λ z. omega arith)
 
-  module _ (l : length old ≡ 130) (m : length new ≡ 130) (k : length out ≡ 322) (n : ℕ) (e : n ≡ answerNumber (comparedOf (boardFrom old) (boardFrom new)).answer) where
-    own : comparedAnswerC old new out ≡ n
-    unfolding comparedAnswerC
+  module _ (l : length old ≡ 130) (m : length new ≡ 130) (k : length out ≡ 322) (n : ℕ) (e : n ≡ answer_number (compared_of (board_from old) (board_from new)).answer) where
+    own : compared_answer_c old new out ≡ n
+    unfolding compared_answer_c
     own = rw (eq-eqb (length old) 130 l, eq-eqb (length new) 130 m, eq-eqb (length out) 322 k) (sym e)
 
-    pub compared-refusal : (n ≡ 0 → ⊥) → (n ≡ comparedAnswerC old new out) × (out ≡ comparedBytesC old new out)
-    compared-refusal d = compared-kept n own d
+    pub compared_refusal : (n ≡ 0 → ⊥) → (n ≡ compared_answer_c old new out) × (out ≡ compared_bytes_c old new out)
+    compared_refusal d = compared_kept n own d
 
-    pub compared-told : (left : List ℕ) → n ≡ 0 → left ≡ changesBytesOf (comparedOf (boardFrom old) (boardFrom new)).changes → (0 ≡ comparedAnswerC old new out) × (left ≡ comparedBytesC old new out)
-    unfolding comparedBytesC
-    compared-told left z s = (sym (own ∙ z), rw (own, z) s)
+    pub compared_told : (left : List ℕ) → n ≡ 0 → left ≡ changes_bytes_of (compared_of (board_from old) (board_from new)).changes → (0 ≡ compared_answer_c old new out) × (left ≡ compared_bytes_c old new out)
+    unfolding compared_bytes_c
+    compared_told left z s = (sym (own ∙ z), rw (own, z) s)
 
 module _ (board changes : List ℕ) where
-  applied-kept : (n : ℕ) → appliedAnswerC board changes ≡ n → (n ≡ 0 → ⊥) → (n ≡ appliedAnswerC board changes) × (board ≡ appliedBytesC board changes)
-  unfolding appliedBytesC
-  applied-kept n e d = (sym e, rw (e, ne_eqb n 0 d) refl)
+  applied_kept : (n : ℕ) → applied_answer_c board changes ≡ n → (n ≡ 0 → ⊥) → (n ≡ applied_answer_c board changes) × (board ≡ applied_bytes_c board changes)
+  unfolding applied_bytes_c
+  applied_kept n e d = (sym e, rw (e, ne_eqb n 0 d) refl)
 
-  pub applied-first : (length board ≡ 130 → ⊥) → (9 ≡ appliedAnswerC board changes) × (board ≡ appliedBytesC board changes)
-  unfolding appliedAnswerC
-  applied-first d = applied-kept 9 (rw (ne_eqb (length board) 130 d)) (λ z. omega arith)
+  pub applied_first : (length board ≡ 130 → ⊥) → (9 ≡ applied_answer_c board changes) × (board ≡ applied_bytes_c board changes)
+  unfolding applied_answer_c
+  applied_first d = applied_kept 9 (rw (ne_eqb (length board) 130 d)) (λ z. omega arith)
 
-  pub applied-second : length board ≡ 130 → (length changes ≡ 322 → ⊥) → (9 ≡ appliedAnswerC board changes) × (board ≡ appliedBytesC board changes)
-  unfolding appliedAnswerC
-  applied-second l d = applied-kept 9 (rw (eq-eqb (length board) 130 l, ne_eqb (length changes) 322 d)) (λ z. omega arith)
+  pub applied_second : length board ≡ 130 → (length changes ≡ 322 → ⊥) → (9 ≡ applied_answer_c board changes) × (board ≡ applied_bytes_c board changes)
+  unfolding applied_answer_c
+  applied_second l d = applied_kept 9 (rw (eq-eqb (length board) 130 l, ne_eqb (length changes) 322 d)) (λ z. omega arith)
 
   module _ (l : length board ≡ 130) (m : length changes ≡ 322) where
-    pub applied-wait : 3 ≤ get_or changes 1 0 → (2 ≡ appliedAnswerC board changes) × (board ≡ appliedBytesC board changes)
-    unfolding appliedAnswerC
-    applied-wait h = applied-kept 2 (rw (eq-eqb (length board) 130 l, eq-eqb (length changes) 322 m, le-ltb (get_or changes 1 0) 3 h)) (λ z. omega arith)
+    pub applied_wait : 3 ≤ get_or changes 1 0 → (2 ≡ applied_answer_c board changes) × (board ≡ applied_bytes_c board changes)
+    unfolding applied_answer_c
+    applied_wait h = applied_kept 2 (rw (eq-eqb (length board) 130 l, eq-eqb (length changes) 322 m, le-ltb (get_or changes 1 0) 3 h)) (λ z. omega arith)
 
-    module _ (w : get_or changes 1 0 < 3) (n : ℕ) (e : n ≡ answerNumber (appliedOf (boardFrom board) (changesFrom changes)).answer) where
-      apply-own : appliedAnswerC board changes ≡ n
-      unfolding appliedAnswerC
-      apply-own = rw (eq-eqb (length board) 130 l, eq-eqb (length changes) 322 m, lt-ltb (get_or changes 1 0) 3 w) (sym e)
+    module _ (w : get_or changes 1 0 < 3) (n : ℕ) (e : n ≡ answer_number (applied_of (board_from board) (changes_from changes)).answer) where
+      apply_own : applied_answer_c board changes ≡ n
+      unfolding applied_answer_c
+      apply_own = rw (eq-eqb (length board) 130 l, eq-eqb (length changes) 322 m, lt-ltb (get_or changes 1 0) 3 w) (sym e)
 
-      pub applied-refusal : (n ≡ 0 → ⊥) → (n ≡ appliedAnswerC board changes) × (board ≡ appliedBytesC board changes)
-      applied-refusal d = applied-kept n apply-own d
+      pub applied_refusal : (n ≡ 0 → ⊥) → (n ≡ applied_answer_c board changes) × (board ≡ applied_bytes_c board changes)
+      applied_refusal d = applied_kept n apply_own d
 
-      pub applied-told : (left : List ℕ) → n ≡ 0 → left ≡ boardBytesOf (appliedOf (boardFrom board) (changesFrom changes)).board → (0 ≡ appliedAnswerC board changes) × (left ≡ appliedBytesC board changes)
-      unfolding appliedBytesC
-      applied-told left z s = (sym (apply-own ∙ z), rw (apply-own, z) s)
+      pub applied_told : (left : List ℕ) → n ≡ 0 → left ≡ board_bytes_of (applied_of (board_from board) (changes_from changes)).board → (0 ≡ applied_answer_c board changes) × (left ≡ applied_bytes_c board changes)
+      unfolding applied_bytes_c
+      applied_told left z s = (sym (apply_own ∙ z), rw (apply_own, z) s)
 
 -- a call that speaks changes in some way: each way out
 module _ (speech : Changes → List ℕ → Speech) (said : Changes → List ℕ → List ℕ) (changes text : List ℕ) (written : ℕ) where
   abbrev SpeaksBy : ℕ → List ℕ → ℕ → Type 0
-  SpeaksBy n left w = (n ≡ answerBy speech changes text) × (left ≡ bytesBy said changes text) × (w ≡ written_by speech changes text written)
+  SpeaksBy n left w = (n ≡ answer_by speech changes text) × (left ≡ bytes_by said changes text) × (w ≡ written_by speech changes text written)
 
   by_first : (length changes ≡ 322 → ⊥) → SpeaksBy 9 text written
   by_first d = rw (ne_eqb (length changes) 322 d) (refl, refl, refl)
 
-  by-second : length changes ≡ 322 → length text < SPEECH-ROOM → SpeaksBy 9 text written
-  by-second l h = rw (eq-eqb (length changes) 322 l, lt-ltb (length text) SPEECH-ROOM h) (refl, refl, refl)
+  by_second : length changes ≡ 322 → length text < SPEECH-ROOM → SpeaksBy 9 text written
+  by_second l h = rw (eq-eqb (length changes) 322 l, lt-ltb (length text) SPEECH-ROOM h) (refl, refl, refl)
 
   module _ (l : length changes ≡ 322) (h : SPEECH-ROOM ≤ length text) where
-    by-wait : 3 ≤ get_or changes 1 0 → SpeaksBy 2 text written
-    by-wait w = rw (eq-eqb (length changes) 322 l, le-ltb (length text) SPEECH-ROOM h, le-ltb (get_or changes 1 0) 3 w) (refl, refl, refl)
+    by_wait : 3 ≤ get_or changes 1 0 → SpeaksBy 2 text written
+    by_wait w = rw (eq-eqb (length changes) 322 l, le-ltb (length text) SPEECH-ROOM h, le-ltb (get_or changes 1 0) 3 w) (refl, refl, refl)
 
-    module _ (w : get_or changes 1 0 < 3) (r : Speech) (n : ℕ) (left : List ℕ) (s : r ≡ speech (changesFrom changes) text) (e : n ≡ answerNumber r.answer)
-        (b : left ≡ said (changesFrom changes) text) where
-      by-refusal : (n ≡ 0 → ⊥) → SpeaksBy n left written
-      by-refusal d =
-          let q : n ≡ answerNumber (speech (changesFrom changes) text).answer = e ∙ ap (λ (v : Speech). answerNumber v.answer) s in
+    module _ (w : get_or changes 1 0 < 3) (r : Speech) (n : ℕ) (left : List ℕ) (s : r ≡ speech (changes_from changes) text) (e : n ≡ answer_number r.answer)
+        (b : left ≡ said (changes_from changes) text) where
+      by_refusal : (n ≡ 0 → ⊥) → SpeaksBy n left written
+      by_refusal d =
+          let q : n ≡ answer_number (speech (changes_from changes) text).answer = e ∙ ap (λ (v : Speech). answer_number v.answer) s in
           rw (eq-eqb (length changes) 322 l, le-ltb (length text) SPEECH-ROOM h, lt-ltb (get_or changes 1 0) 3 w, ← q, ne_eqb n 0 d) (refl, b, refl)
 
-      by-told : n ≡ 0 → SpeaksBy 0 left r.written
-      by-told z =
-          let q : 0 ≡ answerNumber (speech (changesFrom changes) text).answer = sym z ∙ e ∙ ap (λ (v : Speech). answerNumber v.answer) s in
+      by_told : n ≡ 0 → SpeaksBy 0 left r.written
+      by_told z =
+          let q : 0 ≡ answer_number (speech (changes_from changes) text).answer = sym z ∙ e ∙ ap (λ (v : Speech). answer_number v.answer) s in
           rw (eq-eqb (length changes) 322 l, le-ltb (length text) SPEECH-ROOM h, lt-ltb (get_or changes 1 0) 3 w, ← q) (refl, b, ap (λ (v : Speech). v.written) s)
 
 -- one line a slot
 module _ (changes text : List ℕ) where
-  pub spoken-is : (cs : Changes) (r : Speech) → cs ≡ changesFrom changes → r ≡ speechOf cs text → r ≡ speechOf (changesFrom changes) text
-  spoken-is cs r ec e = e ∙ rw ec
+  pub spoken_is : (cs : Changes) (r : Speech) → cs ≡ changes_from changes → r ≡ speech_of cs text → r ≡ speech_of (changes_from changes) text
+  spoken_is cs r ec e = e ∙ rw ec
 
-  pub spoken-bytes : (cs : Changes) (left : List ℕ) → cs ≡ changesFrom changes → left ≡ speechBytes cs text → left ≡ speechBytes (changesFrom changes) text
-  spoken-bytes cs left ec e = e ∙ rw ec
+  pub spoken_bytes : (cs : Changes) (left : List ℕ) → cs ≡ changes_from changes → left ≡ speech_bytes cs text → left ≡ speech_bytes (changes_from changes) text
+  spoken_bytes cs left ec e = e ∙ rw ec
 
   module _ (written : ℕ) where
     abbrev Speaks : ℕ → List ℕ → ℕ → Type 0
-    Speaks n left w = (n ≡ spokenAnswerC changes text) × (left ≡ spokenBytesC changes text) × (w ≡ writtenC changes text written)
+    Speaks n left w = (n ≡ spoken_answer_c changes text) × (left ≡ spoken_bytes_c changes text) × (w ≡ written_c changes text written)
 
-    pub spoken-first : (length changes ≡ 322 → ⊥) → Speaks 9 text written
-    unfolding spokenAnswerC spokenBytesC writtenC
-    spoken-first d = by_first speechOf speechBytes changes text written d
+    pub spoken_first : (length changes ≡ 322 → ⊥) → Speaks 9 text written
+    unfolding spoken_answer_c spoken_bytes_c written_c
+    spoken_first d = by_first speech_of speech_bytes changes text written d
 
-    pub spoken-second : length changes ≡ 322 → length text < SPEECH-ROOM → Speaks 9 text written
-    unfolding spokenAnswerC spokenBytesC writtenC
-    spoken-second l h = by-second speechOf speechBytes changes text written l h
+    pub spoken_second : length changes ≡ 322 → length text < SPEECH-ROOM → Speaks 9 text written
+    unfolding spoken_answer_c spoken_bytes_c written_c
+    spoken_second l h = by_second speech_of speech_bytes changes text written l h
 
     module _ (l : length changes ≡ 322) (h : SPEECH-ROOM ≤ length text) where
-      pub spoken-wait : 3 ≤ get_or changes 1 0 → Speaks 2 text written
-      unfolding spokenAnswerC spokenBytesC writtenC
-      spoken-wait w = by-wait speechOf speechBytes changes text written l h w
+      pub spoken_wait : 3 ≤ get_or changes 1 0 → Speaks 2 text written
+      unfolding spoken_answer_c spoken_bytes_c written_c
+      spoken_wait w = by_wait speech_of speech_bytes changes text written l h w
 
-      module _ (w : get_or changes 1 0 < 3) (r : Speech) (n : ℕ) (left : List ℕ) (s : r ≡ speechOf (changesFrom changes) text) (e : n ≡ answerNumber r.answer)
-          (b : left ≡ speechBytes (changesFrom changes) text) where
-        pub spoken-refusal : (n ≡ 0 → ⊥) → Speaks n left written
-        unfolding spokenAnswerC spokenBytesC writtenC
-        spoken-refusal d = by-refusal speechOf speechBytes changes text written l h w r n left s e b d
+      module _ (w : get_or changes 1 0 < 3) (r : Speech) (n : ℕ) (left : List ℕ) (s : r ≡ speech_of (changes_from changes) text) (e : n ≡ answer_number r.answer)
+          (b : left ≡ speech_bytes (changes_from changes) text) where
+        pub spoken_refusal : (n ≡ 0 → ⊥) → Speaks n left written
+        unfolding spoken_answer_c spoken_bytes_c written_c
+        spoken_refusal d = by_refusal speech_of speech_bytes changes text written l h w r n left s e b d
 
-        pub spoken-told : n ≡ 0 → Speaks 0 left r.written
-        unfolding spokenAnswerC spokenBytesC writtenC
-        spoken-told z = by-told speechOf speechBytes changes text written l h w r n left s e b z
+        pub spoken_told : n ≡ 0 → Speaks 0 left r.written
+        unfolding spoken_answer_c spoken_bytes_c written_c
+        spoken_told z = by_told speech_of speech_bytes changes text written l h w r n left s e b z
 
 -- in runs
 module _ (changes text : List ℕ) where
-  pub runs-is : (cs : Changes) (r : Speech) → cs ≡ changesFrom changes → r ≡ runsSpeechOf cs text → r ≡ runsSpeechOf (changesFrom changes) text
-  runs-is cs r ec e = e ∙ rw ec
+  pub runs_is : (cs : Changes) (r : Speech) → cs ≡ changes_from changes → r ≡ runs_speech_of cs text → r ≡ runs_speech_of (changes_from changes) text
+  runs_is cs r ec e = e ∙ rw ec
 
-  pub runs-bytes : (cs : Changes) (left : List ℕ) → cs ≡ changesFrom changes → left ≡ runsSpeechBytes cs text → left ≡ runsSpeechBytes (changesFrom changes) text
-  runs-bytes cs left ec e = e ∙ rw ec
+  pub runs_bytes : (cs : Changes) (left : List ℕ) → cs ≡ changes_from changes → left ≡ runs_speech_bytes cs text → left ≡ runs_speech_bytes (changes_from changes) text
+  runs_bytes cs left ec e = e ∙ rw ec
 
   module _ (written : ℕ) where
     abbrev Tells : ℕ → List ℕ → ℕ → Type 0
-    Tells n left w = (n ≡ runsAnswerC changes text) × (left ≡ runsBytesC changes text) × (w ≡ runsWrittenC changes text written)
+    Tells n left w = (n ≡ runs_answer_c changes text) × (left ≡ runs_bytes_c changes text) × (w ≡ runs_written_c changes text written)
 
-    pub runs-first : (length changes ≡ 322 → ⊥) → Tells 9 text written
-    unfolding runsAnswerC runsBytesC runsWrittenC
-    runs-first d = by_first runsSpeechOf runsSpeechBytes changes text written d
+    pub runs_first : (length changes ≡ 322 → ⊥) → Tells 9 text written
+    unfolding runs_answer_c runs_bytes_c runs_written_c
+    runs_first d = by_first runs_speech_of runs_speech_bytes changes text written d
 
-    pub runs-second : length changes ≡ 322 → length text < SPEECH-ROOM → Tells 9 text written
-    unfolding runsAnswerC runsBytesC runsWrittenC
-    runs-second l h = by-second runsSpeechOf runsSpeechBytes changes text written l h
+    pub runs_second : length changes ≡ 322 → length text < SPEECH-ROOM → Tells 9 text written
+    unfolding runs_answer_c runs_bytes_c runs_written_c
+    runs_second l h = by_second runs_speech_of runs_speech_bytes changes text written l h
 
     module _ (l : length changes ≡ 322) (h : SPEECH-ROOM ≤ length text) where
-      pub runs-wait : 3 ≤ get_or changes 1 0 → Tells 2 text written
-      unfolding runsAnswerC runsBytesC runsWrittenC
-      runs-wait w = by-wait runsSpeechOf runsSpeechBytes changes text written l h w
+      pub runs_wait : 3 ≤ get_or changes 1 0 → Tells 2 text written
+      unfolding runs_answer_c runs_bytes_c runs_written_c
+      runs_wait w = by_wait runs_speech_of runs_speech_bytes changes text written l h w
 
-      module _ (w : get_or changes 1 0 < 3) (r : Speech) (n : ℕ) (left : List ℕ) (s : r ≡ runsSpeechOf (changesFrom changes) text) (e : n ≡ answerNumber r.answer)
-          (b : left ≡ runsSpeechBytes (changesFrom changes) text) where
-        pub runs-refusal : (n ≡ 0 → ⊥) → Tells n left written
-        unfolding runsAnswerC runsBytesC runsWrittenC
-        runs-refusal d = by-refusal runsSpeechOf runsSpeechBytes changes text written l h w r n left s e b d
+      module _ (w : get_or changes 1 0 < 3) (r : Speech) (n : ℕ) (left : List ℕ) (s : r ≡ runs_speech_of (changes_from changes) text) (e : n ≡ answer_number r.answer)
+          (b : left ≡ runs_speech_bytes (changes_from changes) text) where
+        pub runs_refusal : (n ≡ 0 → ⊥) → Tells n left written
+        unfolding runs_answer_c runs_bytes_c runs_written_c
+        runs_refusal d = by_refusal runs_speech_of runs_speech_bytes changes text written l h w r n left s e b d
 
-        pub runs-told : n ≡ 0 → Tells 0 left r.written
-        unfolding runsAnswerC runsBytesC runsWrittenC
-        runs-told z = by-told runsSpeechOf runsSpeechBytes changes text written l h w r n left s e b z
+        pub runs_told : n ≡ 0 → Tells 0 left r.written
+        unfolding runs_answer_c runs_bytes_c runs_written_c
+        runs_told z = by_told runs_speech_of runs_speech_bytes changes text written l h w r n left s e b z

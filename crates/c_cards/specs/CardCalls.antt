@@ -5,11 +5,11 @@ use Rattle.ground.specs.Plain.{if◌then◌else◌, ◌==◌, ◌<?◌}
 use Rattle.ground.specs.Table.{tabulate}
 use Rattle.cards.specs.Calls.{Call}
 use Rattle.cards.specs.Calls.Call.{Claim, Release, AddSlot, RemoveSlot, Report, Lapse, StartEpoch}
-use Rattle.cards.specs.Owners.{isMarked}
+use Rattle.cards.specs.Owners.{is_marked}
 use Rattle.orders.specs.Orders.{call_by}
-use Rattle.c_cards.specs.Cards.{boardBytesOn, callAnswerOn, callStateOn, outgoingBytesOn, ownedBytesOn, ownersIn, packetAnswerOn, packetBytesOn, partIn, payloadAnswerOn, payloadBytesOn, ranksBytesOn, shownAnswerOn}
-use Rattle.c_cards.specs.Going.{changesAnswerOn, changesBytesOn, changesToldOn}
-use Rattle.c_cards.specs.Orders.{kind_of, orderAnswerOn, orderAnswersOn, orderStateOn}
+use Rattle.c_cards.specs.Cards.{board_bytes_on, call_answer_on, call_state_on, outgoing_bytes_on, owned_bytes_on, owners_in, packet_answer_on, packet_bytes_on, part_in, payload_answer_on, payload_bytes_on, ranks_bytes_on, shown_answer_on}
+use Rattle.c_cards.specs.Going.{changes_answer_on, changes_bytes_on, changes_told_on}
+use Rattle.c_cards.specs.Orders.{kind_of, order_answer_on, order_answers_on, order_state_on}
 use Rattle.c_face.specs.Senders.{are_bytes}
 
 -- what a C call asks of its numbers
@@ -43,46 +43,46 @@ pub record Back : Type 0 where
 abbrev pub answered : (number : ℕ) → Back
 answered n = record { number = n; lent = [] }
 
-abbrev pub backOf : (state : List ℕ) (group : ℕ) (call : CardCall) → Back
-backOf state g (Do call) = answered (callAnswerOn (fitting call) g call state)
-backOf state g (Packet slot h4) = record { number = packetAnswerOn state g slot h4; lent = packetBytesOn state g slot h4 ∷ [] }
-backOf state g (Payload slot p frame member) = record { number = payloadAnswerOn state g slot p frame member; lent = payloadBytesOn state g slot p frame member ∷ [] }
-backOf state g (Board board) = record { number = shownAnswerOn 130 state g board; lent = boardBytesOn state g board ∷ [] }
-backOf state g (Going board) = record { number = shownAnswerOn 130 state g board; lent = outgoingBytesOn state g board ∷ [] }
-backOf state g (Ranks ranks) = record { number = shownAnswerOn 68 state g ranks; lent = ranksBytesOn state g ranks ∷ [] }
-backOf state g (Owned owned) = record { number = shownAnswerOn 64 state g owned; lent = ownedBytesOn state g owned ∷ [] }
-backOf state g (Changes told changes) =
-    record { number = changesAnswerOn state g told changes; lent = changesToldOn state g told changes ∷ changesBytesOn state g told changes ∷ [] }
-backOf state g NoKind = answered 8
+abbrev pub back_of : (state : List ℕ) (group : ℕ) (call : CardCall) → Back
+back_of state g (Do call) = answered (call_answer_on (fitting call) g call state)
+back_of state g (Packet slot h4) = record { number = packet_answer_on state g slot h4; lent = packet_bytes_on state g slot h4 ∷ [] }
+back_of state g (Payload slot p frame member) = record { number = payload_answer_on state g slot p frame member; lent = payload_bytes_on state g slot p frame member ∷ [] }
+back_of state g (Board board) = record { number = shown_answer_on 130 state g board; lent = board_bytes_on state g board ∷ [] }
+back_of state g (Going board) = record { number = shown_answer_on 130 state g board; lent = outgoing_bytes_on state g board ∷ [] }
+back_of state g (Ranks ranks) = record { number = shown_answer_on 68 state g ranks; lent = ranks_bytes_on state g ranks ∷ [] }
+back_of state g (Owned owned) = record { number = shown_answer_on 64 state g owned; lent = owned_bytes_on state g owned ∷ [] }
+back_of state g (Changes told changes) =
+    record { number = changes_answer_on state g told changes; lent = changes_told_on state g told changes ∷ changes_bytes_on state g told changes ∷ [] }
+back_of state g NoKind = answered 8
 
 -- the state that it leaves; a reading leaves it as it is
-abbrev pub leftBy : (state : List ℕ) (group : ℕ) (call : CardCall) → List ℕ
-leftBy state g (Do call) = callStateOn (fitting call) g call state
-leftBy state g (Packet slot h4) = state
-leftBy state g (Payload slot p frame member) = state
-leftBy state g (Board board) = state
-leftBy state g (Going board) = state
-leftBy state g (Ranks ranks) = state
-leftBy state g (Owned owned) = state
-leftBy state g (Changes told changes) = state
-leftBy state g NoKind = state
+abbrev pub left_by : (state : List ℕ) (group : ℕ) (call : CardCall) → List ℕ
+left_by state g (Do call) = call_state_on (fitting call) g call state
+left_by state g (Packet slot h4) = state
+left_by state g (Payload slot p frame member) = state
+left_by state g (Board board) = state
+left_by state g (Going board) = state
+left_by state g (Ranks ranks) = state
+left_by state g (Owned owned) = state
+left_by state g (Changes told changes) = state
+left_by state g NoKind = state
 
 -- the slots that a group owns
 unfoldable pub slots_of : (group : ℕ) (state : List ℕ) → List Bool
-slots_of g state = tabulate 64 (λ i. isMarked (ownersIn state) g i)
+slots_of g state = tabulate 64 (λ i. is_marked (owners_in state) g i)
 
 -- 'A claim is the one answer through which the other's holdings show': by this bit, that the other owns the slot asked for
-abbrev pub claimBit : (state : List ℕ) (group : ℕ) (call : Call) → Bool
-claimBit state g (Claim slot) = isMarked (ownersIn state) (1 - g) slot
-claimBit state g (Release slot) = false
-claimBit state g (AddSlot slot) = false
-claimBit state g (RemoveSlot slot) = false
-claimBit state g (Report epoch mst ack) = false
-claimBit state g Lapse = false
-claimBit state g (StartEpoch gid mst ack) = false
+abbrev pub claim_bit : (state : List ℕ) (group : ℕ) (call : Call) → Bool
+claim_bit state g (Claim slot) = is_marked (owners_in state) (1 - g) slot
+claim_bit state g (Release slot) = false
+claim_bit state g (AddSlot slot) = false
+claim_bit state g (RemoveSlot slot) = false
+claim_bit state g (Report epoch mst ack) = false
+claim_bit state g Lapse = false
+claim_bit state g (StartEpoch gid mst ack) = false
 
 abbrev pub bit_of : (state : List ℕ) (group : ℕ) (call : CardCall) → Bool
-bit_of state g (Do call) = claimBit state g call
+bit_of state g (Do call) = claim_bit state g call
 bit_of state g (Packet slot h4) = false
 bit_of state g (Payload slot p frame member) = false
 bit_of state g (Board board) = false
@@ -102,38 +102,38 @@ pub data Made : Type 0 where
   One : (single : Single) → Made
   Order : (commands : List (List ℕ)) (answers : List ℕ) → Made
 
-abbrev pub leftAfter : (state : List ℕ) (made : List Made) → List ℕ
-leftAfter state [] = state
-leftAfter state (One m ∷ ms) = leftAfter (leftBy state m.group m.call) ms
-leftAfter state (Order commands answers ∷ ms) = leftAfter (orderStateOn state commands answers) ms
+abbrev pub left_after : (state : List ℕ) (made : List Made) → List ℕ
+left_after state [] = state
+left_after state (One m ∷ ms) = left_after (left_by state m.group m.call) ms
+left_after state (Order commands answers ∷ ms) = left_after (order_state_on state commands answers) ms
 
 -- of an order that is done, the answers in the places of the group's own rows
-abbrev pub ownAnswers : (group : ℕ) (commands : List (List ℕ)) (answers : List ℕ) → List Back
-ownAnswers g [] ys = []
-ownAnswers g (c ∷ cs) [] = []
-ownAnswers g (c ∷ cs) (y ∷ ys) = if get_or c 1 0 == g then answered y ∷ ownAnswers g cs ys else ownAnswers g cs ys
+abbrev pub own_answers : (group : ℕ) (commands : List (List ℕ)) (answers : List ℕ) → List Back
+own_answers g [] ys = []
+own_answers g (c ∷ cs) [] = []
+own_answers g (c ∷ cs) (y ∷ ys) = if get_or c 1 0 == g then answered y ∷ own_answers g cs ys else own_answers g cs ys
 
 -- all that a group gets back, in the order of the calls
-abbrev pub backTo : (group : ℕ) (state : List ℕ) (made : List Made) → List Back
-backTo g state [] = []
-backTo g state (One m ∷ ms) =
-    let rest = backTo g (leftBy state m.group m.call) ms in if m.group == g then backOf state g m.call ∷ rest else rest
-backTo g state (Order commands answers ∷ ms) =
-    (if orderAnswerOn state commands answers == 0 then ownAnswers g commands (orderAnswersOn state commands answers) else []) ++ backTo g (orderStateOn state commands answers) ms
+abbrev pub back_to : (group : ℕ) (state : List ℕ) (made : List Made) → List Back
+back_to g state [] = []
+back_to g state (One m ∷ ms) =
+    let rest = back_to g (left_by state m.group m.call) ms in if m.group == g then back_of state g m.call ∷ rest else rest
+back_to g state (Order commands answers ∷ ms) =
+    (if order_answer_on state commands answers == 0 then own_answers g commands (order_answers_on state commands answers) else []) ++ back_to g (order_state_on state commands answers) ms
 
 -- The calls as single ones: an order is those of its rows one by one, and none where its lengths differ.
 
-abbrev pub rowCall : (row : List ℕ) → CardCall
-rowCall row = if 3 <? get_or row 0 0 then NoKind else Do (call_by (kind_of (get_or row 0 0)) (get_or row 2 0))
+abbrev pub row_call : (row : List ℕ) → CardCall
+row_call row = if 3 <? get_or row 0 0 then NoKind else Do (call_by (kind_of (get_or row 0 0)) (get_or row 2 0))
 
-abbrev pub rowsMade : (rows : List (List ℕ)) → List Single
-rowsMade [] = []
-rowsMade (row ∷ rows) = record { group = get_or row 1 0; call = rowCall row } ∷ rowsMade rows
+abbrev pub rows_made : (rows : List (List ℕ)) → List Single
+rows_made [] = []
+rows_made (row ∷ rows) = record { group = get_or row 1 0; call = row_call row } ∷ rows_made rows
 
 abbrev pub singles : (made : List Made) → List Single
 singles [] = []
 singles (One m ∷ ms) = m ∷ singles ms
-singles (Order commands answers ∷ ms) = (if length commands == length answers then rowsMade commands else []) ++ singles ms
+singles (Order commands answers ∷ ms) = (if length commands == length answers then rows_made commands else []) ++ singles ms
 
 -- those of one group, and its bits, each on the bytes that the calls before left
 abbrev pub calls_of : (group : ℕ) (made : List Single) → List CardCall
@@ -143,10 +143,10 @@ calls_of g (m ∷ ms) = if m.group == g then m.call ∷ calls_of g ms else calls
 abbrev pub bits_of : (group : ℕ) (state : List ℕ) (made : List Single) → List Bool
 bits_of g state [] = []
 bits_of g state (m ∷ ms) =
-    let rest = bits_of g (leftBy state m.group m.call) ms in if m.group == g then bit_of state g m.call ∷ rest else rest
+    let rest = bits_of g (left_by state m.group m.call) ms in if m.group == g then bit_of state g m.call ∷ rest else rest
 
 -- a group gets the same back from two lists of calls, and has the same in the end
 pub record Same (g : ℕ) (s t : List ℕ) (ms ns : List Made) : Type 0 where
-  pub back : backTo g s ms ≡ backTo g t ns
-  pub part : partIn g (leftAfter s ms) ≡ partIn g (leftAfter t ns)
-  pub slots : slots_of g (leftAfter s ms) ≡ slots_of g (leftAfter t ns)
+  pub back : back_to g s ms ≡ back_to g t ns
+  pub part : part_in g (left_after s ms) ≡ part_in g (left_after t ns)
+  pub slots : slots_of g (left_after s ms) ≡ slots_of g (left_after t ns)

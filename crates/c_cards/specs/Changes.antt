@@ -7,103 +7,103 @@ use Rattle.ground.specs.Types.{Bytes}
 use Rattle.sender.specs.Board.{word}
 use Rattle.sender.specs.declared.board.Board.{Board}
 use Rattle.sender.specs.declared.board.Row.{Row}
-use Rattle.spoken.specs.Applying.{appliedOf, changeIn}
-use Rattle.spoken.specs.Changes.{answerNumber, comparedOf}
+use Rattle.spoken.specs.Applying.{applied_of, change_in}
+use Rattle.spoken.specs.Changes.{answer_number, compared_of}
 use Rattle.spoken.specs.declared.lists.Change.{Change}
 use Rattle.spoken.specs.declared.lists.Changes.{Changes}
 use Rattle.spoken.specs.declared.lists.WaitChange.{WaitChange}
 use Rattle.spoken.specs.declared.lists.WaitChange.TheVariants.{Same, Opened, Closed}
 use Rattle.spoken.specs.declared.speaking.Speech.{Speech}
-use Rattle.spoken.specs.Shown.{waitCode}
-use Rattle.spoken.specs.Speaking.{SPEECH-ROOM, speechBytes, speechOf}
-use Rattle.c_face.specs.Boards.{boardBytes, boardBytesOf}
-use Rattle.c_face.specs.Keeping.{boardIn}
+use Rattle.spoken.specs.Shown.{wait_code}
+use Rattle.spoken.specs.Speaking.{SPEECH-ROOM, speech_bytes, speech_of}
+use Rattle.c_face.specs.Boards.{board_bytes, board_bytes_of}
+use Rattle.c_face.specs.Keeping.{board_in}
 
-abbrev pub isBoard : Bytes → Bool
-isBoard bytes = length bytes == boardBytes
+abbrev pub is_board : Bytes → Bool
+is_board bytes = length bytes == board_bytes
 
-abbrev pub changesBytes : ℕ
-changesBytes = 322
+abbrev pub changes_bytes : ℕ
+changes_bytes = 322
 
-abbrev pub areChanges : Bytes → Bool
-areChanges bytes = length bytes == changesBytes
+abbrev pub are_changes : Bytes → Bool
+are_changes bytes = length bytes == changes_bytes
 
 -- Reading. Any bytes are a board.
 
-abbrev pub boardFrom : Bytes → Board
-boardFrom bytes = boardIn bytes 2 (get_or bytes 0 0) (get_or bytes 1 0)
+abbrev pub board_from : Bytes → Board
+board_from bytes = board_in bytes 2 (get_or bytes 0 0) (get_or bytes 1 0)
 
-abbrev rowFrom : Bytes → ℕ → Row
-rowFrom bytes k = record { word = word (get_or bytes k 0); number = get_or bytes (k + 1) 0 }
+abbrev row_from : Bytes → ℕ → Row
+row_from bytes k = record { word = word (get_or bytes k 0); number = get_or bytes (k + 1) 0 }
 
-abbrev pub changeFrom : Bytes → ℕ → Change
-changeFrom bytes i = record { slot = get_or bytes (2 + 5 * i) 0; old = rowFrom bytes (2 + 5 * i + 1); new = rowFrom bytes (2 + 5 * i + 3) }
+abbrev pub change_from : Bytes → ℕ → Change
+change_from bytes i = record { slot = get_or bytes (2 + 5 * i) 0; old = row_from bytes (2 + 5 * i + 1); new = row_from bytes (2 + 5 * i + 3) }
 
 unfoldable pub list_from : Bytes → List Change
-list_from bytes = tabulate 64 (changeFrom bytes)
+list_from bytes = tabulate 64 (change_from bytes)
 
-abbrev pub waitFrom : ℕ → WaitChange
-waitFrom byte = if byte == 1 then Opened else if byte == 2 then Closed else Same
+abbrev pub wait_from : ℕ → WaitChange
+wait_from byte = if byte == 1 then Opened else if byte == 2 then Closed else Same
 
 -- a wait byte above 2 says nothing that a board could be told
-abbrev pub isWait : Bytes → Bool
-isWait bytes = get_or bytes 1 0 <? 3
+abbrev pub is_wait : Bytes → Bool
+is_wait bytes = get_or bytes 1 0 <? 3
 
-unfoldable pub changesFrom : Bytes → Changes
-changesFrom bytes = record { list = list_from bytes; count = get_or bytes 0 0; wait = waitFrom (get_or bytes 1 0) }
+unfoldable pub changes_from : Bytes → Changes
+changes_from bytes = record { list = list_from bytes; count = get_or bytes 0 0; wait = wait_from (get_or bytes 1 0) }
 
 -- Writing.
 
-abbrev pub changeBytes : Change → Bytes
-changeBytes c = c.slot ∷ c.old.word.0 ∷ c.old.number ∷ c.new.word.0 ∷ c.new.number ∷ []
+abbrev pub change_bytes : Change → Bytes
+change_bytes c = c.slot ∷ c.old.word.0 ∷ c.old.number ∷ c.new.word.0 ∷ c.new.number ∷ []
 
-abbrev pub listByte : List Change → ℕ → ℕ
-listByte list k = get_or (changeBytes (changeIn list (k / 5))) (k % 5) 0
+abbrev pub list_byte : List Change → ℕ → ℕ
+list_byte list k = get_or (change_bytes (change_in list (k / 5))) (k % 5) 0
 
-unfoldable pub changesByte : Changes → ℕ → ℕ
-changesByte cs k = if k <? 2 then get_or (cs.count ∷ waitCode cs.wait ∷ []) k 0 else listByte cs.list (k - 2)
+unfoldable pub changes_byte : Changes → ℕ → ℕ
+changes_byte cs k = if k <? 2 then get_or (cs.count ∷ wait_code cs.wait ∷ []) k 0 else list_byte cs.list (k - 2)
 
-unfoldable pub changesBytesOf : Changes → List ℕ
-changesBytesOf cs = tabulate changesBytes (changesByte cs)
+unfoldable pub changes_bytes_of : Changes → List ℕ
+changes_bytes_of cs = tabulate changes_bytes (changes_byte cs)
 
 -- The calls: 9 and then the crate's own answer; under a refusal every lent byte stays.
 
-unfoldable pub comparedAnswerC : (old new out : Bytes) → ℕ
-comparedAnswerC old new out =
-    if isBoard old && isBoard new && areChanges out then answerNumber (comparedOf (boardFrom old) (boardFrom new)).answer else 9
+unfoldable pub compared_answer_c : (old new out : Bytes) → ℕ
+compared_answer_c old new out =
+    if is_board old && is_board new && are_changes out then answer_number (compared_of (board_from old) (board_from new)).answer else 9
 
-unfoldable pub comparedBytesC : (old new out : Bytes) → Bytes
-comparedBytesC old new out =
-    if comparedAnswerC old new out == 0 then changesBytesOf (comparedOf (boardFrom old) (boardFrom new)).changes else out
+unfoldable pub compared_bytes_c : (old new out : Bytes) → Bytes
+compared_bytes_c old new out =
+    if compared_answer_c old new out == 0 then changes_bytes_of (compared_of (board_from old) (board_from new)).changes else out
 
-unfoldable pub appliedAnswerC : Bytes → Bytes → ℕ
-appliedAnswerC board changes =
-    if isBoard board && areChanges changes then (if isWait changes then answerNumber (appliedOf (boardFrom board) (changesFrom changes)).answer else 2) else 9
+unfoldable pub applied_answer_c : Bytes → Bytes → ℕ
+applied_answer_c board changes =
+    if is_board board && are_changes changes then (if is_wait changes then answer_number (applied_of (board_from board) (changes_from changes)).answer else 2) else 9
 
-unfoldable pub appliedBytesC : Bytes → Bytes → Bytes
-appliedBytesC board changes =
-    if appliedAnswerC board changes == 0 then boardBytesOf (appliedOf (boardFrom board) (changesFrom changes)).board else board
+unfoldable pub applied_bytes_c : Bytes → Bytes → Bytes
+applied_bytes_c board changes =
+    if applied_answer_c board changes == 0 then board_bytes_of (applied_of (board_from board) (changes_from changes)).board else board
 
 abbrev pub roomy : Bytes → Bytes → Bool
-roomy changes text = areChanges changes && not (length text <? SPEECH-ROOM)
+roomy changes text = are_changes changes && not (length text <? SPEECH-ROOM)
 
 -- what a call answers that speaks changes so, and what it leaves; how many bytes were written, which under a refusal stays as it was
-abbrev pub answerBy : (speech : Changes → Bytes → Speech) (changes : Bytes) (text : Bytes) → ℕ
-answerBy speech changes text =
-    if roomy changes text then (if isWait changes then answerNumber (speech (changesFrom changes) text).answer else 2) else 9
+abbrev pub answer_by : (speech : Changes → Bytes → Speech) (changes : Bytes) (text : Bytes) → ℕ
+answer_by speech changes text =
+    if roomy changes text then (if is_wait changes then answer_number (speech (changes_from changes) text).answer else 2) else 9
 
-abbrev pub bytesBy : (said : Changes → Bytes → Bytes) (changes : Bytes) (text : Bytes) → Bytes
-bytesBy said changes text = if roomy changes text && isWait changes then said (changesFrom changes) text else text
+abbrev pub bytes_by : (said : Changes → Bytes → Bytes) (changes : Bytes) (text : Bytes) → Bytes
+bytes_by said changes text = if roomy changes text && is_wait changes then said (changes_from changes) text else text
 
 abbrev pub written_by : (speech : Changes → Bytes → Speech) (changes : Bytes) (text : Bytes) (written : ℕ) → ℕ
-written_by speech changes text written = if answerBy speech changes text == 0 then (speech (changesFrom changes) text).written else written
+written_by speech changes text written = if answer_by speech changes text == 0 then (speech (changes_from changes) text).written else written
 
 -- one line a slot
-unfoldable pub spokenAnswerC : Bytes → Bytes → ℕ
-spokenAnswerC changes text = answerBy speechOf changes text
+unfoldable pub spoken_answer_c : Bytes → Bytes → ℕ
+spoken_answer_c changes text = answer_by speech_of changes text
 
-unfoldable pub spokenBytesC : Bytes → Bytes → Bytes
-spokenBytesC changes text = bytesBy speechBytes changes text
+unfoldable pub spoken_bytes_c : Bytes → Bytes → Bytes
+spoken_bytes_c changes text = bytes_by speech_bytes changes text
 
-unfoldable pub writtenC : (changes text : Bytes) (written : ℕ) → ℕ
-writtenC changes text written = written_by speechOf changes text written
+unfoldable pub written_c : (changes text : Bytes) (written : ℕ) → ℕ
+written_c changes text written = written_by speech_of changes text written

@@ -2,42 +2,42 @@
 -- start has fixed, whenever it is made. It comes back as the board told last.
 use Rattle.std.specs.Prelude.{◌&&◌, List, ℕ}
 use Rattle.ground.specs.Plain.{if◌then◌else◌, ◌==◌}
-use Rattle.cards.specs.Readings.{outgoingShown}
+use Rattle.cards.specs.Readings.{outgoing_shown}
 use Rattle.sender.specs.declared.board.Board.{Board}
-use Rattle.spoken.specs.Changes.{answerNumber, comparedOf}
+use Rattle.spoken.specs.Changes.{answer_number, compared_of}
 use Rattle.spoken.specs.Taking.{taken_of}
-use Rattle.c_face.specs.Boards.{boardBytesOf}
-use Rattle.c_cards.specs.Cards.{behind, bytesBehind, cardOf}
-use Rattle.c_cards.specs.Changes.{areChanges, boardFrom, changesBytesOf, isBoard}
-use Rattle.c_face.specs.Keeping.{senderOf}
-use Rattle.c_face.specs.Senders.{isState}
+use Rattle.c_face.specs.Boards.{board_bytes_of}
+use Rattle.c_cards.specs.Cards.{behind, bytes_behind, card_of}
+use Rattle.c_cards.specs.Changes.{are_changes, board_from, changes_bytes_of, is_board}
+use Rattle.c_face.specs.Keeping.{sender_of}
+use Rattle.c_face.specs.Senders.{is_state}
 
 -- 9 for the board told or the changes, then 4 for another count
-unfoldable pub goingAnswer : (going : Board) (told changes : List ℕ) → ℕ
-goingAnswer going told changes = if isBoard told && areChanges changes then answerNumber (comparedOf (boardFrom told) going).answer else 9
+unfoldable pub going_answer : (going : Board) (told changes : List ℕ) → ℕ
+going_answer going told changes = if is_board told && are_changes changes then answer_number (compared_of (board_from told) going).answer else 9
 
-unfoldable pub goingChanges : (going : Board) (told changes : List ℕ) → List ℕ
-goingChanges going told changes = if goingAnswer going told changes == 0 then changesBytesOf (comparedOf (boardFrom told) going).changes else changes
+unfoldable pub going_changes : (going : Board) (told changes : List ℕ) → List ℕ
+going_changes going told changes = if going_answer going told changes == 0 then changes_bytes_of (compared_of (board_from told) going).changes else changes
 
-unfoldable pub goingTold : (going : Board) (told changes : List ℕ) → List ℕ
-goingTold going told changes = if goingAnswer going told changes == 0 then boardBytesOf going else told
+unfoldable pub going_told : (going : Board) (told changes : List ℕ) → List ℕ
+going_told going told changes = if going_answer going told changes == 0 then board_bytes_of going else told
 
 -- of a sender: 9 for the state first
-unfoldable pub changesAnswerC : (state told changes : List ℕ) → ℕ
-changesAnswerC state told changes = if isState state then goingAnswer (taken_of (senderOf state)) told changes else 9
+unfoldable pub changes_answer_c : (state told changes : List ℕ) → ℕ
+changes_answer_c state told changes = if is_state state then going_answer (taken_of (sender_of state)) told changes else 9
 
-unfoldable pub changesBytesC : (state told changes : List ℕ) → List ℕ
-changesBytesC state told changes = if isState state then goingChanges (taken_of (senderOf state)) told changes else changes
+unfoldable pub changes_bytes_c : (state told changes : List ℕ) → List ℕ
+changes_bytes_c state told changes = if is_state state then going_changes (taken_of (sender_of state)) told changes else changes
 
-unfoldable pub changesToldC : (state told changes : List ℕ) → List ℕ
-changesToldC state told changes = if isState state then goingTold (taken_of (senderOf state)) told changes else told
+unfoldable pub changes_told_c : (state told changes : List ℕ) → List ℕ
+changes_told_c state told changes = if is_state state then going_told (taken_of (sender_of state)) told changes else told
 
 -- of a card's group: 9 for the state, 1 for the group first
-unfoldable pub changesAnswerOn : (state : List ℕ) (group : ℕ) (told changes : List ℕ) → ℕ
-changesAnswerOn state g told changes = behind state g (goingAnswer (outgoingShown (cardOf state) g).board told changes)
+unfoldable pub changes_answer_on : (state : List ℕ) (group : ℕ) (told changes : List ℕ) → ℕ
+changes_answer_on state g told changes = behind state g (going_answer (outgoing_shown (card_of state) g).board told changes)
 
-unfoldable pub changesBytesOn : (state : List ℕ) (group : ℕ) (told changes : List ℕ) → List ℕ
-changesBytesOn state g told changes = bytesBehind state g (goingChanges (outgoingShown (cardOf state) g).board told changes) changes
+unfoldable pub changes_bytes_on : (state : List ℕ) (group : ℕ) (told changes : List ℕ) → List ℕ
+changes_bytes_on state g told changes = bytes_behind state g (going_changes (outgoing_shown (card_of state) g).board told changes) changes
 
-unfoldable pub changesToldOn : (state : List ℕ) (group : ℕ) (told changes : List ℕ) → List ℕ
-changesToldOn state g told changes = bytesBehind state g (goingTold (outgoingShown (cardOf state) g).board told changes) told
+unfoldable pub changes_told_on : (state : List ℕ) (group : ℕ) (told changes : List ℕ) → List ℕ
+changes_told_on state g told changes = bytes_behind state g (going_told (outgoing_shown (card_of state) g).board told changes) told

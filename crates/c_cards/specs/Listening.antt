@@ -4,21 +4,21 @@ use Rattle.std.specs.Prelude.{◌≡◌, Bool, true, false, ◌&&◌, List, [], 
 use Rattle.ground.specs.Plain.{if◌then◌else◌, ◌==◌}
 use Rattle.cards.specs.Calls.{Call}
 use Rattle.cards.specs.Calls.Call.{Claim, Release, AddSlot, RemoveSlot, Report, Lapse, StartEpoch}
-use Rattle.sender.specs.Board.{boardOf}
+use Rattle.sender.specs.Board.{board_of}
 use Rattle.sender.specs.declared.table.Table.{Table}
 use Rattle.sender.specs.Epochs.{SenderCall}
 use Rattle.sender.specs.Numbering.{Demand2}
-use Rattle.c_cards.specs.CardCalls.{CardCall, Made, backOf, leftBy}
+use Rattle.c_cards.specs.CardCalls.{CardCall, Made, back_of, left_by}
 use Rattle.c_cards.specs.CardCalls.CardCall.{Do, Packet, Payload, Board, Going, Ranks, Owned, Changes, NoKind}
 use Rattle.c_cards.specs.CardCalls.Made.{One, Order}
-use Rattle.c_cards.specs.Cards.{partIn}
-use Rattle.c_cards.specs.Changes.{appliedAnswerC, appliedBytesC}
-use Rattle.c_cards.specs.Going.{changesAnswerC, changesAnswerOn, changesBytesC, changesBytesOn, changesToldC, changesToldOn}
-use Rattle.c_face.specs.Boards.{boardBytesOf}
-use Rattle.c_face.specs.Keeping.{senderOf}
-use Rattle.c_cards.specs.Orders.{orderStateOn}
-use Rattle.c_face.specs.Runs.{numbersFit}
-use Rattle.c_face.specs.Senders.{callAnswerC, callStateC}
+use Rattle.c_cards.specs.Cards.{part_in}
+use Rattle.c_cards.specs.Changes.{applied_answer_c, applied_bytes_c}
+use Rattle.c_cards.specs.Going.{changes_answer_c, changes_answer_on, changes_bytes_c, changes_bytes_on, changes_told_c, changes_told_on}
+use Rattle.c_face.specs.Boards.{board_bytes_of}
+use Rattle.c_face.specs.Keeping.{sender_of}
+use Rattle.c_cards.specs.Orders.{order_state_on}
+use Rattle.c_face.specs.Runs.{numbers_fit}
+use Rattle.c_face.specs.Senders.{call_answer_c, call_state_c}
 
 -- what a host calls, and how it tells
 pub record Host (C : Type 0) : Type 0 where
@@ -33,59 +33,59 @@ pub record Host (C : Type 0) : Type 0 where
   pub told : (state told changes : List ℕ) → List ℕ
 
 -- the host of a sender
-abbrev pub isStart : (call : SenderCall) → Bool
-isStart (SenderCall.OnTable call) = false
-isStart (SenderCall.StartEpoch gid mst ack) = true
+abbrev pub is_start : (call : SenderCall) → Bool
+is_start (SenderCall.OnTable call) = false
+is_start (SenderCall.StartEpoch gid mst ack) = true
 
-abbrev pub senderHost : Host SenderCall
-senderHost =
+abbrev pub sender_host : Host SenderCall
+sender_host =
     record {
-      left = λ state call. callStateC (numbersFit call) call state;
-      starts = λ state call. isStart call && callAnswerC (numbersFit call) call state == 0;
-      table = λ state. (senderOf state).table;
-      answer = changesAnswerC;
-      changes = changesBytesC;
-      told = changesToldC;
+      left = λ state call. call_state_c (numbers_fit call) call state;
+      starts = λ state call. is_start call && call_answer_c (numbers_fit call) call state == 0;
+      table = λ state. (sender_of state).table;
+      answer = changes_answer_c;
+      changes = changes_bytes_c;
+      told = changes_told_c;
     }
 
 -- the host of a card, which tells of one group
-abbrev pub callStarts : (call : Call) → Bool
-callStarts (Claim slot) = false
-callStarts (Release slot) = false
-callStarts (AddSlot slot) = false
-callStarts (RemoveSlot slot) = false
-callStarts (Report epoch mst ack) = false
-callStarts Lapse = false
-callStarts (StartEpoch gid mst ack) = true
+abbrev pub call_starts : (call : Call) → Bool
+call_starts (Claim slot) = false
+call_starts (Release slot) = false
+call_starts (AddSlot slot) = false
+call_starts (RemoveSlot slot) = false
+call_starts (Report epoch mst ack) = false
+call_starts Lapse = false
+call_starts (StartEpoch gid mst ack) = true
 
-abbrev pub isStartOn : (call : CardCall) → Bool
-isStartOn (Do call) = callStarts call
-isStartOn (Packet slot h4) = false
-isStartOn (Payload slot p frame member) = false
-isStartOn (Board board) = false
-isStartOn (Going board) = false
-isStartOn (Ranks ranks) = false
-isStartOn (Owned owned) = false
-isStartOn (Changes told changes) = false
-isStartOn NoKind = false
+abbrev pub is_start_on : (call : CardCall) → Bool
+is_start_on (Do call) = call_starts call
+is_start_on (Packet slot h4) = false
+is_start_on (Payload slot p frame member) = false
+is_start_on (Board board) = false
+is_start_on (Going board) = false
+is_start_on (Ranks ranks) = false
+is_start_on (Owned owned) = false
+is_start_on (Changes told changes) = false
+is_start_on NoKind = false
 
-abbrev pub leftOn : (state : List ℕ) (made : Made) → List ℕ
-leftOn state (One m) = leftBy state m.group m.call
-leftOn state (Order commands answers) = orderStateOn state commands answers
+abbrev pub left_on : (state : List ℕ) (made : Made) → List ℕ
+left_on state (One m) = left_by state m.group m.call
+left_on state (Order commands answers) = order_state_on state commands answers
 
-abbrev pub startsOn : (group : ℕ) (state : List ℕ) (made : Made) → Bool
-startsOn g state (One m) = m.group == g && isStartOn m.call && (backOf state g m.call).number == 0
-startsOn g state (Order commands answers) = false
+abbrev pub starts_on : (group : ℕ) (state : List ℕ) (made : Made) → Bool
+starts_on g state (One m) = m.group == g && is_start_on m.call && (back_of state g m.call).number == 0
+starts_on g state (Order commands answers) = false
 
-abbrev pub cardHost : (group : ℕ) → Host Made
-cardHost g =
+abbrev pub card_host : (group : ℕ) → Host Made
+card_host g =
     record {
-      left = leftOn;
-      starts = startsOn g;
-      table = λ state. (senderOf (partIn g state)).table;
-      answer = λ state. changesAnswerOn state g;
-      changes = λ state. changesBytesOn state g;
-      told = λ state. changesToldOn state g;
+      left = left_on;
+      starts = starts_on g;
+      table = λ state. (sender_of (part_in g state)).table;
+      answer = λ state. changes_answer_on state g;
+      changes = λ state. changes_bytes_on state g;
+      told = λ state. changes_told_on state g;
     }
 
 -- a call of the host, or a telling with bytes lent for the changes
@@ -100,33 +100,33 @@ pub record Heard : Type 0 where
   pub held : List ℕ
 
 module _ {C : Type 0} (host : Host C) where
-  abbrev pub heardOf : (before : Heard) (said : Said C) → Heard
-  heardOf h (Make call) = record { state = host.left h.state call; told = h.told; held = h.held }
-  heardOf h (Tell changes) =
+  abbrev pub heard_of : (before : Heard) (said : Said C) → Heard
+  heard_of h (Make call) = record { state = host.left h.state call; told = h.told; held = h.held }
+  heard_of h (Tell changes) =
       record {
         state = h.state;
         told = host.told h.state h.told changes;
-        held = appliedBytesC h.held (host.changes h.state h.told changes);
+        held = applied_bytes_c h.held (host.changes h.state h.told changes);
       }
 
-  abbrev pub heardAfter : (before : Heard) (said : List (Said C)) → Heard
-  heardAfter h [] = h
-  heardAfter h (m ∷ ms) = heardAfter (heardOf h m) ms
+  abbrev pub heard_after : (before : Heard) (said : List (Said C)) → Heard
+  heard_after h [] = h
+  heard_after h (m ∷ ms) = heard_after (heard_of h m) ms
 
   -- at each telling its own answer, then that of applying
-  abbrev pub answersTo : (before : Heard) (said : List (Said C)) → List ℕ
-  answersTo h [] = []
-  answersTo h (Make call ∷ ms) = answersTo (heardOf h (Make call)) ms
-  answersTo h (Tell changes ∷ ms) =
+  abbrev pub answers_to : (before : Heard) (said : List (Said C)) → List ℕ
+  answers_to h [] = []
+  answers_to h (Make call ∷ ms) = answers_to (heard_of h (Make call)) ms
+  answers_to h (Tell changes ∷ ms) =
       host.answer h.state h.told changes
-      ∷ appliedAnswerC h.held (host.changes h.state h.told changes)
-      ∷ answersTo (heardOf h (Tell changes)) ms
+      ∷ applied_answer_c h.held (host.changes h.state h.told changes)
+      ∷ answers_to (heard_of h (Tell changes)) ms
 
   -- 'A board is taken only at an epoch's start': the table at the last start of an epoch before the last telling
-  abbrev pub toldTable : (state : List ℕ) (last told : Table) (said : List (Said C)) → Table
-  toldTable state last told [] = told
-  toldTable state last told (Make call ∷ ms) = toldTable (host.left state call) (if host.starts state call then host.table state else last) told ms
-  toldTable state last told (Tell changes ∷ ms) = toldTable state last last ms
+  abbrev pub told_table : (state : List ℕ) (last told : Table) (said : List (Said C)) → Table
+  told_table state last told [] = told
+  told_table state last told (Make call ∷ ms) = told_table (host.left state call) (if host.starts state call then host.table state else last) told ms
+  told_table state last told (Tell changes ∷ ms) = told_table state last last ms
 
 -- the bytes lent for changes have room for them
 abbrev pub Roomy : {C : Type 0} → List (Said C) → Type 0
@@ -140,7 +140,7 @@ AllZero (n ∷ ns) = (n ≡ 0) × AllZero ns
 
 -- she holds what was told last, the board of this table, and every list that she was told was answered 0 and fitted
 pub record Holds (h : Heard) (t : Table) (answers : List ℕ) : Type 0 where
-  pub told : h.told ≡ boardBytesOf (boardOf t)
-  pub held : h.held ≡ boardBytesOf (boardOf t)
+  pub told : h.told ≡ board_bytes_of (board_of t)
+  pub held : h.held ≡ board_bytes_of (board_of t)
   pub demand2 : Demand2 t
   pub done : AllZero answers

@@ -1,29 +1,29 @@
 -- Runs for C: changes spoken with slots of a kind at once, and a whole board so.
 use Rattle.std.specs.Prelude.{Bool, not, ◌&&◌, List, ℕ, length}
 use Rattle.ground.specs.Plain.{if◌then◌else◌, ◌==◌, ◌<?◌}
-use Rattle.spoken.specs.Changes.{answerNumber}
+use Rattle.spoken.specs.Changes.{answer_number}
 use Rattle.spoken.specs.Speaking.{SPEECH-ROOM}
-use Rattle.spoken.specs.SpeakingRuns.{runsSpeechBytes, runsSpeechOf, wholeSpeechBytes, wholeSpeechOf}
-use Rattle.c_cards.specs.Changes.{answerBy, boardFrom, bytesBy, isBoard, written_by}
+use Rattle.spoken.specs.SpeakingRuns.{runs_speech_bytes, runs_speech_of, whole_speech_bytes, whole_speech_of}
+use Rattle.c_cards.specs.Changes.{answer_by, board_from, bytes_by, is_board, written_by}
 
-unfoldable pub runsAnswerC : (changes : List ℕ) (text : List ℕ) → ℕ
-runsAnswerC changes text = answerBy runsSpeechOf changes text
+unfoldable pub runs_answer_c : (changes : List ℕ) (text : List ℕ) → ℕ
+runs_answer_c changes text = answer_by runs_speech_of changes text
 
-unfoldable pub runsBytesC : (changes : List ℕ) (text : List ℕ) → List ℕ
-runsBytesC changes text = bytesBy runsSpeechBytes changes text
+unfoldable pub runs_bytes_c : (changes : List ℕ) (text : List ℕ) → List ℕ
+runs_bytes_c changes text = bytes_by runs_speech_bytes changes text
 
-unfoldable pub runsWrittenC : (changes : List ℕ) (text : List ℕ) (written : ℕ) → ℕ
-runsWrittenC changes text written = written_by runsSpeechOf changes text written
+unfoldable pub runs_written_c : (changes : List ℕ) (text : List ℕ) (written : ℕ) → ℕ
+runs_written_c changes text written = written_by runs_speech_of changes text written
 
 -- A whole board: 9, and then the crate's own answer.
-abbrev pub hasRoom : (board : List ℕ) (text : List ℕ) → Bool
-hasRoom board text = isBoard board && not (length text <? SPEECH-ROOM)
+abbrev pub has_room : (board : List ℕ) (text : List ℕ) → Bool
+has_room board text = is_board board && not (length text <? SPEECH-ROOM)
 
-unfoldable pub wholeAnswerC : (board : List ℕ) (text : List ℕ) → ℕ
-wholeAnswerC board text = if hasRoom board text then answerNumber (wholeSpeechOf (boardFrom board) text).answer else 9
+unfoldable pub whole_answer_c : (board : List ℕ) (text : List ℕ) → ℕ
+whole_answer_c board text = if has_room board text then answer_number (whole_speech_of (board_from board) text).answer else 9
 
-unfoldable pub wholeBytesC : (board : List ℕ) (text : List ℕ) → List ℕ
-wholeBytesC board text = if hasRoom board text then wholeSpeechBytes (boardFrom board) text else text
+unfoldable pub whole_bytes_c : (board : List ℕ) (text : List ℕ) → List ℕ
+whole_bytes_c board text = if has_room board text then whole_speech_bytes (board_from board) text else text
 
-unfoldable pub wholeWrittenC : (board : List ℕ) (text : List ℕ) (written : ℕ) → ℕ
-wholeWrittenC board text written = if wholeAnswerC board text == 0 then (wholeSpeechOf (boardFrom board) text).written else written
+unfoldable pub whole_written_c : (board : List ℕ) (text : List ℕ) (written : ℕ) → ℕ
+whole_written_c board text written = if whole_answer_c board text == 0 then (whole_speech_of (board_from board) text).written else written

@@ -1,13 +1,13 @@
 // Two circuits on one card for C. The whole state is a lent buffer: the owner row, then a sender's state for each group. A call reads and writes the owner row and its group's own part.
 ghost use Rattle.std.specs.Prelude.{◌≡◌, true, ◌<◌, length};
-ghost use Rattle.cards.specs.Answers.{answerNumber};
+ghost use Rattle.cards.specs.Answers.{answer_number};
 ghost use Rattle.cards.specs.Calls.Call.{Claim, Release, AddSlot, RemoveSlot, Report, Lapse, StartEpoch};
 ghost use Rattle.cards.specs.Commands.{start_of};
-ghost use Rattle.cards.specs.Owners.{ownerIn};
-ghost use Rattle.ground.specs.Drawn.{fillAt};
-ghost use Rattle.c_cards.specs.Cards.{alone, areEpochs, boardBytesOn, callAnswerOn, callStateOn, cardBytes, cardOf, keptCard, outgoingBytesOn, ownedBytesOn, ownersIn, packetAnswerOn, packetBytesOn, part_at, partIn, payloadAnswerOn, payloadBytesOn, putCard, putOwn, ranksBytesOn, refusalOf, shownAnswerOn, startAnswerOn, startStateOn};
-ghost use Rattle.c_face.specs.Keeping.{byte_at, senderOf, stateBytes};
-ghost use Rattle.c_cards.specs.Laws.Slots.{slotPacketAnswer, slotPacketBytes, slotRefusal};
+ghost use Rattle.cards.specs.Owners.{owner_in};
+ghost use Rattle.ground.specs.Drawn.{fill_at};
+ghost use Rattle.c_cards.specs.Cards.{alone, are_epochs, board_bytes_on, call_answer_on, call_state_on, card_bytes, card_of, kept_card, outgoing_bytes_on, owned_bytes_on, owners_in, packet_answer_on, packet_bytes_on, part_at, part_in, payload_answer_on, payload_bytes_on, put_card, put_own, ranks_bytes_on, refusal_of, shown_answer_on, start_answer_on, start_state_on};
+ghost use Rattle.c_face.specs.Keeping.{byte_at, sender_of, state_bytes};
+ghost use Rattle.c_cards.specs.Laws.Slots.{slot_packet_answer, slot_packet_bytes, slot_refusal};
 ghost use Rattle.c_face.specs.Senders.{are_bytes};
 
 use crate::{boards, keeping};
@@ -27,7 +27,7 @@ const SECOND_PART: usize = 461;
 
 // 9 for a state of another length, then 1 for a group other than the two.
 pub(crate) fn refusal(length: usize, group: u32) -> u8
-    ensures { result ≡ refusalOf length group }
+    ensures { result ≡ refusal_of length group }
 {
     if length != CARD_BYTES {
         return 9;
@@ -36,8 +36,8 @@ pub(crate) fn refusal(length: usize, group: u32) -> u8
 }
 
 fn owners_in(state: &[u8]) -> [u8; 64]
-    requires { length state.now ≡ cardBytes }
-    ensures { result ≡ ownersIn state.now }
+    requires { length state.now ≡ card_bytes }
+    ensures { result ≡ owners_in state.now }
 {
     let mut owners = [0; 64];
     let mut i = 0;
@@ -49,8 +49,8 @@ fn owners_in(state: &[u8]) -> [u8; 64]
 }
 
 pub(crate) fn part_in(state: &[u8], group: u32) -> Sender
-    requires { length state.now ≡ cardBytes }
-    ensures { result ≡ senderOf (partIn group state.now) }
+    requires { length state.now ≡ card_bytes }
+    ensures { result ≡ sender_of (part_in group state.now) }
 {
     if group == 0 {
         return keeping::sender_of(&state[FIRST_PART..SECOND_PART]);
@@ -60,8 +60,8 @@ pub(crate) fn part_in(state: &[u8], group: u32) -> Sender
 
 // The card as one group may know it: its own sender stands in the other's place too, so that the other's part is not read.
 pub(crate) fn own_card(state: &[u8], group: u32) -> Card
-    requires { length state.now ≡ cardBytes }
-    ensures { result ≡ alone group (cardOf state.now) }
+    requires { length state.now ≡ card_bytes }
+    ensures { result ≡ alone group (card_of state.now) }
 {
     let owners = owners_in(state);
     let sender = part_in(state, group);
@@ -73,8 +73,8 @@ pub(crate) fn own_card(state: &[u8], group: u32) -> Card
 }
 
 fn put_part(sender: Sender, group: u32, state: &mut [u8])
-    requires { length state.old ≡ cardBytes }
-    ensures { state.new ≡ fillAt (part_at group) stateBytes (byte_at sender) state.old }
+    requires { length state.old ≡ card_bytes }
+    ensures { state.new ≡ fill_at (part_at group) state_bytes (byte_at sender) state.old }
 {
     if group == 0 {
         keeping::put_sender(sender, &mut state[FIRST_PART..SECOND_PART]);
@@ -84,8 +84,8 @@ fn put_part(sender: Sender, group: u32, state: &mut [u8])
 }
 
 pub(crate) fn put_own(card: Card, group: u32, state: &mut [u8])
-    requires { length state.old ≡ cardBytes }
-    ensures { state.new ≡ putOwn group card state.old }
+    requires { length state.old ≡ card_bytes }
+    ensures { state.new ≡ put_own group card state.old }
 {
     let owners = card.owners;
     let sender = cards::sender_of(card, group);
@@ -95,8 +95,8 @@ pub(crate) fn put_own(card: Card, group: u32, state: &mut [u8])
 
 // What a call leaves: under 0 the owner row and the group's part, and under a refusal the bytes as they were.
 pub(crate) fn keep(outcome: CardOutcome, group: u32, state: &mut [u8]) -> u8
-    requires { length state.old ≡ cardBytes }
-    ensures { (result ≡ answerNumber outcome.answer) × (state.new ≡ keptCard group outcome state.old) }
+    requires { length state.old ≡ card_bytes }
+    ensures { (result ≡ answer_number outcome.answer) × (state.new ≡ kept_card group outcome state.old) }
 {
     let answer = outcome.answer;
     let number = answer.number();
@@ -109,8 +109,8 @@ pub(crate) fn keep(outcome: CardOutcome, group: u32, state: &mut [u8]) -> u8
 }
 
 fn put_start(kind: u8, count: u32, epoch_0: u8, epoch_1: u8, state: &mut [u8])
-    requires { length state.old ≡ cardBytes }
-    ensures { state.new ≡ putCard (start_of kind count epoch_0 epoch_1).card state.old }
+    requires { length state.old ≡ card_bytes }
+    ensures { state.new ≡ put_card (start_of kind count epoch_0 epoch_1).card state.old }
 {
     let outcome = Card::start(kind, count, epoch_0, epoch_1);
     let card = outcome.card;
@@ -119,7 +119,7 @@ fn put_start(kind: u8, count: u32, epoch_0: u8, epoch_1: u8, state: &mut [u8])
 }
 
 fn are_epochs(kind: u8, epoch_0: u32, epoch_1: u32) -> bool
-    ensures { result ≡ areEpochs kind epoch_0 epoch_1 }
+    ensures { result ≡ are_epochs kind epoch_0 epoch_1 }
 {
     let first = senders::is_epoch(kind, epoch_0);
     let second = senders::is_epoch(kind, epoch_1);
@@ -127,8 +127,8 @@ fn are_epochs(kind: u8, epoch_0: u32, epoch_1: u32) -> bool
 }
 
 fn start_by(kind: u32, count: u32, first_epoch_0: u32, first_epoch_1: u32, state: &mut [u8]) -> u8
-    ensures { (result ≡ startAnswerOn kind count first_epoch_0 first_epoch_1 state.old)
-        × (state.new ≡ startStateOn kind count first_epoch_0 first_epoch_1 state.old) }
+    ensures { (result ≡ start_answer_on kind count first_epoch_0 first_epoch_1 state.old)
+        × (state.new ≡ start_state_on kind count first_epoch_0 first_epoch_1 state.old) }
 {
     if state.len() != CARD_BYTES {
         return if senders::is_no_start(kind, count) {
@@ -161,8 +161,8 @@ pub extern "C" fn levelspruce_card_start(
     first_epoch_1: u32,
     state: &mut [u8],
 ) -> u8
-    ensures { (result ≡ startAnswerOn 0 count first_epoch_0 first_epoch_1 state.old)
-        × (state.new ≡ startStateOn 0 count first_epoch_0 first_epoch_1 state.old) }
+    ensures { (result ≡ start_answer_on 0 count first_epoch_0 first_epoch_1 state.old)
+        × (state.new ≡ start_state_on 0 count first_epoch_0 first_epoch_1 state.old) }
 {
     start_by(kinds::H4 as u32, count, first_epoch_0, first_epoch_1, state)
 }
@@ -175,16 +175,16 @@ pub extern "C" fn levelspruce_card_start_as(
     first_epoch_1: u32,
     state: &mut [u8],
 ) -> u8
-    ensures { (result ≡ startAnswerOn kind count first_epoch_0 first_epoch_1 state.old)
-        × (state.new ≡ startStateOn kind count first_epoch_0 first_epoch_1 state.old) }
+    ensures { (result ≡ start_answer_on kind count first_epoch_0 first_epoch_1 state.old)
+        × (state.new ≡ start_state_on kind count first_epoch_0 first_epoch_1 state.old) }
 {
     start_by(kind, count, first_epoch_0, first_epoch_1, state)
 }
 
 #[unsafe(no_mangle)]
 pub extern "C" fn levelspruce_card_claim(state: &mut [u8], group: u32, slot: u32) -> u8
-    ensures { (result ≡ callAnswerOn true group (Claim slot) state.old)
-        × (state.new ≡ callStateOn true group (Claim slot) state.old) }
+    ensures { (result ≡ call_answer_on true group (Claim slot) state.old)
+        × (state.new ≡ call_state_on true group (Claim slot) state.old) }
 {
     let first = refusal(state.len(), group);
     if first != 0 {
@@ -197,8 +197,8 @@ pub extern "C" fn levelspruce_card_claim(state: &mut [u8], group: u32, slot: u32
 
 #[unsafe(no_mangle)]
 pub extern "C" fn levelspruce_card_release(state: &mut [u8], group: u32, slot: u32) -> u8
-    ensures { (result ≡ callAnswerOn true group (Release slot) state.old)
-        × (state.new ≡ callStateOn true group (Release slot) state.old) }
+    ensures { (result ≡ call_answer_on true group (Release slot) state.old)
+        × (state.new ≡ call_state_on true group (Release slot) state.old) }
 {
     let first = refusal(state.len(), group);
     if first != 0 {
@@ -211,8 +211,8 @@ pub extern "C" fn levelspruce_card_release(state: &mut [u8], group: u32, slot: u
 
 #[unsafe(no_mangle)]
 pub extern "C" fn levelspruce_card_add(state: &mut [u8], group: u32, slot: u32) -> u8
-    ensures { (result ≡ callAnswerOn true group (AddSlot slot) state.old)
-        × (state.new ≡ callStateOn true group (AddSlot slot) state.old) }
+    ensures { (result ≡ call_answer_on true group (AddSlot slot) state.old)
+        × (state.new ≡ call_state_on true group (AddSlot slot) state.old) }
 {
     let first = refusal(state.len(), group);
     if first != 0 {
@@ -225,8 +225,8 @@ pub extern "C" fn levelspruce_card_add(state: &mut [u8], group: u32, slot: u32) 
 
 #[unsafe(no_mangle)]
 pub extern "C" fn levelspruce_card_remove(state: &mut [u8], group: u32, slot: u32) -> u8
-    ensures { (result ≡ callAnswerOn true group (RemoveSlot slot) state.old)
-        × (state.new ≡ callStateOn true group (RemoveSlot slot) state.old) }
+    ensures { (result ≡ call_answer_on true group (RemoveSlot slot) state.old)
+        × (state.new ≡ call_state_on true group (RemoveSlot slot) state.old) }
 {
     let first = refusal(state.len(), group);
     if first != 0 {
@@ -239,8 +239,8 @@ pub extern "C" fn levelspruce_card_remove(state: &mut [u8], group: u32, slot: u3
 
 #[unsafe(no_mangle)]
 pub extern "C" fn levelspruce_card_lapse(state: &mut [u8], group: u32) -> u8
-    ensures { (result ≡ callAnswerOn true group Lapse state.old)
-        × (state.new ≡ callStateOn true group Lapse state.old) }
+    ensures { (result ≡ call_answer_on true group Lapse state.old)
+        × (state.new ≡ call_state_on true group Lapse state.old) }
 {
     let first = refusal(state.len(), group);
     if first != 0 {
@@ -259,8 +259,8 @@ pub extern "C" fn levelspruce_card_report(
     mst: u32,
     rs_ack: u32,
 ) -> u8
-    ensures { (result ≡ callAnswerOn (are_bytes epoch mst rs_ack) group (Report epoch mst rs_ack) state.old)
-        × (state.new ≡ callStateOn (are_bytes epoch mst rs_ack) group (Report epoch mst rs_ack) state.old) }
+    ensures { (result ≡ call_answer_on (are_bytes epoch mst rs_ack) group (Report epoch mst rs_ack) state.old)
+        × (state.new ≡ call_state_on (are_bytes epoch mst rs_ack) group (Report epoch mst rs_ack) state.old) }
 {
     let first = refusal(state.len(), group);
     if first != 0 {
@@ -282,8 +282,8 @@ pub extern "C" fn levelspruce_card_start_epoch(
     mst: u32,
     rs_ack: u32,
 ) -> u8
-    ensures { (result ≡ callAnswerOn (are_bytes gid mst rs_ack) group (StartEpoch gid mst rs_ack) state.old)
-        × (state.new ≡ callStateOn (are_bytes gid mst rs_ack) group (StartEpoch gid mst rs_ack) state.old) }
+    ensures { (result ≡ call_answer_on (are_bytes gid mst rs_ack) group (StartEpoch gid mst rs_ack) state.old)
+        × (state.new ≡ call_state_on (are_bytes gid mst rs_ack) group (StartEpoch gid mst rs_ack) state.old) }
 {
     let first = refusal(state.len(), group);
     if first != 0 {
@@ -299,15 +299,15 @@ pub extern "C" fn levelspruce_card_start_epoch(
 
 // The owner of a slot, 0 where there is no such slot.
 fn owner_at(state: &[u8], slot: u32) -> u8
-    requires { length state.now ≡ cardBytes }
-    ensures { result ≡ ownerIn (ownersIn state.now) slot }
+    requires { length state.now ≡ card_bytes }
+    ensures { result ≡ owner_in (owners_in state.now) slot }
 {
     if slot < 64 { state[slot as usize] } else { 0 }
 }
 
 // 1, then 14, of a slot whose owner is known.
 fn slot_refusal(owner: u8, group: u32, count: u8, slot: u32) -> u8
-    ensures { result ≡ slotRefusal owner group count slot }
+    ensures { result ≡ slot_refusal owner group count slot }
 {
     let mark = cards::mark_of(group);
     let size = ground::size_byte(count);
@@ -319,9 +319,9 @@ fn slot_refusal(owner: u8, group: u32, count: u8, slot: u32) -> u8
 
 // The packet of a slot, from its owner and the group's own part. To read the whole card for it would take four times as long as the sender's call.
 fn packet_in(owner: u8, group: u32, part: &[u8], slot: u32, h4: &mut [u8]) -> u8
-    requires { length part.now ≡ stateBytes }
-    ensures { (result ≡ slotPacketAnswer owner group (senderOf part.now) slot h4.old)
-        × (h4.new ≡ slotPacketBytes owner group (senderOf part.now) slot h4.old) }
+    requires { length part.now ≡ state_bytes }
+    ensures { (result ≡ slot_packet_answer owner group (sender_of part.now) slot h4.old)
+        × (h4.new ≡ slot_packet_bytes owner group (sender_of part.now) slot h4.old) }
 {
     let sender = keeping::sender_of(part);
     let table = sender.table;
@@ -335,8 +335,8 @@ fn packet_in(owner: u8, group: u32, part: &[u8], slot: u32, h4: &mut [u8]) -> u8
 
 #[unsafe(no_mangle)]
 pub extern "C" fn levelspruce_card_packet(state: &[u8], group: u32, slot: u32, h4: &mut [u8]) -> u8
-    ensures { (result ≡ packetAnswerOn state.now group slot h4.old)
-        × (h4.new ≡ packetBytesOn state.now group slot h4.old) }
+    ensures { (result ≡ packet_answer_on state.now group slot h4.old)
+        × (h4.new ≡ packet_bytes_on state.now group slot h4.old) }
 {
     let first = refusal(state.len(), group);
     if first != 0 {
@@ -358,8 +358,8 @@ pub extern "C" fn levelspruce_card_payload(
     frame: &[u8],
     member: &mut [u8],
 ) -> u8
-    ensures { (result ≡ payloadAnswerOn state.now group slot p frame.now member.old)
-        × (member.new ≡ payloadBytesOn state.now group slot p frame.now member.old) }
+    ensures { (result ≡ payload_answer_on state.now group slot p frame.now member.old)
+        × (member.new ≡ payload_bytes_on state.now group slot p frame.now member.old) }
 {
     let first = refusal(state.len(), group);
     if first != 0 {
@@ -372,8 +372,8 @@ pub extern "C" fn levelspruce_card_payload(
 
 #[unsafe(no_mangle)]
 pub extern "C" fn levelspruce_card_board(state: &[u8], group: u32, board: &mut [u8]) -> u8
-    ensures { (result ≡ shownAnswerOn 130 state.now group board.old)
-        × (board.new ≡ boardBytesOn state.now group board.old) }
+    ensures { (result ≡ shown_answer_on 130 state.now group board.old)
+        × (board.new ≡ board_bytes_on state.now group board.old) }
 {
     let first = refusal(state.len(), group);
     if first != 0 {
@@ -391,8 +391,8 @@ pub extern "C" fn levelspruce_card_board(state: &[u8], group: u32, board: &mut [
 
 #[unsafe(no_mangle)]
 pub extern "C" fn levelspruce_card_board_going(state: &[u8], group: u32, board: &mut [u8]) -> u8
-    ensures { (result ≡ shownAnswerOn 130 state.now group board.old)
-        × (board.new ≡ outgoingBytesOn state.now group board.old) }
+    ensures { (result ≡ shown_answer_on 130 state.now group board.old)
+        × (board.new ≡ outgoing_bytes_on state.now group board.old) }
 {
     let first = refusal(state.len(), group);
     if first != 0 {
@@ -410,8 +410,8 @@ pub extern "C" fn levelspruce_card_board_going(state: &[u8], group: u32, board: 
 
 #[unsafe(no_mangle)]
 pub extern "C" fn levelspruce_card_ranks(state: &[u8], group: u32, ranks: &mut [u8]) -> u8
-    ensures { (result ≡ shownAnswerOn 68 state.now group ranks.old)
-        × (ranks.new ≡ ranksBytesOn state.now group ranks.old) }
+    ensures { (result ≡ shown_answer_on 68 state.now group ranks.old)
+        × (ranks.new ≡ ranks_bytes_on state.now group ranks.old) }
 {
     let first = refusal(state.len(), group);
     if first != 0 {
@@ -436,8 +436,8 @@ fn put_owned(owned: [u8; 64], out: &mut [u8])
 
 #[unsafe(no_mangle)]
 pub extern "C" fn levelspruce_card_owned(state: &[u8], group: u32, owned: &mut [u8]) -> u8
-    ensures { (result ≡ shownAnswerOn 64 state.now group owned.old)
-        × (owned.new ≡ ownedBytesOn state.now group owned.old) }
+    ensures { (result ≡ shown_answer_on 64 state.now group owned.old)
+        × (owned.new ≡ owned_bytes_on state.now group owned.old) }
 {
     let first = refusal(state.len(), group);
     if first != 0 {

@@ -1,9 +1,9 @@
 // The spoken board for C: boards compared, changes applied and spoken, each lent whole as bytes.
 ghost use Rattle.std.specs.Prelude.{◌≡◌, ◌+◌, ◌*◌, ◌<◌, length};
-ghost use Rattle.ground.specs.Drawn.{fillAt};
-ghost use Rattle.spoken.specs.Shown.{waitCode};
-ghost use Rattle.c_face.specs.Boards.{boardBytes};
-ghost use Rattle.c_cards.specs.Changes.{appliedAnswerC, appliedBytesC, boardFrom, changeBytes, changeFrom, changesBytes, changesBytesOf, changesFrom, comparedAnswerC, comparedBytesC, listByte, list_from, spokenAnswerC, spokenBytesC, waitFrom, writtenC};
+ghost use Rattle.ground.specs.Drawn.{fill_at};
+ghost use Rattle.spoken.specs.Shown.{wait_code};
+ghost use Rattle.c_face.specs.Boards.{board_bytes};
+ghost use Rattle.c_cards.specs.Changes.{applied_answer_c, applied_bytes_c, board_from, change_bytes, change_from, changes_bytes, changes_bytes_of, changes_from, compared_answer_c, compared_bytes_c, list_byte, list_from, spoken_answer_c, spoken_bytes_c, wait_from, written_c};
 
 use crate::{boards, keeping};
 use c_face::boards::BOARD_BYTES;
@@ -15,8 +15,8 @@ use spoken::{Change, Changes, WaitChange};
 pub(crate) const CHANGES_BYTES: usize = 322;
 
 pub(crate) fn board_from(bytes: &[u8]) -> Board
-    requires { length bytes.now ≡ boardBytes }
-    ensures { result ≡ boardFrom bytes.now }
+    requires { length bytes.now ≡ board_bytes }
+    ensures { result ≡ board_from bytes.now }
 {
     let count = bytes[0];
     let wait = bytes[1];
@@ -24,7 +24,7 @@ pub(crate) fn board_from(bytes: &[u8]) -> Board
 }
 
 fn wait_from(byte: u8) -> WaitChange
-    ensures { result ≡ waitFrom byte }
+    ensures { result ≡ wait_from byte }
 {
     match byte {
         1 => WaitChange::Opened,
@@ -34,7 +34,7 @@ fn wait_from(byte: u8) -> WaitChange
 }
 
 fn wait_code(wait: WaitChange) -> u8
-    ensures { result ≡ waitCode wait }
+    ensures { result ≡ wait_code wait }
 {
     match wait {
         WaitChange::Same => 0,
@@ -44,8 +44,8 @@ fn wait_code(wait: WaitChange) -> u8
 }
 
 fn change_from(bytes: &[u8], i: usize) -> Change
-    requires { (length bytes.now ≡ changesBytes) × (i < 64) }
-    ensures { result ≡ changeFrom bytes.now i }
+    requires { (length bytes.now ≡ changes_bytes) × (i < 64) }
+    ensures { result ≡ change_from bytes.now i }
 {
     let slot = bytes[2 + 5 * i];
     let old_word = bytes[2 + 5 * i + 1];
@@ -66,7 +66,7 @@ fn change_from(bytes: &[u8], i: usize) -> Change
 }
 
 fn list_from(bytes: &[u8]) -> [Change; 64]
-    requires { length bytes.now ≡ changesBytes }
+    requires { length bytes.now ≡ changes_bytes }
     ensures { result ≡ list_from bytes.now }
 {
     let blank = change_from(bytes, 0);
@@ -81,8 +81,8 @@ fn list_from(bytes: &[u8]) -> [Change; 64]
 }
 
 pub(crate) fn changes_from(bytes: &[u8]) -> Changes
-    requires { length bytes.now ≡ changesBytes }
-    ensures { result ≡ changesFrom bytes.now }
+    requires { length bytes.now ≡ changes_bytes }
+    ensures { result ≡ changes_from bytes.now }
 {
     let count = bytes[0];
     let wait = bytes[1];
@@ -94,7 +94,7 @@ pub(crate) fn changes_from(bytes: &[u8]) -> Changes
 }
 
 fn change_bytes(change: Change) -> [u8; 5]
-    ensures { result ≡ changeBytes change }
+    ensures { result ≡ change_bytes change }
 {
     let old = change.old;
     let new = change.new;
@@ -104,8 +104,8 @@ fn change_bytes(change: Change) -> [u8; 5]
 }
 
 fn put_list(list: [Change; 64], out: &mut [u8])
-    requires { length out.old ≡ changesBytes }
-    ensures { out.new ≡ fillAt 2 320 (listByte list) out.old }
+    requires { length out.old ≡ changes_bytes }
+    ensures { out.new ≡ fill_at 2 320 (list_byte list) out.old }
 {
     let mut i = 0;
     while i < 64 {
@@ -117,8 +117,8 @@ fn put_list(list: [Change; 64], out: &mut [u8])
 }
 
 pub(crate) fn put_changes(changes: Changes, out: &mut [u8])
-    requires { length out.old ≡ changesBytes }
-    ensures { out.new ≡ changesBytesOf changes }
+    requires { length out.old ≡ changes_bytes }
+    ensures { out.new ≡ changes_bytes_of changes }
 {
     let wait = changes.wait;
     let head = [changes.count, wait_code(wait)];
@@ -129,8 +129,8 @@ pub(crate) fn put_changes(changes: Changes, out: &mut [u8])
 
 #[unsafe(no_mangle)]
 pub extern "C" fn levelspruce_board_changes(before: &[u8], after: &[u8], changes: &mut [u8]) -> u8
-    ensures { (result ≡ comparedAnswerC before.now after.now changes.old)
-        × (changes.new ≡ comparedBytesC before.now after.now changes.old) }
+    ensures { (result ≡ compared_answer_c before.now after.now changes.old)
+        × (changes.new ≡ compared_bytes_c before.now after.now changes.old) }
 {
     if before.len() != BOARD_BYTES {
         return 9;
@@ -156,8 +156,8 @@ pub extern "C" fn levelspruce_board_changes(before: &[u8], after: &[u8], changes
 
 #[unsafe(no_mangle)]
 pub extern "C" fn levelspruce_board_apply(board: &mut [u8], changes: &[u8]) -> u8
-    ensures { (result ≡ appliedAnswerC board.old changes.now)
-        × (board.new ≡ appliedBytesC board.old changes.now) }
+    ensures { (result ≡ applied_answer_c board.old changes.now)
+        × (board.new ≡ applied_bytes_c board.old changes.now) }
 {
     if board.len() != BOARD_BYTES {
         return 9;
@@ -187,9 +187,9 @@ pub extern "C" fn levelspruce_board_speak(
     text: &mut [u8],
     written: &mut usize,
 ) -> u8
-    ensures { (result ≡ spokenAnswerC changes.now text.old)
-        × (text.new ≡ spokenBytesC changes.now text.old)
-        × (written.new ≡ writtenC changes.now text.old written.old) }
+    ensures { (result ≡ spoken_answer_c changes.now text.old)
+        × (text.new ≡ spoken_bytes_c changes.now text.old)
+        × (written.new ≡ written_c changes.now text.old written.old) }
 {
     if changes.len() != CHANGES_BYTES {
         return 9;

@@ -1,13 +1,13 @@
 // A whole work order for C: each command is the card's own C call, on the bytes that those before it left. So it is one by one on any bytes.
 ghost use Rattle.std.specs.Prelude.{◌≡◌, length};
-ghost use Rattle.c_cards.specs.Orders.{commandAnswerOn, commandStateOn, kindAnswerOn, kindStateOn, orderAnswerOn, orderAnswersOn, orderStateOn, ordersOn};
+ghost use Rattle.c_cards.specs.Orders.{command_answer_on, command_state_on, kind_answer_on, kind_state_on, order_answer_on, order_answers_on, order_state_on, orders_on};
 
 use crate::card_calls;
 use crate::card_calls::CARD_BYTES;
 
 // 'kind, group and slot': 8 for a number that is no kind, before all that its own call answers.
 fn by_kind(kind: u32, group: u32, slot: u32, state: &mut [u8]) -> u8
-    ensures { (result ≡ kindAnswerOn kind group slot state.old) × (state.new ≡ kindStateOn kind group slot state.old) }
+    ensures { (result ≡ kind_answer_on kind group slot state.old) × (state.new ≡ kind_state_on kind group slot state.old) }
 {
     match kind {
         0 => card_calls::levelspruce_card_add(state, group, slot),
@@ -19,15 +19,15 @@ fn by_kind(kind: u32, group: u32, slot: u32, state: &mut [u8]) -> u8
 }
 
 fn one(command: [u32; 3], state: &mut [u8]) -> u8
-    ensures { (result ≡ commandAnswerOn state.old command) × (state.new ≡ commandStateOn state.old command) }
+    ensures { (result ≡ command_answer_on state.old command) × (state.new ≡ command_state_on state.old command) }
 {
     by_kind(command[0], command[1], command[2], state)
 }
 
 fn each(state: &mut [u8], commands: &[[u32; 3]], answers: &mut [u8])
     requires { length commands.now ≡ length answers.old }
-    ensures { (state.new ≡ (ordersOn state.old commands.now).state)
-        × (answers.new ≡ (ordersOn state.old commands.now).numbers) }
+    ensures { (state.new ≡ (orders_on state.old commands.now).state)
+        × (answers.new ≡ (orders_on state.old commands.now).numbers) }
 {
     let mut i = 0;
     while i < commands.len() {
@@ -44,9 +44,9 @@ pub extern "C" fn levelspruce_card_order(
     commands: &[[u32; 3]],
     answers: &mut [u8],
 ) -> u8
-    ensures { (result ≡ orderAnswerOn state.old commands.now answers.old)
-        × (state.new ≡ orderStateOn state.old commands.now answers.old)
-        × (answers.new ≡ orderAnswersOn state.old commands.now answers.old) }
+    ensures { (result ≡ order_answer_on state.old commands.now answers.old)
+        × (state.new ≡ order_state_on state.old commands.now answers.old)
+        × (answers.new ≡ order_answers_on state.old commands.now answers.old) }
 {
     if state.len() != CARD_BYTES {
         return 9;

@@ -1,7 +1,7 @@
 // The changes of the board going out for C. 'A board is taken only at an epoch's start': the board is taken from the state itself and not handed in, so
 // that a console cannot speak another.
 ghost use Rattle.std.specs.Prelude.{◌≡◌};
-ghost use Rattle.c_cards.specs.Going.{changesAnswerC, changesAnswerOn, changesBytesC, changesBytesOn, changesToldC, changesToldOn, goingAnswer, goingChanges, goingTold};
+ghost use Rattle.c_cards.specs.Going.{changes_answer_c, changes_answer_on, changes_bytes_c, changes_bytes_on, changes_told_c, changes_told_on, going_answer, going_changes, going_told};
 
 use crate::changes::CHANGES_BYTES;
 use crate::{boards, card_calls, changes, keeping};
@@ -10,9 +10,9 @@ use c_face::keeping::SENDER_BYTES;
 use sender::Board;
 
 fn tell(going: Board, told: &mut [u8], changes: &mut [u8]) -> u8
-    ensures { (result ≡ goingAnswer going told.old changes.old)
-        × (told.new ≡ goingTold going told.old changes.old)
-        × (changes.new ≡ goingChanges going told.old changes.old) }
+    ensures { (result ≡ going_answer going told.old changes.old)
+        × (told.new ≡ going_told going told.old changes.old)
+        × (changes.new ≡ going_changes going told.old changes.old) }
 {
     if told.len() != BOARD_BYTES {
         return 9;
@@ -39,9 +39,9 @@ pub extern "C" fn levelspruce_sender_changes(
     told: &mut [u8],
     changes: &mut [u8],
 ) -> u8
-    ensures { (result ≡ changesAnswerC state.now told.old changes.old)
-        × (told.new ≡ changesToldC state.now told.old changes.old)
-        × (changes.new ≡ changesBytesC state.now told.old changes.old) }
+    ensures { (result ≡ changes_answer_c state.now told.old changes.old)
+        × (told.new ≡ changes_told_c state.now told.old changes.old)
+        × (changes.new ≡ changes_bytes_c state.now told.old changes.old) }
 {
     if state.len() != SENDER_BYTES {
         return 9;
@@ -58,9 +58,9 @@ pub extern "C" fn levelspruce_card_changes(
     told: &mut [u8],
     changes: &mut [u8],
 ) -> u8
-    ensures { (result ≡ changesAnswerOn state.now group told.old changes.old)
-        × (told.new ≡ changesToldOn state.now group told.old changes.old)
-        × (changes.new ≡ changesBytesOn state.now group told.old changes.old) }
+    ensures { (result ≡ changes_answer_on state.now group told.old changes.old)
+        × (told.new ≡ changes_told_on state.now group told.old changes.old)
+        × (changes.new ≡ changes_bytes_on state.now group told.old changes.old) }
 {
     let first = card_calls::refusal(state.len(), group);
     if first != 0 {

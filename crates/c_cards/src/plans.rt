@@ -1,13 +1,13 @@
 // Which paths to join, for C: the planner's proposal and the check of any, each into one lent buffer.
 ghost use Rattle.std.specs.Prelude.{◌≡◌, length};
-ghost use Rattle.c_cards.specs.Plans.{checkAnswerC, checkByteC, planAnswerC, planBytesC, planBytesOf};
+ghost use Rattle.c_cards.specs.Plans.{check_answer_c, check_byte_c, plan_answer_c, plan_bytes_c, plan_bytes_of};
 
 use crate::keeping;
 use paths::Proposal;
 
 fn put_plan(plan: Proposal, out: &mut [u8])
     requires { length out.old ≡ 65 }
-    ensures { out.new ≡ planBytesOf plan }
+    ensures { out.new ≡ plan_bytes_of plan }
 {
     let head = [plan.count];
     let each = plan.paths;
@@ -17,8 +17,8 @@ fn put_plan(plan: Proposal, out: &mut [u8])
 
 #[unsafe(no_mangle)]
 pub extern "C" fn levelspruce_paths_plan(delays: &[u32], k: u32, window: u32, plan: &mut [u8]) -> u8
-    ensures { (result ≡ planAnswerC delays.now k window plan.old)
-        × (plan.new ≡ planBytesC delays.now k window plan.old) }
+    ensures { (result ≡ plan_answer_c delays.now k window plan.old)
+        × (plan.new ≡ plan_bytes_c delays.now k window plan.old) }
 {
     let proposal = paths::plan(delays, k, window);
     let answer = proposal.answer;
@@ -41,8 +41,8 @@ pub extern "C" fn levelspruce_paths_check(
     set: &[u8],
     accepted: &mut [u8],
 ) -> u8
-    ensures { (result ≡ checkAnswerC delays.now k window accepted.old)
-        × (accepted.new ≡ checkByteC delays.now k window set.now accepted.old) }
+    ensures { (result ≡ check_answer_c delays.now k window accepted.old)
+        × (accepted.new ≡ check_byte_c delays.now k window set.now accepted.old) }
 {
     let checked = paths::check(delays, k, window, set);
     let answer = checked.answer;

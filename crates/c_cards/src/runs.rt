@@ -1,6 +1,6 @@
 // The spoken board in runs, for C: changes, and a whole board as it stands.
 ghost use Rattle.std.specs.Prelude.{◌≡◌};
-ghost use Rattle.c_cards.specs.Runs.{runsAnswerC, runsBytesC, runsWrittenC, wholeAnswerC, wholeBytesC, wholeWrittenC};
+ghost use Rattle.c_cards.specs.Runs.{runs_answer_c, runs_bytes_c, runs_written_c, whole_answer_c, whole_bytes_c, whole_written_c};
 
 use crate::changes;
 use crate::changes::CHANGES_BYTES;
@@ -12,9 +12,9 @@ pub extern "C" fn levelspruce_board_speak_runs(
     text: &mut [u8],
     written: &mut usize,
 ) -> u8
-    ensures { (result ≡ runsAnswerC changes.now text.old)
-        × (text.new ≡ runsBytesC changes.now text.old)
-        × (written.new ≡ runsWrittenC changes.now text.old written.old) }
+    ensures { (result ≡ runs_answer_c changes.now text.old)
+        × (text.new ≡ runs_bytes_c changes.now text.old)
+        × (written.new ≡ runs_written_c changes.now text.old written.old) }
 {
     if changes.len() != CHANGES_BYTES {
         return 9;
@@ -42,9 +42,9 @@ pub extern "C" fn levelspruce_board_speak_whole(
     text: &mut [u8],
     written: &mut usize,
 ) -> u8
-    ensures { (result ≡ wholeAnswerC board.now text.old)
-        × (text.new ≡ wholeBytesC board.now text.old)
-        × (written.new ≡ wholeWrittenC board.now text.old written.old) }
+    ensures { (result ≡ whole_answer_c board.now text.old)
+        × (text.new ≡ whole_bytes_c board.now text.old)
+        × (written.new ≡ whole_written_c board.now text.old written.old) }
 {
     if board.len() != BOARD_BYTES {
         return 9;

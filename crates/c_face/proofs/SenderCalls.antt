@@ -8,19 +8,19 @@ use native.Mathlib.Omega.{arith}
 use lib.Dec.{eqb, ltb}
 use lib.ListN.{length}
 use borrow.Author.Tests.{eq-eqb, ne_eqb, ltb-true, not-false}
-use Rattle.ground.specs.Truth.{and_left, and_right, le-or-lt}
+use Rattle.ground.specs.Truth.{and_left, and_right, le_or_lt}
 use Rattle.packet.specs.Laws.Clock.{by}
 use Rattle.packet.specs.Laws.Known as Known
 use Rattle.packet.specs.Kinds as K
-use Rattle.packet.specs.Kinds.{epochs, knownKind}
-use Rattle.packet.specs.Theorems.Tags.{epochs-fit}
+use Rattle.packet.specs.Kinds.{epochs, known_kind}
+use Rattle.packet.specs.Theorems.Tags.{epochs_fit}
 use Rattle.sender.specs.declared.epochs.Sender.{Sender}
 use Rattle.sender.specs.declared.epochs.SenderOutcome.{SenderOutcome}
 use Rattle.sender.specs.declared.table.Answer.{Answer}
-use Rattle.sender.specs.Epochs.{SenderCall, beginOf, packetAnswer, packetBytes, payloadAnswer, payloadBytes, senderOutcomeOf}
-use Rattle.sender.specs.Table.{answerNumber}
-use Rattle.c_face.specs.Keeping.{bytes_of, senderOf}
-use Rattle.c_face.specs.Senders.{are_bytes, callAnswerC, callStateC, isEpoch, keptBytes, noStart, outside, packetAnswerC, packetBytesC, payloadAnswerC, payloadBytesC, sends, startAnswerC, startStateC}
+use Rattle.sender.specs.Epochs.{SenderCall, begin_of, packet_answer, packet_bytes, payload_answer, payload_bytes, sender_outcome_of}
+use Rattle.sender.specs.Table.{answer_number}
+use Rattle.c_face.specs.Keeping.{bytes_of, sender_of}
+use Rattle.c_face.specs.Senders.{are_bytes, call_answer_c, call_state_c, is_epoch, kept_bytes, no_start, outside, packet_answer_c, packet_bytes_c, payload_answer_c, payload_bytes_c, sends, start_answer_c, start_state_c}
 
 pub record Three (a b c : ℕ) : Type 0 where
   pub first : a < 256
@@ -36,26 +36,26 @@ three_said a b c t =
       third = ltb-true c 256 (and_right (ltb a 256 && ltb b 256) (ltb c 256) t);
     }
 
-module _ (outcome : SenderOutcome) (old : List ℕ) (n : ℕ) (e : n ≡ answerNumber outcome.answer) where
-  pub keep-refused : (n ≡ 0 → ⊥) → (n ≡ answerNumber outcome.answer) × (old ≡ keptBytes outcome old)
-  keep-refused d = (e, rw (ne_eqb (answerNumber outcome.answer) 0 (λ z. d (e ∙ z))) refl)
+module _ (outcome : SenderOutcome) (old : List ℕ) (n : ℕ) (e : n ≡ answer_number outcome.answer) where
+  pub keep_refused : (n ≡ 0 → ⊥) → (n ≡ answer_number outcome.answer) × (old ≡ kept_bytes outcome old)
+  keep_refused d = (e, rw (ne_eqb (answer_number outcome.answer) 0 (λ z. d (e ∙ z))) refl)
 
-  pub keep-done : (out : List ℕ) → n ≡ 0 → out ≡ bytes_of outcome.sender → (0 ≡ answerNumber outcome.answer) × (out ≡ keptBytes outcome old)
-  keep-done out z h = (sym z ∙ e, rw (eq-eqb (answerNumber outcome.answer) 0 (sym e ∙ z)) h)
+  pub keep_done : (out : List ℕ) → n ≡ 0 → out ≡ bytes_of outcome.sender → (0 ≡ answer_number outcome.answer) × (out ≡ kept_bytes outcome old)
+  keep_done out z h = (sym z ∙ e, rw (eq-eqb (answer_number outcome.answer) 0 (sym e ∙ z)) h)
 
 module _ (state : List ℕ) (fits : Bool) (call : SenderCall) where
-  pub call_length : (length state ≡ 397 → ⊥) → (9 ≡ callAnswerC fits call state) × (state ≡ callStateC fits call state)
-  unfolding callAnswerC callStateC
+  pub call_length : (length state ≡ 397 → ⊥) → (9 ≡ call_answer_c fits call state) × (state ≡ call_state_c fits call state)
+  unfolding call_answer_c call_state_c
   call_length d = rw (ne_eqb (length state) 397 d) (refl, refl)
 
-  pub call-unfit : length state ≡ 397 → fits ≡ false → (8 ≡ callAnswerC fits call state) × (state ≡ callStateC fits call state)
-  unfolding callAnswerC callStateC
-  call-unfit l f = rw (eq-eqb (length state) 397 l, f) (refl, refl)
+  pub call_unfit : length state ≡ 397 → fits ≡ false → (8 ≡ call_answer_c fits call state) × (state ≡ call_state_c fits call state)
+  unfolding call_answer_c call_state_c
+  call_unfit l f = rw (eq-eqb (length state) 397 l, f) (refl, refl)
 
-  pub call_kept : (s : Sender) (outcome : SenderOutcome) (r : ℕ) (out : List ℕ) → length state ≡ 397 → fits ≡ true → s ≡ senderOf state
-      → outcome ≡ senderOutcomeOf s call → (r ≡ answerNumber outcome.answer) × (out ≡ keptBytes outcome state)
-      → (r ≡ callAnswerC fits call state) × (out ≡ callStateC fits call state)
-  unfolding callAnswerC callStateC
+  pub call_kept : (s : Sender) (outcome : SenderOutcome) (r : ℕ) (out : List ℕ) → length state ≡ 397 → fits ≡ true → s ≡ sender_of state
+      → outcome ≡ sender_outcome_of s call → (r ≡ answer_number outcome.answer) × (out ≡ kept_bytes outcome state)
+      → (r ≡ call_answer_c fits call state) × (out ≡ call_state_c fits call state)
+  unfolding call_answer_c call_state_c
   call_kept s outcome r out l f es e k = rw (eq-eqb (length state) 397 l, f, ← es, ← e) k
 
 -- a number that is no byte is no kind
@@ -63,69 +63,69 @@ pub unknown : (kind : ℕ) → 255 < kind → false ≡ sends kind
 unfolding sends
 unknown kind h = rw (Known.unknown kind h) refl
 
-pub known-sent : (kind : ℕ) (known : Bool) → known ≡ knownKind kind → (known && not (eqb kind 2)) ≡ sends kind
+pub known_sent : (kind : ℕ) (known : Bool) → known ≡ known_kind kind → (known && not (eqb kind 2)) ≡ sends kind
 unfolding sends
-known-sent kind known e = ap (λ (b : Bool). b && not (eqb kind 2)) e
+known_sent kind known e = ap (λ (b : Bool). b && not (eqb kind 2)) e
 
-pub sent-byte : (kind : ℕ) → sends kind ≡ true → kind < 256
-sent-byte kind t = ⊎_elim (λ (h : 256 ≤ kind). absurd (true≢false (sym t ∙ sym (unknown kind (omega arith))))) (λ (h : kind < 256). h) (le-or-lt 256 kind)
+pub sent_byte : (kind : ℕ) → sends kind ≡ true → kind < 256
+sent_byte kind t = ⊎_elim (λ (h : 256 ≤ kind). absurd (true≢false (sym t ∙ sym (unknown kind (omega arith))))) (λ (h : kind < 256). h) (le_or_lt 256 kind)
 
 neither : (b c : Bool) → (b || c) ≡ false → c ≡ false
 neither true c h = absurd (true≢false h)
 neither false c h = h
 
 -- a start that is not refused with 4 has a kind that is a byte
-pub kind-byte : (kind count : ℕ) → noStart kind count ≡ false → kind < 256
-kind-byte kind count o = sent-byte kind (not-false (sends kind) (neither (outside count) (not (sends kind)) o))
+pub kind_byte : (kind count : ℕ) → no_start kind count ≡ false → kind < 256
+kind_byte kind count o = sent_byte kind (not-false (sends kind) (neither (outside count) (not (sends kind)) o))
 
 -- how many epochs a kind has, by how many frames they and it have
-pub epochs-by : (kind tags frames : ℕ) → tags ≡ K.tags kind → frames ≡ K.frames kind → tags / frames ≡ epochs kind
-epochs-by kind tags frames t f = rw (t, f) (by (λ f e t l. t / f ≡ e) refl refl kind)
+pub epochs_by : (kind tags frames : ℕ) → tags ≡ K.tags kind → frames ≡ K.frames kind → tags / frames ≡ epochs kind
+epochs_by kind tags frames t f = rw (t, f) (by (λ f e t l. t / f ≡ e) refl refl kind)
 
-pub epoch-byte : (kind e : ℕ) → isEpoch kind e ≡ true → e < 256
-epoch-byte kind e t = let l = ltb-true e (epochs kind) t in let m = epochs-fit kind in omega arith
+pub epoch_byte : (kind e : ℕ) → is_epoch kind e ≡ true → e < 256
+epoch_byte kind e t = let l = ltb-true e (epochs kind) t in let m = epochs_fit kind in omega arith
 
 module _ (kind count first : ℕ) (state : List ℕ) where
-  pub start_none : (length state ≡ 397 → ⊥) → noStart kind count ≡ true → (4 ≡ startAnswerC kind count first state) × (state ≡ startStateC kind count first state)
-  unfolding startAnswerC startStateC
+  pub start_none : (length state ≡ 397 → ⊥) → no_start kind count ≡ true → (4 ≡ start_answer_c kind count first state) × (state ≡ start_state_c kind count first state)
+  unfolding start_answer_c start_state_c
   start_none d o = rw (ne_eqb (length state) 397 d, o) (refl, refl)
 
-  pub start-length : (length state ≡ 397 → ⊥) → noStart kind count ≡ false → (9 ≡ startAnswerC kind count first state) × (state ≡ startStateC kind count first state)
-  unfolding startAnswerC startStateC
-  start-length d o = rw (ne_eqb (length state) 397 d, o) (refl, refl)
+  pub start_length : (length state ≡ 397 → ⊥) → no_start kind count ≡ false → (9 ≡ start_answer_c kind count first state) × (state ≡ start_state_c kind count first state)
+  unfolding start_answer_c start_state_c
+  start_length d o = rw (ne_eqb (length state) 397 d, o) (refl, refl)
 
-  pub start_outside : (out : List ℕ) → length state ≡ 397 → noStart kind count ≡ true → out ≡ bytes_of (beginOf 0 0 0).sender
-      → (4 ≡ startAnswerC kind count first state) × (out ≡ startStateC kind count first state)
-  unfolding startAnswerC startStateC
+  pub start_outside : (out : List ℕ) → length state ≡ 397 → no_start kind count ≡ true → out ≡ bytes_of (begin_of 0 0 0).sender
+      → (4 ≡ start_answer_c kind count first state) × (out ≡ start_state_c kind count first state)
+  unfolding start_answer_c start_state_c
   start_outside out l o h = rw (eq-eqb (length state) 397 l, o) (refl, h)
 
-  pub start-unfit : length state ≡ 397 → noStart kind count ≡ false → isEpoch kind first ≡ false → (8 ≡ startAnswerC kind count first state) × (state ≡ startStateC kind count first state)
-  unfolding startAnswerC startStateC
-  start-unfit l o b = rw (eq-eqb (length state) 397 l, o, b) (refl, refl)
+  pub start_unfit : length state ≡ 397 → no_start kind count ≡ false → is_epoch kind first ≡ false → (8 ≡ start_answer_c kind count first state) × (state ≡ start_state_c kind count first state)
+  unfolding start_answer_c start_state_c
+  start_unfit l o b = rw (eq-eqb (length state) 397 l, o, b) (refl, refl)
 
-  pub start-done : (out : List ℕ) → length state ≡ 397 → noStart kind count ≡ false → isEpoch kind first ≡ true → out ≡ bytes_of (beginOf kind count first).sender
-      → (0 ≡ startAnswerC kind count first state) × (out ≡ startStateC kind count first state)
-  unfolding startAnswerC startStateC
-  start-done out l o b h = rw (eq-eqb (length state) 397 l, o, b) (refl, h)
+  pub start_done : (out : List ℕ) → length state ≡ 397 → no_start kind count ≡ false → is_epoch kind first ≡ true → out ≡ bytes_of (begin_of kind count first).sender
+      → (0 ≡ start_answer_c kind count first state) × (out ≡ start_state_c kind count first state)
+  unfolding start_answer_c start_state_c
+  start_done out l o b h = rw (eq-eqb (length state) 397 l, o, b) (refl, h)
 
 module _ (state : List ℕ) (slot : ℕ) (h4 : List ℕ) where
-  pub packet-length : (length state ≡ 397 → ⊥) → (9 ≡ packetAnswerC state slot h4) × (h4 ≡ packetBytesC state slot h4)
-  unfolding packetAnswerC packetBytesC
-  packet-length d = rw (ne_eqb (length state) 397 d) (refl, refl)
+  pub packet_length : (length state ≡ 397 → ⊥) → (9 ≡ packet_answer_c state slot h4) × (h4 ≡ packet_bytes_c state slot h4)
+  unfolding packet_answer_c packet_bytes_c
+  packet_length d = rw (ne_eqb (length state) 397 d) (refl, refl)
 
-  pub packet-own : (s : Sender) (a : Answer) (r : ℕ) (out : List ℕ) → length state ≡ 397 → s ≡ senderOf state
-      → a ≡ packetAnswer s slot h4 → out ≡ packetBytes s slot h4 → r ≡ answerNumber a
-      → (r ≡ packetAnswerC state slot h4) × (out ≡ packetBytesC state slot h4)
-  unfolding packetAnswerC packetBytesC
-  packet-own s a r out l es ea eo er = rw (eq-eqb (length state) 397 l, ← es) (er ∙ ap answerNumber ea, eo)
+  pub packet_own : (s : Sender) (a : Answer) (r : ℕ) (out : List ℕ) → length state ≡ 397 → s ≡ sender_of state
+      → a ≡ packet_answer s slot h4 → out ≡ packet_bytes s slot h4 → r ≡ answer_number a
+      → (r ≡ packet_answer_c state slot h4) × (out ≡ packet_bytes_c state slot h4)
+  unfolding packet_answer_c packet_bytes_c
+  packet_own s a r out l es ea eo er = rw (eq-eqb (length state) 397 l, ← es) (er ∙ ap answer_number ea, eo)
 
 module _ (state : List ℕ) (slot P : ℕ) (frame member : List ℕ) where
-  pub payload-length : (length state ≡ 397 → ⊥) → (9 ≡ payloadAnswerC state slot P frame member) × (member ≡ payloadBytesC state slot P frame member)
-  unfolding payloadAnswerC payloadBytesC
-  payload-length d = rw (ne_eqb (length state) 397 d) (refl, refl)
+  pub payload_length : (length state ≡ 397 → ⊥) → (9 ≡ payload_answer_c state slot P frame member) × (member ≡ payload_bytes_c state slot P frame member)
+  unfolding payload_answer_c payload_bytes_c
+  payload_length d = rw (ne_eqb (length state) 397 d) (refl, refl)
 
-  pub payload-own : (s : Sender) (a : Answer) (r : ℕ) (out : List ℕ) → length state ≡ 397 → s ≡ senderOf state
-      → a ≡ payloadAnswer s slot P (length frame) (length member) → out ≡ payloadBytes s slot P frame member → r ≡ answerNumber a
-      → (r ≡ payloadAnswerC state slot P frame member) × (out ≡ payloadBytesC state slot P frame member)
-  unfolding payloadAnswerC payloadBytesC
-  payload-own s a r out l es ea eo er = rw (eq-eqb (length state) 397 l, ← es) (er ∙ ap answerNumber ea, eo)
+  pub payload_own : (s : Sender) (a : Answer) (r : ℕ) (out : List ℕ) → length state ≡ 397 → s ≡ sender_of state
+      → a ≡ payload_answer s slot P (length frame) (length member) → out ≡ payload_bytes s slot P frame member → r ≡ answer_number a
+      → (r ≡ payload_answer_c state slot P frame member) × (out ≡ payload_bytes_c state slot P frame member)
+  unfolding payload_answer_c payload_bytes_c
+  payload_own s a r out l es ea eo er = rw (eq-eqb (length state) 397 l, ← es) (er ∙ ap answer_number ea, eo)

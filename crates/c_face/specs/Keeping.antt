@@ -1,7 +1,7 @@
 -- The sender's state as 397 bytes. Bytes 0 to 127 are the slots' states and numbers in turn, 128 to 255 the words and numbers now going out,
 -- 256 to 383 those that rule, then the fields. Any bytes are a sender: what no call writes is read as said here.
 use Rattle.std.specs.Prelude.{◌≡◌, List, [], ◌∷◌, ℕ, ◌+◌, ◌-◌, ◌*◌, ◌/◌, ◌%◌, get_or, length}
-use Rattle.ground.specs.Flags.{flagOf, oneIf}
+use Rattle.ground.specs.Flags.{flag_of, one_if}
 use Rattle.ground.specs.Plain.{if◌then◌else◌, ◌==◌, ◌<?◌}
 use Rattle.ground.specs.Table.{tabulate}
 use Rattle.ground.specs.Types.{Bytes}
@@ -17,11 +17,11 @@ use Rattle.sender.specs.Ranks.{row_at}
 use Rattle.sender.specs.Table.{slot_at}
 
 -- how many bytes a state has
-abbrev pub stateBytes : ℕ
-stateBytes = 397
+abbrev pub state_bytes : ℕ
+state_bytes = 397
 
-abbrev byteIn : Bytes → ℕ → ℕ
-byteIn bytes k = get_or bytes k 0
+abbrev byte_in : Bytes → ℕ → ℕ
+byte_in bytes k = get_or bytes k 0
 
 -- a state byte other than 1, 2 and 3 counts as IDLE
 abbrev pub state_of : ℕ → State
@@ -35,64 +35,64 @@ code_of Dnu = 3
 
 -- Reading.
 
-abbrev pub slotIn : Bytes → ℕ → Slot
-slotIn bytes i = record { state = state_of (byteIn bytes (2 * i)); number = byteIn bytes (2 * i + 1) }
+abbrev pub slot_in : Bytes → ℕ → Slot
+slot_in bytes i = record { state = state_of (byte_in bytes (2 * i)); number = byte_in bytes (2 * i + 1) }
 
-unfoldable pub slotsIn : Bytes → List Slot
-slotsIn bytes = tabulate 64 (slotIn bytes)
+unfoldable pub slots_in : Bytes → List Slot
+slots_in bytes = tabulate 64 (slot_in bytes)
 
 abbrev pub row_in : (bytes : Bytes) (at i : ℕ) → Row
-row_in bytes at i = record { word = word (byteIn bytes (at + 2 * i)); number = byteIn bytes (at + 2 * i + 1) }
+row_in bytes at i = record { word = word (byte_in bytes (at + 2 * i)); number = byte_in bytes (at + 2 * i + 1) }
 
-unfoldable pub rowsIn : Bytes → ℕ → List Row
-rowsIn bytes at = tabulate 64 (row_in bytes at)
+unfoldable pub rows_in : Bytes → ℕ → List Row
+rows_in bytes at = tabulate 64 (row_in bytes at)
 
-abbrev pub tableIn : Bytes → Table
-tableIn bytes =
-    record { slots = slotsIn bytes; count = byteIn bytes 384; wait = flagOf (byteIn bytes 385); remembered = byteIn bytes 386; kind = byteIn bytes 387 }
+abbrev pub table_in : Bytes → Table
+table_in bytes =
+    record { slots = slots_in bytes; count = byte_in bytes 384; wait = flag_of (byte_in bytes 385); remembered = byte_in bytes 386; kind = byte_in bytes 387 }
 
-abbrev pub boardIn : (bytes : Bytes) (at count wait : ℕ) → Board
-boardIn bytes at count wait = record { rows = rowsIn bytes at; count = count; wait = flagOf wait }
+abbrev pub board_in : (bytes : Bytes) (at count wait : ℕ) → Board
+board_in bytes at count wait = record { rows = rows_in bytes at; count = count; wait = flag_of wait }
 
-unfoldable pub senderOf : Bytes → Sender
-senderOf bytes =
+unfoldable pub sender_of : Bytes → Sender
+sender_of bytes =
     record {
-      table = tableIn bytes;
-      outgoing = boardIn bytes 128 (byteIn bytes 388) (byteIn bytes 389);
-      ruling = boardIn bytes 256 (byteIn bytes 390) (byteIn bytes 391);
-      epoch = byteIn bytes 392;
-      begun = flagOf (byteIn bytes 393);
-      gid = byteIn bytes 394;
-      mst = byteIn bytes 395;
-      rs_ack = byteIn bytes 396;
+      table = table_in bytes;
+      outgoing = board_in bytes 128 (byte_in bytes 388) (byte_in bytes 389);
+      ruling = board_in bytes 256 (byte_in bytes 390) (byte_in bytes 391);
+      epoch = byte_in bytes 392;
+      begun = flag_of (byte_in bytes 393);
+      gid = byte_in bytes 394;
+      mst = byte_in bytes 395;
+      rs_ack = byte_in bytes 396;
     }
 
 -- Writing.
 
-abbrev pub slotByte : Slot → ℕ → ℕ
-slotByte s side = if side == 0 then code_of s.state else s.number
+abbrev pub slot_byte : Slot → ℕ → ℕ
+slot_byte s side = if side == 0 then code_of s.state else s.number
 
-abbrev pub slotsByte : List Slot → ℕ → ℕ
-slotsByte slots k = slotByte (slot_at slots (k / 2)) (k % 2)
+abbrev pub slots_byte : List Slot → ℕ → ℕ
+slots_byte slots k = slot_byte (slot_at slots (k / 2)) (k % 2)
 
-abbrev pub rowByte : Row → ℕ → ℕ
-rowByte r side = if side == 0 then r.word.0 else r.number
+abbrev pub row_byte : Row → ℕ → ℕ
+row_byte r side = if side == 0 then r.word.0 else r.number
 
-abbrev pub rowsByte : List Row → ℕ → ℕ
-rowsByte rows k = rowByte (row_at rows (k / 2)) (k % 2)
+abbrev pub rows_byte : List Row → ℕ → ℕ
+rows_byte rows k = row_byte (row_at rows (k / 2)) (k % 2)
 
-abbrev pub fieldBytes : Sender → Bytes
-fieldBytes s =
+abbrev pub field_bytes : Sender → Bytes
+field_bytes s =
     s.table.count
-    ∷ oneIf s.table.wait
+    ∷ one_if s.table.wait
     ∷ s.table.remembered
     ∷ s.table.kind
     ∷ s.outgoing.count
-    ∷ oneIf s.outgoing.wait
+    ∷ one_if s.outgoing.wait
     ∷ s.ruling.count
-    ∷ oneIf s.ruling.wait
+    ∷ one_if s.ruling.wait
     ∷ s.epoch
-    ∷ oneIf s.begun
+    ∷ one_if s.begun
     ∷ s.gid
     ∷ s.mst
     ∷ s.rs_ack
@@ -100,13 +100,13 @@ fieldBytes s =
 
 unfoldable pub byte_at : Sender → ℕ → ℕ
 byte_at s k =
-    if k <? 128 then slotsByte s.table.slots k
-    else if k <? 256 then rowsByte s.outgoing.rows (k - 128)
-    else if k <? 384 then rowsByte s.ruling.rows (k - 256)
-    else get_or (fieldBytes s) (k - 384) 0
+    if k <? 128 then slots_byte s.table.slots k
+    else if k <? 256 then rows_byte s.outgoing.rows (k - 128)
+    else if k <? 384 then rows_byte s.ruling.rows (k - 256)
+    else get_or (field_bytes s) (k - 384) 0
 
 unfoldable pub bytes_of : Sender → Bytes
-bytes_of s = tabulate stateBytes (byte_at s)
+bytes_of s = tabulate state_bytes (byte_at s)
 
 -- a sender whose table and boards have 64 rows each: every sender of the language's type
 pub record Whole (s : Sender) : Type 0 where

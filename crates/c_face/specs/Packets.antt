@@ -5,12 +5,12 @@ use Rattle.ground.specs.Types.{Bytes, Epoch}
 use Rattle.packet.specs.declared.layout.Fields.{Fields}
 use Rattle.packet.specs.declared.reader.Reading.{Reading}
 use Rattle.packet.specs.declared.reader.Reading.TheVariants.{Packet, Length, Crc, Fixed, Unassigned}
-use Rattle.packet.specs.Fixed.{readFixedAnswer, writeFixedAnswer}
+use Rattle.packet.specs.Fixed.{read_fixed_answer, write_fixed_answer}
 use Rattle.packet.specs.Kinds.{frames}
-use Rattle.packet.specs.Reading.{readAnswer, readingNumber}
-use Rattle.packet.specs.Sent.{sentAnswer, sentBytes}
-use Rattle.packet.specs.Vc12.{readVc12Answer, writeVc12Answer, writeVc12Bytes}
-use Rattle.packet.specs.Writing.{writeAnswer, writeBytes, writingNumber}
+use Rattle.packet.specs.Reading.{read_answer, reading_number}
+use Rattle.packet.specs.Sent.{sent_answer, sent_bytes}
+use Rattle.packet.specs.Vc12.{read_vc12_answer, write_vc12_answer, write_vc12_bytes}
+use Rattle.packet.specs.Writing.{write_answer, write_bytes, writing_number}
 
 -- the fields that a C call gives, in its order
 abbrev pub given : (epoch : Epoch) (word gid mst ack sq reserved : ℕ) → Fields
@@ -18,19 +18,19 @@ given epoch word gid mst ack sq reserved =
     record { epoch = epoch; word = record { 0 = word }; gid = gid; mst = mst; rs_ack = ack; sq = sq; reserved = reserved }
 
 -- Writing for C: any 32 bits may come as a field.
-abbrev pub writeAnswerC : (epoch : Epoch) (word gid mst ack sq reserved : ℕ) (h4 : Bytes) → ℕ
-writeAnswerC epoch word gid mst ack sq reserved h4 = writingNumber (writeAnswer (given epoch word gid mst ack sq reserved) h4)
+abbrev pub write_answer_c : (epoch : Epoch) (word gid mst ack sq reserved : ℕ) (h4 : Bytes) → ℕ
+write_answer_c epoch word gid mst ack sq reserved h4 = writing_number (write_answer (given epoch word gid mst ack sq reserved) h4)
 
-abbrev pub writeBytesC : (epoch : Epoch) (word gid mst ack sq reserved : ℕ) (h4 : Bytes) → Bytes
-writeBytesC epoch word gid mst ack sq reserved h4 = writeBytes (given epoch word gid mst ack sq reserved) h4
+abbrev pub write_bytes_c : (epoch : Epoch) (word gid mst ack sq reserved : ℕ) (h4 : Bytes) → Bytes
+write_bytes_c epoch word gid mst ack sq reserved h4 = write_bytes (given epoch word gid mst ack sq reserved) h4
 
 -- Reading for C: the fields go into ten lent bytes, of which another number is refused with 9 before all else.
-unfoldable pub readAnswerC : Bytes → Bytes → ℕ
-readAnswerC h4 fields = if length fields == 10 then readingNumber (readAnswer h4) else 9
+unfoldable pub read_answer_c : Bytes → Bytes → ℕ
+read_answer_c h4 fields = if length fields == 10 then reading_number (read_answer h4) else 9
 
 -- a packet's values, of the reserved bits four bytes, the highest first
-abbrev pub valuesIn : Fields → List ℕ
-valuesIn f =
+abbrev pub values_in : Fields → List ℕ
+values_in f =
     f.epoch
     ∷ f.word.0
     ∷ f.gid
@@ -44,51 +44,51 @@ valuesIn f =
     ∷ []
 
 -- these, or the lent bytes as they were
-abbrev pub valuesOr : Reading → Bytes → Bytes
-valuesOr (Packet f) fields = valuesIn f
-valuesOr Length fields = fields
-valuesOr Crc fields = fields
-valuesOr Fixed fields = fields
-valuesOr Unassigned fields = fields
+abbrev pub values_or : Reading → Bytes → Bytes
+values_or (Packet f) fields = values_in f
+values_or Length fields = fields
+values_or Crc fields = fields
+values_or Fixed fields = fields
+values_or Unassigned fields = fields
 
-unfoldable pub readFieldsC : Bytes → Bytes → Bytes
-readFieldsC h4 fields = if length fields == 10 then valuesOr (readAnswer h4) fields else fields
+unfoldable pub read_fields_c : Bytes → Bytes → Bytes
+read_fields_c h4 fields = if length fields == 10 then values_or (read_answer h4) fields else fields
 
 -- Of a fixed group (request 2026-12), by the same lent bytes.
 
-abbrev pub writeFixedAnswerC : (epoch : Epoch) (sq : ℕ) (h4 : Bytes) → ℕ
-writeFixedAnswerC epoch sq h4 = writingNumber (writeFixedAnswer epoch sq h4)
+abbrev pub write_fixed_answer_c : (epoch : Epoch) (sq : ℕ) (h4 : Bytes) → ℕ
+write_fixed_answer_c epoch sq h4 = writing_number (write_fixed_answer epoch sq h4)
 
-unfoldable pub readFixedAnswerC : Bytes → Bytes → ℕ
-readFixedAnswerC h4 fields = if length fields == 10 then readingNumber (readFixedAnswer h4) else 9
+unfoldable pub read_fixed_answer_c : Bytes → Bytes → ℕ
+read_fixed_answer_c h4 fields = if length fields == 10 then reading_number (read_fixed_answer h4) else 9
 
-unfoldable pub readFixedFieldsC : Bytes → Bytes → Bytes
-readFixedFieldsC h4 fields = if length fields == 10 then valuesOr (readFixedAnswer h4) fields else fields
+unfoldable pub read_fixed_fields_c : Bytes → Bytes → Bytes
+read_fixed_fields_c h4 fields = if length fields == 10 then values_or (read_fixed_answer h4) fields else fields
 
 -- Of VC-12 (request 2026-01), by the same fields and the same lent bytes.
 
-abbrev pub writeVc12AnswerC : (epoch : Epoch) (word gid mst ack sq reserved : ℕ) (bits : Bytes) → ℕ
-writeVc12AnswerC epoch word gid mst ack sq reserved bits = writingNumber (writeVc12Answer (given epoch word gid mst ack sq reserved) bits)
+abbrev pub write_vc12_answer_c : (epoch : Epoch) (word gid mst ack sq reserved : ℕ) (bits : Bytes) → ℕ
+write_vc12_answer_c epoch word gid mst ack sq reserved bits = writing_number (write_vc12_answer (given epoch word gid mst ack sq reserved) bits)
 
-abbrev pub writeVc12BytesC : (epoch : Epoch) (word gid mst ack sq reserved : ℕ) (bits : Bytes) → Bytes
-writeVc12BytesC epoch word gid mst ack sq reserved bits = writeVc12Bytes (given epoch word gid mst ack sq reserved) bits
+abbrev pub write_vc12_bytes_c : (epoch : Epoch) (word gid mst ack sq reserved : ℕ) (bits : Bytes) → Bytes
+write_vc12_bytes_c epoch word gid mst ack sq reserved bits = write_vc12_bytes (given epoch word gid mst ack sq reserved) bits
 
-unfoldable pub readVc12AnswerC : List ℕ → List ℕ → ℕ
-readVc12AnswerC bits fields = if length fields == 10 then readingNumber (readVc12Answer bits) else 9
+unfoldable pub read_vc12_answer_c : List ℕ → List ℕ → ℕ
+read_vc12_answer_c bits fields = if length fields == 10 then reading_number (read_vc12_answer bits) else 9
 
-unfoldable pub readVc12FieldsC : List ℕ → List ℕ → List ℕ
-readVc12FieldsC bits fields = if length fields == 10 then valuesOr (readVc12Answer bits) fields else fields
+unfoldable pub read_vc12_fields_c : List ℕ → List ℕ → List ℕ
+read_vc12_fields_c bits fields = if length fields == 10 then values_or (read_vc12_answer bits) fields else fields
 
 -- for the functions behind the calls
 abbrev pub are_bytes : (epoch : Epoch) (word gid mst ack sq : ℕ) → Bool
 are_bytes epoch word gid mst ack sq = epoch <? 256 && word <? 256 && gid <? 256 && mst <? 256 && ack <? 256 && sq <? 256
 
 -- by the kind of the packet, which has a byte for each frame of its epoch
-abbrev pub writeRefusal : ℕ → ℕ → ℕ
-writeRefusal kind n = if n == frames kind then 8 else 9
+abbrev pub write_refusal : ℕ → ℕ → ℕ
+write_refusal kind n = if n == frames kind then 8 else 9
 
-abbrev pub sentAnswerC : (kind : ℕ) (epoch : Epoch) (word gid mst ack sq reserved : ℕ) (bytes : Bytes) → ℕ
-sentAnswerC kind epoch word gid mst ack sq reserved bytes = writingNumber (sentAnswer kind (given epoch word gid mst ack sq reserved) bytes)
+abbrev pub sent_answer_c : (kind : ℕ) (epoch : Epoch) (word gid mst ack sq reserved : ℕ) (bytes : Bytes) → ℕ
+sent_answer_c kind epoch word gid mst ack sq reserved bytes = writing_number (sent_answer kind (given epoch word gid mst ack sq reserved) bytes)
 
-abbrev pub sentBytesC : (kind : ℕ) (epoch : Epoch) (word gid mst ack sq reserved : ℕ) (bytes : Bytes) → Bytes
-sentBytesC kind epoch word gid mst ack sq reserved bytes = sentBytes kind (given epoch word gid mst ack sq reserved) bytes
+abbrev pub sent_bytes_c : (kind : ℕ) (epoch : Epoch) (word gid mst ack sq reserved : ℕ) (bytes : Bytes) → Bytes
+sent_bytes_c kind epoch word gid mst ack sq reserved bytes = sent_bytes kind (given epoch word gid mst ack sq reserved) bytes

@@ -1,6 +1,6 @@
 // The sender's board and ranks for C, each read whole into one lent buffer.
 ghost use Rattle.std.specs.Prelude.{◌≡◌, length};
-ghost use Rattle.c_face.specs.Boards.{boardBytes, boardBytesC, boardBytesOf, outgoingBytesC, ranksBytes, ranksBytesC, ranksBytesOf, shownAnswerC};
+ghost use Rattle.c_face.specs.Boards.{board_bytes, board_bytes_c, board_bytes_of, outgoing_bytes_c, ranks_bytes, ranks_bytes_c, ranks_bytes_of, shown_answer_c};
 
 use crate::keeping;
 use crate::keeping::SENDER_BYTES;
@@ -14,8 +14,8 @@ pub const RANKS_BYTES: usize = 68;
 
 // A count above 64 stands only in a state that does not come from a start: nobody is to read past the board by it.
 pub(crate) fn put_board(board: Board, out: &mut [u8])
-    requires { length out.old ≡ boardBytes }
-    ensures { out.new ≡ boardBytesOf board }
+    requires { length out.old ≡ board_bytes }
+    ensures { out.new ≡ board_bytes_of board }
 {
     let wait = ground::one_if(board.wait);
     let count = ground::size_byte(board.count);
@@ -26,8 +26,8 @@ pub(crate) fn put_board(board: Board, out: &mut [u8])
 }
 
 pub(crate) fn put_ranks(ranks: Ranks, out: &mut [u8])
-    requires { length out.old ≡ ranksBytes }
-    ensures { out.new ≡ ranksBytesOf ranks }
+    requires { length out.old ≡ ranks_bytes }
+    ensures { out.new ≡ ranks_bytes_of ranks }
 {
     let begun = ground::one_if(ranks.begun);
     let head = [ranks.count, begun, ranks.epoch, ranks.x];
@@ -38,8 +38,8 @@ pub(crate) fn put_ranks(ranks: Ranks, out: &mut [u8])
 
 #[unsafe(no_mangle)]
 pub extern "C" fn levelspruce_sender_board(state: &[u8], board: &mut [u8]) -> u8
-    ensures { (result ≡ shownAnswerC 130 state.now board.old)
-        × (board.new ≡ boardBytesC state.now board.old) }
+    ensures { (result ≡ shown_answer_c 130 state.now board.old)
+        × (board.new ≡ board_bytes_c state.now board.old) }
 {
     if state.len() != SENDER_BYTES {
         return 9;
@@ -56,8 +56,8 @@ pub extern "C" fn levelspruce_sender_board(state: &[u8], board: &mut [u8]) -> u8
 
 #[unsafe(no_mangle)]
 pub extern "C" fn levelspruce_sender_board_going(state: &[u8], board: &mut [u8]) -> u8
-    ensures { (result ≡ shownAnswerC 130 state.now board.old)
-        × (board.new ≡ outgoingBytesC state.now board.old) }
+    ensures { (result ≡ shown_answer_c 130 state.now board.old)
+        × (board.new ≡ outgoing_bytes_c state.now board.old) }
 {
     if state.len() != SENDER_BYTES {
         return 9;
@@ -73,8 +73,8 @@ pub extern "C" fn levelspruce_sender_board_going(state: &[u8], board: &mut [u8])
 
 #[unsafe(no_mangle)]
 pub extern "C" fn levelspruce_sender_ranks(state: &[u8], ranks: &mut [u8]) -> u8
-    ensures { (result ≡ shownAnswerC 68 state.now ranks.old)
-        × (ranks.new ≡ ranksBytesC state.now ranks.old) }
+    ensures { (result ≡ shown_answer_c 68 state.now ranks.old)
+        × (ranks.new ≡ ranks_bytes_c state.now ranks.old) }
 {
     if state.len() != SENDER_BYTES {
         return 9;

@@ -1,7 +1,7 @@
 // The sender's state in lent bytes, read and written. This file alone knows where each field stands.
 ghost use Rattle.std.specs.Prelude.{◌≡◌, ◌+◌, ◌≤◌, ◌<◌, length, get_or};
-ghost use Rattle.ground.specs.Drawn.{fillAt};
-ghost use Rattle.c_face.specs.Keeping.{boardIn, bytes_of, code_of, fieldBytes, rowByte, row_in, rowsByte, rowsIn, senderOf, slotByte, slotIn, slotsByte, slotsIn, stateBytes, state_of, tableIn};
+ghost use Rattle.ground.specs.Drawn.{fill_at};
+ghost use Rattle.c_face.specs.Keeping.{board_in, bytes_of, code_of, field_bytes, row_byte, row_in, rows_byte, rows_in, sender_of, slot_byte, slot_in, slots_byte, slots_in, state_bytes, state_of, table_in};
 
 use packet::Word;
 use sender::{Board, Row, Sender, Slot, State, Table};
@@ -32,8 +32,8 @@ fn code_of(state: State) -> u8
 }
 
 fn slot_in(state: &[u8], i: usize) -> Slot
-    requires { (length state.now ≡ stateBytes) × (i < 64) }
-    ensures { result ≡ slotIn state.now i }
+    requires { (length state.now ≡ state_bytes) × (i < 64) }
+    ensures { result ≡ slot_in state.now i }
 {
     let code = state[2 * i];
     let number = state[2 * i + 1];
@@ -44,8 +44,8 @@ fn slot_in(state: &[u8], i: usize) -> Slot
 }
 
 fn slots_in(state: &[u8]) -> [Slot; 64]
-    requires { length state.now ≡ stateBytes }
-    ensures { result ≡ slotsIn state.now }
+    requires { length state.now ≡ state_bytes }
+    ensures { result ≡ slots_in state.now }
 {
     let blank = Slot {
         state: State::Idle,
@@ -75,7 +75,7 @@ fn row_in(state: &[u8], at: usize, i: usize) -> Row
 
 fn rows_in(state: &[u8], at: usize) -> [Row; 64]
     requires { at + 128 ≤ length state.now }
-    ensures { result ≡ rowsIn state.now at }
+    ensures { result ≡ rows_in state.now at }
 {
     let blank = Row {
         word: Word(0),
@@ -92,8 +92,8 @@ fn rows_in(state: &[u8], at: usize) -> [Row; 64]
 }
 
 fn table_in(state: &[u8]) -> Table
-    requires { length state.now ≡ stateBytes }
-    ensures { result ≡ tableIn state.now }
+    requires { length state.now ≡ state_bytes }
+    ensures { result ≡ table_in state.now }
 {
     let count = state[384];
     let wait = state[385];
@@ -111,7 +111,7 @@ fn table_in(state: &[u8]) -> Table
 // A board whose rows begin at a place of any bytes.
 pub(crate) fn board_in(state: &[u8], at: usize, count: u8, wait: u8) -> Board
     requires { at + 128 ≤ length state.now }
-    ensures { result ≡ boardIn state.now at count wait }
+    ensures { result ≡ board_in state.now at count wait }
 {
     Board {
         rows: rows_in(state, at),
@@ -122,8 +122,8 @@ pub(crate) fn board_in(state: &[u8], at: usize, count: u8, wait: u8) -> Board
 
 // Any bytes are a sender.
 pub(crate) fn sender_of(state: &[u8]) -> Sender
-    requires { length state.now ≡ stateBytes }
-    ensures { result ≡ senderOf state.now }
+    requires { length state.now ≡ state_bytes }
+    ensures { result ≡ sender_of state.now }
 {
     let table = table_in(state);
     let outgoing = board_in(state, 128, state[388], state[389]);
@@ -143,7 +143,7 @@ pub(crate) fn sender_of(state: &[u8]) -> Sender
 
 pub(crate) fn put_bytes(from: &[u8], at: usize, out: &mut [u8])
     requires { at + length from.now ≤ length out.old }
-    ensures { out.new ≡ fillAt at (length from.now) (λ k. get_or from.now k 0) out.old }
+    ensures { out.new ≡ fill_at at (length from.now) (λ k. get_or from.now k 0) out.old }
 {
     let mut k = 0;
     while k < from.len() {
@@ -153,7 +153,7 @@ pub(crate) fn put_bytes(from: &[u8], at: usize, out: &mut [u8])
 }
 
 fn slot_byte(slot: Slot, side: usize) -> u8
-    ensures { result ≡ slotByte slot side }
+    ensures { result ≡ slot_byte slot side }
 {
     let state = slot.state;
     let code = code_of(state);
@@ -162,7 +162,7 @@ fn slot_byte(slot: Slot, side: usize) -> u8
 
 fn put_slots(slots: [Slot; 64], out: &mut [u8])
     requires { 128 ≤ length out.old }
-    ensures { out.new ≡ fillAt 0 128 (slotsByte slots) out.old }
+    ensures { out.new ≡ fill_at 0 128 (slots_byte slots) out.old }
 {
     let mut k = 0;
     while k < 128 {
@@ -173,7 +173,7 @@ fn put_slots(slots: [Slot; 64], out: &mut [u8])
 }
 
 fn row_byte(row: Row, side: usize) -> u8
-    ensures { result ≡ rowByte row side }
+    ensures { result ≡ row_byte row side }
 {
     let word = row.word;
     if side == 0 { word.0 } else { row.number }
@@ -181,7 +181,7 @@ fn row_byte(row: Row, side: usize) -> u8
 
 pub(crate) fn put_rows(rows: [Row; 64], at: usize, out: &mut [u8])
     requires { at + 128 ≤ length out.old }
-    ensures { out.new ≡ fillAt at 128 (rowsByte rows) out.old }
+    ensures { out.new ≡ fill_at at 128 (rows_byte rows) out.old }
 {
     let mut k = 0;
     while k < 128 {
@@ -192,7 +192,7 @@ pub(crate) fn put_rows(rows: [Row; 64], at: usize, out: &mut [u8])
 }
 
 fn field_bytes(sender: Sender) -> [u8; 13]
-    ensures { result ≡ fieldBytes sender }
+    ensures { result ≡ field_bytes sender }
 {
     let table = sender.table;
     let outgoing = sender.outgoing;
@@ -215,7 +215,7 @@ fn field_bytes(sender: Sender) -> [u8; 13]
 }
 
 pub(crate) fn put_sender(sender: Sender, state: &mut [u8])
-    requires { length state.old ≡ stateBytes }
+    requires { length state.old ≡ state_bytes }
     ensures { state.new ≡ bytes_of sender }
 {
     let table = sender.table;

@@ -1,8 +1,8 @@
 // The packet written and read for C. Fields come as 32 bits, so that what is too large is refused by its number and not cut off.
 ghost use Rattle.std.specs.Prelude.{◌≡◌, length};
-ghost use Rattle.c_face.specs.Packets.{are_bytes, readAnswerC, readFieldsC, readFixedAnswerC, readFixedFieldsC, readVc12AnswerC, readVc12FieldsC, sentAnswerC, sentBytesC, valuesIn, valuesOr, writeAnswerC, writeBytesC, writeFixedAnswerC, writeRefusal, writeVc12AnswerC, writeVc12BytesC};
-ghost use Rattle.packet.specs.Fixed.{writeFixedBytes};
-ghost use Rattle.packet.specs.Reading.{readingNumber};
+ghost use Rattle.c_face.specs.Packets.{are_bytes, read_answer_c, read_fields_c, read_fixed_answer_c, read_fixed_fields_c, read_vc12_answer_c, read_vc12_fields_c, sent_answer_c, sent_bytes_c, values_in, values_or, write_answer_c, write_bytes_c, write_fixed_answer_c, write_refusal, write_vc12_answer_c, write_vc12_bytes_c};
+ghost use Rattle.packet.specs.Fixed.{write_fixed_bytes};
+ghost use Rattle.packet.specs.Reading.{reading_number};
 
 use packet::{Fields, Reading, Word, kinds};
 
@@ -13,7 +13,7 @@ fn are_bytes(epoch: u32, word: u32, gid: u32, mst: u32, rs_ack: u32, sq: u32) ->
 }
 
 fn write_refusal(kind: u8, length: usize) -> u8
-    ensures { result ≡ writeRefusal kind length }
+    ensures { result ≡ write_refusal kind length }
 {
     let frames = kinds::epoch_frames(kind);
     if length == frames as usize { 8 } else { 9 }
@@ -31,8 +31,8 @@ fn put_packet(
     reserved: u32,
     frames: &mut [u8],
 ) -> u8
-    ensures { (result ≡ sentAnswerC kind epoch word gid mst rs_ack sq reserved frames.old)
-        × (frames.new ≡ sentBytesC kind epoch word gid mst rs_ack sq reserved frames.old) }
+    ensures { (result ≡ sent_answer_c kind epoch word gid mst rs_ack sq reserved frames.old)
+        × (frames.new ≡ sent_bytes_c kind epoch word gid mst rs_ack sq reserved frames.old) }
 {
     if !are_bytes(epoch, word, gid, mst, rs_ack, sq) {
         return write_refusal(kind, frames.len());
@@ -61,8 +61,8 @@ pub extern "C" fn levelspruce_packet_write(
     reserved: u32,
     h4: &mut [u8],
 ) -> u8
-    ensures { (result ≡ writeAnswerC epoch word gid mst rs_ack sq reserved h4.old)
-        × (h4.new ≡ writeBytesC epoch word gid mst rs_ack sq reserved h4.old) }
+    ensures { (result ≡ write_answer_c epoch word gid mst rs_ack sq reserved h4.old)
+        × (h4.new ≡ write_bytes_c epoch word gid mst rs_ack sq reserved h4.old) }
 {
     put_packet(kinds::H4, epoch, word, gid, mst, rs_ack, sq, reserved, h4)
 }
@@ -78,8 +78,8 @@ pub extern "C" fn levelspruce_packet_write_vc12(
     reserved: u32,
     bits: &mut [u8],
 ) -> u8
-    ensures { (result ≡ writeVc12AnswerC epoch word gid mst rs_ack sq reserved bits.old)
-        × (bits.new ≡ writeVc12BytesC epoch word gid mst rs_ack sq reserved bits.old) }
+    ensures { (result ≡ write_vc12_answer_c epoch word gid mst rs_ack sq reserved bits.old)
+        × (bits.new ≡ write_vc12_bytes_c epoch word gid mst rs_ack sq reserved bits.old) }
 {
     put_packet(
         kinds::VC12,
@@ -96,7 +96,7 @@ pub extern "C" fn levelspruce_packet_write_vc12(
 
 fn put_values(values: Fields, fields: &mut [u8])
     requires { length fields.old ≡ 10 }
-    ensures { fields.new ≡ valuesIn values }
+    ensures { fields.new ≡ values_in values }
 {
     let word = values.word;
     let reserved = values.reserved;
@@ -118,7 +118,7 @@ fn put_values(values: Fields, fields: &mut [u8])
 // A reading by its number. Under 0 its values go into the lent bytes.
 fn put_reading(reading: Reading, fields: &mut [u8]) -> u8
     requires { length fields.old ≡ 10 }
-    ensures { (result ≡ readingNumber reading) × (fields.new ≡ valuesOr reading fields.old) }
+    ensures { (result ≡ reading_number reading) × (fields.new ≡ values_or reading fields.old) }
 {
     match reading {
         Reading::Packet(values) => {
@@ -134,8 +134,8 @@ fn put_reading(reading: Reading, fields: &mut [u8]) -> u8
 
 #[unsafe(no_mangle)]
 pub extern "C" fn levelspruce_packet_read(h4: &[u8], fields: &mut [u8]) -> u8
-    ensures { (result ≡ readAnswerC h4.now fields.old)
-        × (fields.new ≡ readFieldsC h4.now fields.old) }
+    ensures { (result ≡ read_answer_c h4.now fields.old)
+        × (fields.new ≡ read_fields_c h4.now fields.old) }
 {
     if fields.len() != 10 {
         return 9;
@@ -146,8 +146,8 @@ pub extern "C" fn levelspruce_packet_read(h4: &[u8], fields: &mut [u8]) -> u8
 
 #[unsafe(no_mangle)]
 pub extern "C" fn levelspruce_packet_write_fixed(epoch: u32, sq: u32, h4: &mut [u8]) -> u8
-    ensures { (result ≡ writeFixedAnswerC epoch sq h4.old)
-        × (h4.new ≡ writeFixedBytes epoch sq h4.old) }
+    ensures { (result ≡ write_fixed_answer_c epoch sq h4.old)
+        × (h4.new ≡ write_fixed_bytes epoch sq h4.old) }
 {
     let written = packet::write_fixed(epoch, sq, h4);
     written.number()
@@ -155,8 +155,8 @@ pub extern "C" fn levelspruce_packet_write_fixed(epoch: u32, sq: u32, h4: &mut [
 
 #[unsafe(no_mangle)]
 pub extern "C" fn levelspruce_packet_read_fixed(h4: &[u8], fields: &mut [u8]) -> u8
-    ensures { (result ≡ readFixedAnswerC h4.now fields.old)
-        × (fields.new ≡ readFixedFieldsC h4.now fields.old) }
+    ensures { (result ≡ read_fixed_answer_c h4.now fields.old)
+        × (fields.new ≡ read_fixed_fields_c h4.now fields.old) }
 {
     if fields.len() != 10 {
         return 9;
@@ -167,8 +167,8 @@ pub extern "C" fn levelspruce_packet_read_fixed(h4: &[u8], fields: &mut [u8]) ->
 
 #[unsafe(no_mangle)]
 pub extern "C" fn levelspruce_packet_read_vc12(bits: &[u8], fields: &mut [u8]) -> u8
-    ensures { (result ≡ readVc12AnswerC bits.now fields.old)
-        × (fields.new ≡ readVc12FieldsC bits.now fields.old) }
+    ensures { (result ≡ read_vc12_answer_c bits.now fields.old)
+        × (fields.new ≡ read_vc12_fields_c bits.now fields.old) }
 {
     if fields.len() != 10 {
         return 9;

@@ -1,8 +1,8 @@
 // A sender's settings for C, for a host that was handed its state.
 ghost use Rattle.std.specs.Prelude.{◌≡◌, length};
-ghost use Rattle.sender.specs.Epochs.{startedEpoch};
-ghost use Rattle.c_face.specs.Boards.{shownAnswerC};
-ghost use Rattle.c_face.specs.Settings.{senderSettings, settingsBytes, settingsBytesC};
+ghost use Rattle.sender.specs.Epochs.{started_epoch};
+ghost use Rattle.c_face.specs.Boards.{shown_answer_c};
+ghost use Rattle.c_face.specs.Settings.{sender_settings, settings_bytes, settings_bytes_c};
 
 use crate::keeping;
 use crate::keeping::SENDER_BYTES;
@@ -10,7 +10,7 @@ use packet::kinds;
 use sender::Sender;
 
 fn next_epoch(sender: Sender) -> u8
-    ensures { result ≡ startedEpoch sender }
+    ensures { result ≡ started_epoch sender }
 {
     let table = sender.table;
     if sender.begun {
@@ -20,8 +20,8 @@ fn next_epoch(sender: Sender) -> u8
 }
 
 fn put_settings(sender: Sender, settings: &mut [u8])
-    requires { length settings.old ≡ settingsBytes }
-    ensures { settings.new ≡ senderSettings sender }
+    requires { length settings.old ≡ settings_bytes }
+    ensures { settings.new ≡ sender_settings sender }
 {
     let table = sender.table;
     let count = ground::size_byte(table.count);
@@ -33,8 +33,8 @@ fn put_settings(sender: Sender, settings: &mut [u8])
 
 #[unsafe(no_mangle)]
 pub extern "C" fn levelspruce_sender_settings(state: &[u8], settings: &mut [u8]) -> u8
-    ensures { (result ≡ shownAnswerC 5 state.now settings.old)
-        × (settings.new ≡ settingsBytesC state.now settings.old) }
+    ensures { (result ≡ shown_answer_c 5 state.now settings.old)
+        × (settings.new ≡ settings_bytes_c state.now settings.old) }
 {
     if state.len() != SENDER_BYTES {
         return 9;

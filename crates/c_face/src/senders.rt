@@ -1,11 +1,11 @@
 // The sender for C. The whole state is a lent buffer; a refusal changes no byte of it, but for the empty group of a refused start.
 ghost use Rattle.std.specs.Prelude.{◌≡◌, true, length};
 ghost use Rattle.sender.specs.Calls.Call.{AddSlot, RemoveSlot, Report, Lapse};
-ghost use Rattle.sender.specs.Epochs.{beginOf};
+ghost use Rattle.sender.specs.Epochs.{begin_of};
 ghost use Rattle.sender.specs.Epochs.SenderCall.{OnTable, StartEpoch};
-ghost use Rattle.sender.specs.Table.{answerNumber};
-ghost use Rattle.c_face.specs.Keeping.{bytes_of, stateBytes};
-ghost use Rattle.c_face.specs.Senders.{are_bytes, callAnswerC, callStateC, isEpoch, keptBytes, noStart, outside, packetAnswerC, packetBytesC, payloadAnswerC, payloadBytesC, sends, startAnswerC, startStateC};
+ghost use Rattle.sender.specs.Table.{answer_number};
+ghost use Rattle.c_face.specs.Keeping.{bytes_of, state_bytes};
+ghost use Rattle.c_face.specs.Senders.{are_bytes, call_answer_c, call_state_c, is_epoch, kept_bytes, no_start, outside, packet_answer_c, packet_bytes_c, payload_answer_c, payload_bytes_c, sends, start_answer_c, start_state_c};
 
 use crate::keeping;
 use crate::keeping::SENDER_BYTES;
@@ -37,7 +37,7 @@ fn is_sent(kind: u32) -> bool
 }
 
 pub fn is_no_start(kind: u32, count: u32) -> bool
-    ensures { result ≡ noStart kind count }
+    ensures { result ≡ no_start kind count }
 {
     let out = is_outside(count);
     let sent = is_sent(kind);
@@ -45,7 +45,7 @@ pub fn is_no_start(kind: u32, count: u32) -> bool
 }
 
 pub fn is_epoch(kind: u8, epoch: u32) -> bool
-    ensures { result ≡ isEpoch kind epoch }
+    ensures { result ≡ is_epoch kind epoch }
 {
     let tags = kinds::tag_count(kind);
     let frames = kinds::epoch_frames(kind);
@@ -53,8 +53,8 @@ pub fn is_epoch(kind: u8, epoch: u32) -> bool
 }
 
 fn put_start(kind: u8, count: u32, epoch: u8, state: &mut [u8])
-    requires { length state.old ≡ stateBytes }
-    ensures { state.new ≡ bytes_of (beginOf kind count epoch).sender }
+    requires { length state.old ≡ state_bytes }
+    ensures { state.new ≡ bytes_of (begin_of kind count epoch).sender }
 {
     let outcome = Sender::start(kind, count, epoch);
     let sender = outcome.sender;
@@ -62,8 +62,8 @@ fn put_start(kind: u8, count: u32, epoch: u8, state: &mut [u8])
 }
 
 fn start_by(kind: u32, count: u32, first_epoch: u32, state: &mut [u8]) -> u8
-    ensures { (result ≡ startAnswerC kind count first_epoch state.old)
-        × (state.new ≡ startStateC kind count first_epoch state.old) }
+    ensures { (result ≡ start_answer_c kind count first_epoch state.old)
+        × (state.new ≡ start_state_c kind count first_epoch state.old) }
 {
     if state.len() != SENDER_BYTES {
         return if is_no_start(kind, count) { 4 } else { 9 };
@@ -81,8 +81,8 @@ fn start_by(kind: u32, count: u32, first_epoch: u32, state: &mut [u8]) -> u8
 
 // What a call leaves: under 0 its sender's bytes, and under a refusal the bytes as they were.
 fn keep(outcome: SenderOutcome, state: &mut [u8]) -> u8
-    requires { length state.old ≡ stateBytes }
-    ensures { (result ≡ answerNumber outcome.answer) × (state.new ≡ keptBytes outcome state.old) }
+    requires { length state.old ≡ state_bytes }
+    ensures { (result ≡ answer_number outcome.answer) × (state.new ≡ kept_bytes outcome state.old) }
 {
     let answer = outcome.answer;
     let number = answer.number();
@@ -96,8 +96,8 @@ fn keep(outcome: SenderOutcome, state: &mut [u8]) -> u8
 
 #[unsafe(no_mangle)]
 pub extern "C" fn levelspruce_sender_start(count: u32, first_epoch: u32, state: &mut [u8]) -> u8
-    ensures { (result ≡ startAnswerC 0 count first_epoch state.old)
-        × (state.new ≡ startStateC 0 count first_epoch state.old) }
+    ensures { (result ≡ start_answer_c 0 count first_epoch state.old)
+        × (state.new ≡ start_state_c 0 count first_epoch state.old) }
 {
     start_by(kinds::H4 as u32, count, first_epoch, state)
 }
@@ -109,16 +109,16 @@ pub extern "C" fn levelspruce_sender_start_as(
     first_epoch: u32,
     state: &mut [u8],
 ) -> u8
-    ensures { (result ≡ startAnswerC kind count first_epoch state.old)
-        × (state.new ≡ startStateC kind count first_epoch state.old) }
+    ensures { (result ≡ start_answer_c kind count first_epoch state.old)
+        × (state.new ≡ start_state_c kind count first_epoch state.old) }
 {
     start_by(kind, count, first_epoch, state)
 }
 
 #[unsafe(no_mangle)]
 pub extern "C" fn levelspruce_sender_add(state: &mut [u8], slot: u32) -> u8
-    ensures { (result ≡ callAnswerC true (OnTable (AddSlot slot)) state.old)
-        × (state.new ≡ callStateC true (OnTable (AddSlot slot)) state.old) }
+    ensures { (result ≡ call_answer_c true (OnTable (AddSlot slot)) state.old)
+        × (state.new ≡ call_state_c true (OnTable (AddSlot slot)) state.old) }
 {
     if state.len() != SENDER_BYTES {
         return 9;
@@ -130,8 +130,8 @@ pub extern "C" fn levelspruce_sender_add(state: &mut [u8], slot: u32) -> u8
 
 #[unsafe(no_mangle)]
 pub extern "C" fn levelspruce_sender_remove(state: &mut [u8], slot: u32) -> u8
-    ensures { (result ≡ callAnswerC true (OnTable (RemoveSlot slot)) state.old)
-        × (state.new ≡ callStateC true (OnTable (RemoveSlot slot)) state.old) }
+    ensures { (result ≡ call_answer_c true (OnTable (RemoveSlot slot)) state.old)
+        × (state.new ≡ call_state_c true (OnTable (RemoveSlot slot)) state.old) }
 {
     if state.len() != SENDER_BYTES {
         return 9;
@@ -148,8 +148,8 @@ pub extern "C" fn levelspruce_sender_report(
     mst: u32,
     rs_ack: u32,
 ) -> u8
-    ensures { (result ≡ callAnswerC (are_bytes epoch mst rs_ack) (OnTable (Report epoch mst rs_ack)) state.old)
-        × (state.new ≡ callStateC (are_bytes epoch mst rs_ack) (OnTable (Report epoch mst rs_ack)) state.old) }
+    ensures { (result ≡ call_answer_c (are_bytes epoch mst rs_ack) (OnTable (Report epoch mst rs_ack)) state.old)
+        × (state.new ≡ call_state_c (are_bytes epoch mst rs_ack) (OnTable (Report epoch mst rs_ack)) state.old) }
 {
     if state.len() != SENDER_BYTES {
         return 9;
@@ -164,8 +164,8 @@ pub extern "C" fn levelspruce_sender_report(
 
 #[unsafe(no_mangle)]
 pub extern "C" fn levelspruce_sender_lapse(state: &mut [u8]) -> u8
-    ensures { (result ≡ callAnswerC true (OnTable Lapse) state.old)
-        × (state.new ≡ callStateC true (OnTable Lapse) state.old) }
+    ensures { (result ≡ call_answer_c true (OnTable Lapse) state.old)
+        × (state.new ≡ call_state_c true (OnTable Lapse) state.old) }
 {
     if state.len() != SENDER_BYTES {
         return 9;
@@ -182,8 +182,8 @@ pub extern "C" fn levelspruce_sender_start_epoch(
     mst: u32,
     rs_ack: u32,
 ) -> u8
-    ensures { (result ≡ callAnswerC (are_bytes gid mst rs_ack) (StartEpoch gid mst rs_ack) state.old)
-        × (state.new ≡ callStateC (are_bytes gid mst rs_ack) (StartEpoch gid mst rs_ack) state.old) }
+    ensures { (result ≡ call_answer_c (are_bytes gid mst rs_ack) (StartEpoch gid mst rs_ack) state.old)
+        × (state.new ≡ call_state_c (are_bytes gid mst rs_ack) (StartEpoch gid mst rs_ack) state.old) }
 {
     if state.len() != SENDER_BYTES {
         return 9;
@@ -198,8 +198,8 @@ pub extern "C" fn levelspruce_sender_start_epoch(
 
 #[unsafe(no_mangle)]
 pub extern "C" fn levelspruce_sender_packet(state: &[u8], slot: u32, h4: &mut [u8]) -> u8
-    ensures { (result ≡ packetAnswerC state.now slot h4.old)
-        × (h4.new ≡ packetBytesC state.now slot h4.old) }
+    ensures { (result ≡ packet_answer_c state.now slot h4.old)
+        × (h4.new ≡ packet_bytes_c state.now slot h4.old) }
 {
     if state.len() != SENDER_BYTES {
         return 9;
@@ -217,8 +217,8 @@ pub extern "C" fn levelspruce_sender_payload(
     frame: &[u8],
     member: &mut [u8],
 ) -> u8
-    ensures { (result ≡ payloadAnswerC state.now slot p frame.now member.old)
-        × (member.new ≡ payloadBytesC state.now slot p frame.now member.old) }
+    ensures { (result ≡ payload_answer_c state.now slot p frame.now member.old)
+        × (member.new ≡ payload_bytes_c state.now slot p frame.now member.old) }
 {
     if state.len() != SENDER_BYTES {
         return 9;

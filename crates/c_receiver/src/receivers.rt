@@ -1,15 +1,15 @@
 // The receiver for C: its state in lent rows of sixteen bytes, its frames in a lent store.
 ghost use Rattle.std.specs.Prelude.{◌≡◌, length};
-ghost use Rattle.c_receiver.specs.Receivers.{failedC, kindC, startAsAnswerC, startAsRowsC};
-ghost use Rattle.receiver.specs.Fetch.{fetchOf};
+ghost use Rattle.c_receiver.specs.Receivers.{failed_c, kind_c, start_as_answer_c, start_as_rows_c};
+ghost use Rattle.receiver.specs.Fetch.{fetch_of};
 ghost use Rattle.receiver.specs.Frame.{frame_of};
-ghost use Rattle.receiver.specs.Shown.{portsAnswer, portsOut, replyAnswer, replyOut};
-ghost use Rattle.receiver.specs.Starting.{startAnswer, startRows};
+ghost use Rattle.receiver.specs.Shown.{ports_answer, ports_out, reply_answer, reply_out};
+ghost use Rattle.receiver.specs.Starting.{start_answer, start_rows};
 
 use packet::kinds;
 
 fn is_failed(failed: u32) -> bool
-    ensures { result ≡ failedC failed }
+    ensures { result ≡ failed_c failed }
 {
     !(failed == 0)
 }
@@ -22,14 +22,14 @@ pub extern "C" fn levelspruce_receiver_start(
     store_bytes: usize,
     state: &mut [[u8; 16]],
 ) -> u8
-    ensures { (result ≡ startAnswer 0 ports payload window store_bytes (length state.old))
-        × (state.new ≡ startRows 0 ports payload window store_bytes state.old) }
+    ensures { (result ≡ start_answer 0 ports payload window store_bytes (length state.old))
+        × (state.new ≡ start_rows 0 ports payload window store_bytes state.old) }
 {
     receiver::start(kinds::H4, ports, payload, window, store_bytes, state)
 }
 
 fn kind_byte(kind: u32) -> u8
-    ensures { result ≡ kindC kind }
+    ensures { result ≡ kind_c kind }
 {
     if kind < 256 { kind as u8 } else { 255 }
 }
@@ -45,8 +45,8 @@ pub extern "C" fn levelspruce_receiver_start_as(
     restore: &[u32],
     state: &mut [[u8; 16]],
 ) -> u8
-    ensures { (result ≡ startAsAnswerC kind ports payload window store_bytes hold_off.now restore.now (length state.old))
-        × (state.new ≡ startAsRowsC kind ports payload window store_bytes hold_off.now restore.now state.old) }
+    ensures { (result ≡ start_as_answer_c kind ports payload window store_bytes hold_off.now restore.now (length state.old))
+        × (state.new ≡ start_as_rows_c kind ports payload window store_bytes hold_off.now restore.now state.old) }
 {
     let named = kind_byte(kind);
     receiver::start_as(
@@ -70,9 +70,9 @@ pub extern "C" fn levelspruce_receiver_frame(
     payload: &[u8],
     store: &mut [u8],
 ) -> u8
-    ensures { (result ≡ (frame_of state.old port (failedC failed) h4 payload.now store.old).answer)
-        × (state.new ≡ (frame_of state.old port (failedC failed) h4 payload.now store.old).rows)
-        × (store.new ≡ (frame_of state.old port (failedC failed) h4 payload.now store.old).store) }
+    ensures { (result ≡ (frame_of state.old port (failed_c failed) h4 payload.now store.old).answer)
+        × (state.new ≡ (frame_of state.old port (failed_c failed) h4 payload.now store.old).rows)
+        × (store.new ≡ (frame_of state.old port (failed_c failed) h4 payload.now store.old).store) }
 {
     let flagged = is_failed(failed);
     receiver::frame(state, port, flagged, h4, payload, store)
@@ -85,26 +85,26 @@ pub extern "C" fn levelspruce_receiver_fetch(
     out: &mut [u8],
     report: &mut [u8],
 ) -> u8
-    ensures { (result ≡ (fetchOf state.old store.now out.old report.old).answer)
-        × (state.new ≡ (fetchOf state.old store.now out.old report.old).rows)
-        × (out.new ≡ (fetchOf state.old store.now out.old report.old).out)
-        × (report.new ≡ (fetchOf state.old store.now out.old report.old).report) }
+    ensures { (result ≡ (fetch_of state.old store.now out.old report.old).answer)
+        × (state.new ≡ (fetch_of state.old store.now out.old report.old).rows)
+        × (out.new ≡ (fetch_of state.old store.now out.old report.old).out)
+        × (report.new ≡ (fetch_of state.old store.now out.old report.old).report) }
 {
     receiver::fetch(state, store, out, report)
 }
 
 #[unsafe(no_mangle)]
 pub extern "C" fn levelspruce_receiver_ports(state: &[[u8; 16]], ports: &mut [[u8; 8]]) -> u8
-    ensures { (result ≡ portsAnswer state.now (length ports.old))
-        × (ports.new ≡ portsOut state.now ports.old) }
+    ensures { (result ≡ ports_answer state.now (length ports.old))
+        × (ports.new ≡ ports_out state.now ports.old) }
 {
     receiver::ports(state, ports)
 }
 
 #[unsafe(no_mangle)]
 pub extern "C" fn levelspruce_receiver_reply(state: &[[u8; 16]], epoch: u8, reply: &mut [u8]) -> u8
-    ensures { (result ≡ replyAnswer state.now (length reply.old))
-        × (reply.new ≡ replyOut state.now epoch reply.old) }
+    ensures { (result ≡ reply_answer state.now (length reply.old))
+        × (reply.new ≡ reply_out state.now epoch reply.old) }
 {
     receiver::reply(state, epoch, reply)
 }

@@ -6,33 +6,33 @@ use Prim.Native.Nat.{ℕ}
 use lib.Dec.{eqb}
 use lib.ListN.{length}
 use borrow.Author.Tests.{eq-eqb, eqb-true, ne_eqb}
-use Rattle.c_recordings.specs.Mends.{lengthsAnswerC, mendedLengthC, notesLengthC}
+use Rattle.c_recordings.specs.Mends.{lengths_answer_c, mended_length_c, notes_length_c}
 use Rattle.mending.specs.declared.measuring.Lengths.{Lengths}
-use Rattle.mending.specs.Mending.{mendedOf, notesOf, readAnswer}
-use Rattle.mending.specs.Told.{lengthsOf, told}
+use Rattle.mending.specs.Mending.{mended_of, notes_of, read_answer}
+use Rattle.mending.specs.Told.{lengths_of, told}
 
-answer-is : (text : List ℕ) → (lengthsOf text).answer ≡ readAnswer text
-unfolding lengthsOf
-answer-is text = go (eqb (readAnswer text) 0) refl
+answer_is : (text : List ℕ) → (lengths_of text).answer ≡ read_answer text
+unfolding lengths_of
+answer_is text = go (eqb (read_answer text) 0) refl
   where
-    go : (t : Bool) → eqb (readAnswer text) 0 ≡ t
-        → (cond {A = Lengths} t (record { mended = length (mendedOf text); notes = told (length (notesOf text)); answer = 0 }) (record { mended = 0; notes = 0; answer = readAnswer text })).answer ≡ readAnswer text
-    go true t = sym (eqb-true (readAnswer text) 0 t)
+    go : (t : Bool) → eqb (read_answer text) 0 ≡ t
+        → (cond {A = Lengths} t (record { mended = length (mended_of text); notes = told (length (notes_of text)); answer = 0 }) (record { mended = 0; notes = 0; answer = read_answer text })).answer ≡ read_answer text
+    go true t = sym (eqb-true (read_answer text) 0 t)
     go false t = refl
 
-module _ (text : List ℕ) (l : Lengths) (e : l ≡ lengthsOf text) (m n : ℕ) where
-  told-answer : l.answer ≡ readAnswer text
-  told-answer = ap (λ (x : Lengths). x.answer) e ∙ answer-is text
+module _ (text : List ℕ) (l : Lengths) (e : l ≡ lengths_of text) (m n : ℕ) where
+  told_answer : l.answer ≡ read_answer text
+  told_answer = ap (λ (x : Lengths). x.answer) e ∙ answer_is text
 
-  pub lengths-refused : (l.answer ≡ 0 → ⊥) → (l.answer ≡ lengthsAnswerC text) × (m ≡ mendedLengthC text m) × (n ≡ notesLengthC text n)
-  unfolding mendedLengthC notesLengthC
-  lengths-refused z =
-      let f : eqb (readAnswer text) 0 ≡ false = ne_eqb (readAnswer text) 0 (λ (a : readAnswer text ≡ 0). z (told-answer ∙ a)) in
-      (told-answer, rw f refl, rw f refl)
+  pub lengths_refused : (l.answer ≡ 0 → ⊥) → (l.answer ≡ lengths_answer_c text) × (m ≡ mended_length_c text m) × (n ≡ notes_length_c text n)
+  unfolding mended_length_c notes_length_c
+  lengths_refused z =
+      let f : eqb (read_answer text) 0 ≡ false = ne_eqb (read_answer text) 0 (λ (a : read_answer text ≡ 0). z (told_answer ∙ a)) in
+      (told_answer, rw f refl, rw f refl)
 
-  pub lengths-done : l.answer ≡ 0 → (0 ≡ lengthsAnswerC text) × (l.mended ≡ mendedLengthC text m) × (l.notes ≡ notesLengthC text n)
-  unfolding mendedLengthC notesLengthC lengthsOf
-  lengths-done z =
-      let a : readAnswer text ≡ 0 = sym told-answer ∙ z in
-      let f : eqb (readAnswer text) 0 ≡ true = eq-eqb (readAnswer text) 0 a in
+  pub lengths_done : l.answer ≡ 0 → (0 ≡ lengths_answer_c text) × (l.mended ≡ mended_length_c text m) × (l.notes ≡ notes_length_c text n)
+  unfolding mended_length_c notes_length_c lengths_of
+  lengths_done z =
+      let a : read_answer text ≡ 0 = sym told_answer ∙ z in
+      let f : eqb (read_answer text) 0 ≡ true = eq-eqb (read_answer text) 0 a in
       (sym a, rw (f, e, f) refl, rw (f, e, f) refl)

@@ -1,63 +1,63 @@
 -- A recording run again, for C: the turns are the crate's own, on a replay that is kept in lent bytes.
 use Rattle.std.specs.Prelude.{◌≡◌, Bool, not, ◌&&◌, List, [], ◌∷◌, ◌++◌, ℕ, ◌+◌, ◌*◌, ◌/◌, ◌%◌, drop, get_or, length, take}
-use Rattle.ground.specs.Flags.{oneIf}
+use Rattle.ground.specs.Flags.{one_if}
 use Rattle.ground.specs.Plain.{if◌then◌else◌, ◌==◌, ◌≤?◌}
 use Rattle.replay_lines.specs.declared.replay.Phase.{Phase}
 use Rattle.replay_lines.specs.declared.replay.Phase.TheVariants.{Settings, Reading, Fetching, Skipping, Ended}
 use Rattle.replay_lines.specs.declared.replay.Replay.{Replay}
 use Rattle.replay_lines.specs.declared.turns.Replayed.{Replayed}
-use Rattle.replay_lines.specs.Lengths.{lengthsOf}
+use Rattle.replay_lines.specs.Lengths.{lengths_of}
 use Rattle.replay_lines.specs.Replay.{beginning}
 use Rattle.replay_lines.specs.Runs.{Host, answer, called}
-use Rattle.replay_lines.specs.Turn.{turn_of, turnOut, turnRows, turnSaid, turnStore}
+use Rattle.replay_lines.specs.Turn.{turn_of, turn_out, turn_rows, turn_said, turn_store}
 
 -- The state of a replay is 17 bytes: the phase, the number of lines read in eight bytes, how many fetches may follow in two, the group's kind and ports, P and W in two each; the highest byte
 -- first. Any bytes are a replay: a phase byte other than 1 to 4 counts as 0.
 
-abbrev pub replayBytes : ℕ
-replayBytes = 17
+abbrev pub replay_bytes : ℕ
+replay_bytes = 17
 
-abbrev pub isReplay : List ℕ → Bool
-isReplay state = length state == replayBytes
+abbrev pub is_replay : List ℕ → Bool
+is_replay state = length state == replay_bytes
 
-abbrev pub phaseOf : ℕ → Phase
-phaseOf code = if code == 1 then Reading else if code == 2 then Fetching else if code == 3 then Skipping else if code == 4 then Ended else Settings
+abbrev pub phase_of : ℕ → Phase
+phase_of code = if code == 1 then Reading else if code == 2 then Fetching else if code == 3 then Skipping else if code == 4 then Ended else Settings
 
-abbrev pub phaseCode : Phase → ℕ
-phaseCode Settings = 0
-phaseCode Reading = 1
-phaseCode Fetching = 2
-phaseCode Skipping = 3
-phaseCode Ended = 4
+abbrev pub phase_code : Phase → ℕ
+phase_code Settings = 0
+phase_code Reading = 1
+phase_code Fetching = 2
+phase_code Skipping = 3
+phase_code Ended = 4
 
-abbrev pub twoOf : (high low : ℕ) → ℕ
-twoOf high low = high * 256 + low
+abbrev pub two_of : (high low : ℕ) → ℕ
+two_of high low = high * 256 + low
 
-abbrev pub fourOf : (a b c d : ℕ) → ℕ
-fourOf a b c d = a * 16777216 + b * 65536 + c * 256 + d
+abbrev pub four_of : (a b c d : ℕ) → ℕ
+four_of a b c d = a * 16777216 + b * 65536 + c * 256 + d
 
-abbrev byteIn : List ℕ → ℕ → ℕ
-byteIn state k = get_or state k 0
+abbrev byte_in : List ℕ → ℕ → ℕ
+byte_in state k = get_or state k 0
 
-unfoldable pub lineIn : List ℕ → ℕ
-lineIn state =
-    fourOf (byteIn state 1) (byteIn state 2) (byteIn state 3) (byteIn state 4) * 4294967296 + fourOf (byteIn state 5) (byteIn state 6) (byteIn state 7) (byteIn state 8)
+unfoldable pub line_in : List ℕ → ℕ
+line_in state =
+    four_of (byte_in state 1) (byte_in state 2) (byte_in state 3) (byte_in state 4) * 4294967296 + four_of (byte_in state 5) (byte_in state 6) (byte_in state 7) (byte_in state 8)
 
-unfoldable pub replayOf : List ℕ → Replay
-replayOf state =
+unfoldable pub replay_of : List ℕ → Replay
+replay_of state =
     record {
-      phase = phaseOf (byteIn state 0);
-      line = lineIn state;
-      left = twoOf (byteIn state 9) (byteIn state 10);
-      kind = byteIn state 11;
-      ports = byteIn state 12;
-      size = twoOf (byteIn state 13) (byteIn state 14);
-      window = twoOf (byteIn state 15) (byteIn state 16);
+      phase = phase_of (byte_in state 0);
+      line = line_in state;
+      left = two_of (byte_in state 9) (byte_in state 10);
+      kind = byte_in state 11;
+      ports = byte_in state 12;
+      size = two_of (byte_in state 13) (byte_in state 14);
+      window = two_of (byte_in state 15) (byte_in state 16);
     }
 
 unfoldable pub bytes_of : Replay → List ℕ
 bytes_of r =
-    phaseCode r.phase
+    phase_code r.phase
     ∷ (r.line / 72057594037927936)
     ∷ (r.line / 281474976710656 % 256)
     ∷ (r.line / 1099511627776 % 256)
@@ -78,78 +78,78 @@ bytes_of r =
 
 -- What a first line asks to be lent. The lengths that are told are numbers of the caller's, and stay under a refusal.
 
-abbrev pub lengthsAnswerC : List ℕ → ℕ
-lengthsAnswerC recording = (lengthsOf recording).answer
+abbrev pub lengths_answer_c : List ℕ → ℕ
+lengths_answer_c recording = (lengths_of recording).answer
 
-unfoldable pub storeLengthC : (recording : List ℕ) (given : ℕ) → ℕ
-storeLengthC recording given = if lengthsAnswerC recording == 0 then (lengthsOf recording).store else given
+unfoldable pub store_length_c : (recording : List ℕ) (given : ℕ) → ℕ
+store_length_c recording given = if lengths_answer_c recording == 0 then (lengths_of recording).store else given
 
-unfoldable pub outLengthC : (recording : List ℕ) (given : ℕ) → ℕ
-outLengthC recording given = if lengthsAnswerC recording == 0 then (lengthsOf recording).out else given
+unfoldable pub out_length_c : (recording : List ℕ) (given : ℕ) → ℕ
+out_length_c recording given = if lengths_answer_c recording == 0 then (lengths_of recording).out else given
 
 -- Beginning.
 
-unfoldable pub beginAnswerC : List ℕ → ℕ
-beginAnswerC state = if isReplay state then 0 else 9
+unfoldable pub begin_answer_c : List ℕ → ℕ
+begin_answer_c state = if is_replay state then 0 else 9
 
-unfoldable pub beginStateC : List ℕ → List ℕ
-beginStateC state = if isReplay state then bytes_of beginning else state
+unfoldable pub begin_state_c : List ℕ → List ℕ
+begin_state_c state = if is_replay state then bytes_of beginning else state
 
 -- One turn on a text from a place on. 9 for a state of another length and for a place behind the text's end, then the turn's own. A refusal writes nothing.
 
-abbrev pub lastC : ℕ → Bool
-lastC last = not (last == 0)
+abbrev pub last_c : ℕ → Bool
+last_c last = not (last == 0)
 
 module _ (state text : List ℕ) (at last : ℕ) (rows : List (List ℕ)) (store out : List ℕ) where
   abbrev pub takes : Bool
-  takes = isReplay state && at ≤? length text
+  takes = is_replay state && at ≤? length text
 
   module _ (said : ℕ) where
-    abbrev pub turnC : Replayed
-    turnC = turn_of (replayOf state) (drop at text) (lastC last) rows store out said
+    abbrev pub turn_c : Replayed
+    turn_c = turn_of (replay_of state) (drop at text) (last_c last) rows store out said
 
-    unfoldable pub turnAnswerC : ℕ
-    turnAnswerC = if takes then turnC.answer else 9
+    unfoldable pub turn_answer_c : ℕ
+    turn_answer_c = if takes then turn_c.answer else 9
 
-    unfoldable pub turnStateC : List ℕ
-    turnStateC = if turnAnswerC == 0 then bytes_of turnC.replay else state
+    unfoldable pub turn_state_c : List ℕ
+    turn_state_c = if turn_answer_c == 0 then bytes_of turn_c.replay else state
 
     -- 'knows how far it has come'
-    unfoldable pub turnAtC : ℕ
-    turnAtC = if turnAnswerC == 0 then at + turnC.used else at
+    unfoldable pub turn_at_c : ℕ
+    turn_at_c = if turn_answer_c == 0 then at + turn_c.used else at
 
-    unfoldable pub turnRowsC : List (List ℕ)
-    turnRowsC = if takes then turnRows (replayOf state) (drop at text) (lastC last) rows store out said else rows
+    unfoldable pub turn_rows_c : List (List ℕ)
+    turn_rows_c = if takes then turn_rows (replay_of state) (drop at text) (last_c last) rows store out said else rows
 
-    unfoldable pub turnStoreC : List ℕ
-    turnStoreC = if takes then turnStore (replayOf state) (drop at text) (lastC last) rows store out said else store
+    unfoldable pub turn_store_c : List ℕ
+    turn_store_c = if takes then turn_store (replay_of state) (drop at text) (last_c last) rows store out said else store
 
-    unfoldable pub turnOutC : List ℕ
-    turnOutC = if takes then turnOut (replayOf state) rows store out said else out
+    unfoldable pub turn_out_c : List ℕ
+    turn_out_c = if takes then turn_out (replay_of state) rows store out said else out
 
-    unfoldable pub turnWrittenC : ℕ → ℕ
-    turnWrittenC given = if turnAnswerC == 0 then turnC.written else given
+    unfoldable pub turn_written_c : ℕ → ℕ
+    turn_written_c given = if turn_answer_c == 0 then turn_c.written else given
 
-    unfoldable pub turnWantsC : ℕ → ℕ
-    turnWantsC given = if turnAnswerC == 0 then oneIf turnC.wants else given
+    unfoldable pub turn_wants_c : ℕ → ℕ
+    turn_wants_c given = if turn_answer_c == 0 then one_if turn_c.wants else given
 
-  unfoldable pub turnSaidC : List ℕ → List ℕ
-  turnSaidC said = if takes then turnSaid (replayOf state) (drop at text) (lastC last) rows store out said else said
+  unfoldable pub turn_said_c : List ℕ → List ℕ
+  turn_said_c said = if takes then turn_said (replay_of state) (drop at text) (last_c last) rows store out said else said
 
 -- A host of the crate's turns beside the C call on the bytes of its replay, on a text of which it has come to a place.
 
 -- the answer is the turn's own, and all that is lent is left as by it
 pub record SameLeft (last : ℕ) (h : Host) (text : List ℕ) (at : ℕ) : Type 0 where
-  pub answers : turnAnswerC (bytes_of h.replay) text at last h.rows h.store h.out (length h.buffer) ≡ (answer (lastC last) h).answer
-  pub rows : turnRowsC (bytes_of h.replay) text at last h.rows h.store h.out (length h.buffer) ≡ (called (lastC last) h).rows
-  pub store : turnStoreC (bytes_of h.replay) text at last h.rows h.store h.out (length h.buffer) ≡ (called (lastC last) h).store
-  pub out : turnOutC (bytes_of h.replay) text at last h.rows h.store h.out (length h.buffer) ≡ (called (lastC last) h).out
-  pub buffer : turnSaidC (bytes_of h.replay) text at last h.rows h.store h.out h.buffer ≡ (called (lastC last) h).buffer
+  pub answers : turn_answer_c (bytes_of h.replay) text at last h.rows h.store h.out (length h.buffer) ≡ (answer (last_c last) h).answer
+  pub rows : turn_rows_c (bytes_of h.replay) text at last h.rows h.store h.out (length h.buffer) ≡ (called (last_c last) h).rows
+  pub store : turn_store_c (bytes_of h.replay) text at last h.rows h.store h.out (length h.buffer) ≡ (called (last_c last) h).store
+  pub out : turn_out_c (bytes_of h.replay) text at last h.rows h.store h.out (length h.buffer) ≡ (called (last_c last) h).out
+  pub buffer : turn_said_c (bytes_of h.replay) text at last h.rows h.store h.out h.buffer ≡ (called (last_c last) h).buffer
 
 -- and where it is 0 the bytes are those of its replay, the place is that of the text which it has left, and what is written is what it has printed
 pub record SameDone (last : ℕ) (h : Host) (text : List ℕ) (at : ℕ) : Type 0 where
-  pub state : turnStateC (bytes_of h.replay) text at last h.rows h.store h.out (length h.buffer) ≡ bytes_of (called (lastC last) h).replay
-  pub text-left : drop (turnAtC (bytes_of h.replay) text at last h.rows h.store h.out (length h.buffer)) text ≡ (called (lastC last) h).text
+  pub state : turn_state_c (bytes_of h.replay) text at last h.rows h.store h.out (length h.buffer) ≡ bytes_of (called (last_c last) h).replay
+  pub text_left : drop (turn_at_c (bytes_of h.replay) text at last h.rows h.store h.out (length h.buffer)) text ≡ (called (last_c last) h).text
   pub printed : (given : ℕ)
-      → h.said ++ take (turnWrittenC (bytes_of h.replay) text at last h.rows h.store h.out (length h.buffer) given) (turnSaidC (bytes_of h.replay) text at last h.rows h.store h.out h.buffer)
-      ≡ (called (lastC last) h).said
+      → h.said ++ take (turn_written_c (bytes_of h.replay) text at last h.rows h.store h.out (length h.buffer) given) (turn_said_c (bytes_of h.replay) text at last h.rows h.store h.out h.buffer)
+      ≡ (called (last_c last) h).said

@@ -1,6 +1,6 @@
 // A torn recording mended, for C.
 ghost use Rattle.std.specs.Prelude.{◌≡◌};
-ghost use Rattle.c_recordings.specs.Mends.{lengthsAnswerC, mendAnswerC, mendedC, mendedLengthC, notesC, notesLengthC};
+ghost use Rattle.c_recordings.specs.Mends.{lengths_answer_c, mend_answer_c, mended_c, mended_length_c, notes_c, notes_length_c};
 
 #[unsafe(no_mangle)]
 pub extern "C" fn levelspruce_mend_lengths(
@@ -8,9 +8,9 @@ pub extern "C" fn levelspruce_mend_lengths(
     mended_length: &mut usize,
     notes_length: &mut usize,
 ) -> u8
-    ensures { (result ≡ lengthsAnswerC recording.now)
-        × (mended_length.new ≡ mendedLengthC recording.now mended_length.old)
-        × (notes_length.new ≡ notesLengthC recording.now notes_length.old) }
+    ensures { (result ≡ lengths_answer_c recording.now)
+        × (mended_length.new ≡ mended_length_c recording.now mended_length.old)
+        × (notes_length.new ≡ notes_length_c recording.now notes_length.old) }
 {
     let told = mending::mend_lengths(recording);
     if told.answer != 0 {
@@ -23,9 +23,9 @@ pub extern "C" fn levelspruce_mend_lengths(
 
 #[unsafe(no_mangle)]
 pub extern "C" fn levelspruce_mend(recording: &[u8], mended: &mut [u8], notes: &mut [u8]) -> u8
-    ensures { (result ≡ mendAnswerC recording.now mended.old notes.old)
-        × (mended.new ≡ mendedC recording.now mended.old notes.old)
-        × (notes.new ≡ notesC recording.now mended.old notes.old) }
+    ensures { (result ≡ mend_answer_c recording.now mended.old notes.old)
+        × (mended.new ≡ mended_c recording.now mended.old notes.old)
+        × (notes.new ≡ notes_c recording.now mended.old notes.old) }
 {
     mending::mend(recording, mended, notes)
 }

@@ -1,7 +1,7 @@
 // A recording run again, for C. The replay itself is a lent buffer, and the receiver's rows, its store, its output and what is printed are
 // lent beside it.
 ghost use Rattle.std.specs.Prelude.{◌≡◌, ◌≤◌, length};
-ghost use Rattle.c_recordings.specs.Replays.{beginAnswerC, beginStateC, bytes_of, fourOf, lastC, lengthsAnswerC, lineIn, outLengthC, phaseCode, phaseOf, replayBytes, replayOf, storeLengthC, turnAnswerC, turnAtC, turnOutC, turnRowsC, turnSaidC, turnStateC, turnStoreC, turnWantsC, turnWrittenC, twoOf};
+ghost use Rattle.c_recordings.specs.Replays.{begin_answer_c, begin_state_c, bytes_of, four_of, last_c, lengths_answer_c, line_in, out_length_c, phase_code, phase_of, replay_bytes, replay_of, store_length_c, turn_answer_c, turn_at_c, turn_out_c, turn_rows_c, turn_said_c, turn_state_c, turn_store_c, turn_wants_c, turn_written_c, two_of};
 
 use crate::keeping;
 use replay_lines::{Phase, Replay};
@@ -10,7 +10,7 @@ use replay_lines::{Phase, Replay};
 const REPLAY_BYTES: usize = 17;
 
 fn phase_of(code: u8) -> Phase
-    ensures { result ≡ phaseOf code }
+    ensures { result ≡ phase_of code }
 {
     match code {
         1 => Phase::Reading,
@@ -22,7 +22,7 @@ fn phase_of(code: u8) -> Phase
 }
 
 fn phase_code(phase: Phase) -> u8
-    ensures { result ≡ phaseCode phase }
+    ensures { result ≡ phase_code phase }
 {
     match phase {
         Phase::Settings => 0,
@@ -34,7 +34,7 @@ fn phase_code(phase: Phase) -> u8
 }
 
 fn two(high: u8, low: u8) -> u16
-    ensures { result ≡ twoOf high low }
+    ensures { result ≡ two_of high low }
 {
     high as u16 * 256 + low as u16
 }
@@ -46,14 +46,14 @@ fn wide(byte: u8) -> u64
 }
 
 fn four(a: u8, b: u8, c: u8, d: u8) -> u64
-    ensures { (result ≡ fourOf a b c d) × (result ≤ 4294967295) }
+    ensures { (result ≡ four_of a b c d) × (result ≤ 4294967295) }
 {
     wide(a) * 16777216 + wide(b) * 65536 + wide(c) * 256 + wide(d)
 }
 
 fn line_in(state: &[u8]) -> u64
-    requires { length state.now ≡ replayBytes }
-    ensures { result ≡ lineIn state.now }
+    requires { length state.now ≡ replay_bytes }
+    ensures { result ≡ line_in state.now }
 {
     let high = four(state[1], state[2], state[3], state[4]);
     let low = four(state[5], state[6], state[7], state[8]);
@@ -62,8 +62,8 @@ fn line_in(state: &[u8]) -> u64
 
 // Any bytes are a replay.
 fn replay_of(state: &[u8]) -> Replay
-    requires { length state.now ≡ replayBytes }
-    ensures { result ≡ replayOf state.now }
+    requires { length state.now ≡ replay_bytes }
+    ensures { result ≡ replay_of state.now }
 {
     let phase = phase_of(state[0]);
     let line = line_in(state);
@@ -108,7 +108,7 @@ fn bytes_of(replay: Replay) -> [u8; 17]
 }
 
 fn put_replay(replay: Replay, state: &mut [u8])
-    requires { length state.old ≡ replayBytes }
+    requires { length state.old ≡ replay_bytes }
     ensures { state.new ≡ bytes_of replay }
 {
     let bytes = bytes_of(replay);
@@ -121,9 +121,9 @@ pub extern "C" fn levelspruce_replay_lengths(
     store_length: &mut usize,
     out_length: &mut usize,
 ) -> u8
-    ensures { (result ≡ lengthsAnswerC recording.now)
-        × (store_length.new ≡ storeLengthC recording.now store_length.old)
-        × (out_length.new ≡ outLengthC recording.now out_length.old) }
+    ensures { (result ≡ lengths_answer_c recording.now)
+        × (store_length.new ≡ store_length_c recording.now store_length.old)
+        × (out_length.new ≡ out_length_c recording.now out_length.old) }
 {
     let told = replay_lines::replay_lengths(recording);
     if told.answer != 0 {
@@ -136,7 +136,7 @@ pub extern "C" fn levelspruce_replay_lengths(
 
 #[unsafe(no_mangle)]
 pub extern "C" fn levelspruce_replay_begin(state: &mut [u8]) -> u8
-    ensures { (result ≡ beginAnswerC state.old) × (state.new ≡ beginStateC state.old) }
+    ensures { (result ≡ begin_answer_c state.old) × (state.new ≡ begin_state_c state.old) }
 {
     if state.len() != REPLAY_BYTES {
         return 9;
@@ -147,7 +147,7 @@ pub extern "C" fn levelspruce_replay_begin(state: &mut [u8]) -> u8
 }
 
 fn is_last(last: u32) -> bool
-    ensures { result ≡ lastC last }
+    ensures { result ≡ last_c last }
 {
     !(last == 0)
 }
@@ -165,15 +165,15 @@ pub extern "C" fn levelspruce_replay_turn(
     written: &mut usize,
     wants: &mut u8,
 ) -> u8
-    ensures { (result ≡ turnAnswerC state.old text.now at.old last rows.old store.old out.old (length said.old))
-        × (state.new ≡ turnStateC state.old text.now at.old last rows.old store.old out.old (length said.old))
-        × (at.new ≡ turnAtC state.old text.now at.old last rows.old store.old out.old (length said.old))
-        × (rows.new ≡ turnRowsC state.old text.now at.old last rows.old store.old out.old (length said.old))
-        × (store.new ≡ turnStoreC state.old text.now at.old last rows.old store.old out.old (length said.old))
-        × (out.new ≡ turnOutC state.old text.now at.old last rows.old store.old out.old (length said.old))
-        × (said.new ≡ turnSaidC state.old text.now at.old last rows.old store.old out.old said.old)
-        × (written.new ≡ turnWrittenC state.old text.now at.old last rows.old store.old out.old (length said.old) written.old)
-        × (wants.new ≡ turnWantsC state.old text.now at.old last rows.old store.old out.old (length said.old) wants.old) }
+    ensures { (result ≡ turn_answer_c state.old text.now at.old last rows.old store.old out.old (length said.old))
+        × (state.new ≡ turn_state_c state.old text.now at.old last rows.old store.old out.old (length said.old))
+        × (at.new ≡ turn_at_c state.old text.now at.old last rows.old store.old out.old (length said.old))
+        × (rows.new ≡ turn_rows_c state.old text.now at.old last rows.old store.old out.old (length said.old))
+        × (store.new ≡ turn_store_c state.old text.now at.old last rows.old store.old out.old (length said.old))
+        × (out.new ≡ turn_out_c state.old text.now at.old last rows.old store.old out.old (length said.old))
+        × (said.new ≡ turn_said_c state.old text.now at.old last rows.old store.old out.old said.old)
+        × (written.new ≡ turn_written_c state.old text.now at.old last rows.old store.old out.old (length said.old) written.old)
+        × (wants.new ≡ turn_wants_c state.old text.now at.old last rows.old store.old out.old (length said.old) wants.old) }
 {
     if state.len() != REPLAY_BYTES {
         return 9;

@@ -5,27 +5,27 @@ use Rattle.sender.specs.declared.table.Answer as S
 use Rattle.cards.specs.declared.answers.Answer.{Answer}
 use Rattle.cards.specs.declared.answers.Answer.TheVariants.{Done, NoSlot, NotAllowed, WaitOpen, OutOfRange, Field, Length, Owned, Used}
 
-abbrev pub answerNumber : Answer → ℕ
-answerNumber Done = 0
-answerNumber NoSlot = 1
-answerNumber NotAllowed = 2
-answerNumber WaitOpen = 3
-answerNumber OutOfRange = 4
-answerNumber Field = 8
-answerNumber Length = 9
-answerNumber Owned = 14
-answerNumber Used = 15
+abbrev pub answer_number : Answer → ℕ
+answer_number Done = 0
+answer_number NoSlot = 1
+answer_number NotAllowed = 2
+answer_number WaitOpen = 3
+answer_number OutOfRange = 4
+answer_number Field = 8
+answer_number Length = 9
+answer_number Owned = 14
+answer_number Used = 15
 
 -- a sender's answer is the card's under the same number
-abbrev pub fromSender : S.Answer → Answer
-fromSender S.Answer.Done = Done
-fromSender S.Answer.NoSlot = NoSlot
-fromSender S.Answer.NotAllowed = NotAllowed
-fromSender S.Answer.WaitOpen = WaitOpen
-fromSender S.Answer.OutOfRange = OutOfRange
-fromSender S.Answer.Field = Field
-fromSender S.Answer.Length = Length
+abbrev pub from_sender : S.Answer → Answer
+from_sender S.Answer.Done = Done
+from_sender S.Answer.NoSlot = NoSlot
+from_sender S.Answer.NotAllowed = NotAllowed
+from_sender S.Answer.WaitOpen = WaitOpen
+from_sender S.Answer.OutOfRange = OutOfRange
+from_sender S.Answer.Field = Field
+from_sender S.Answer.Length = Length
 
 -- 'a group other than the two is 1'
-abbrev pub groupAnswer : ℕ → Answer
-groupAnswer g = if g <? 2 then Done else NoSlot
+abbrev pub group_answer : ℕ → Answer
+group_answer g = if g <? 2 then Done else NoSlot

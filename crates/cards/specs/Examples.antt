@@ -5,7 +5,7 @@ use Rattle.sender.specs.Shown.{shown}
 use Rattle.cards.specs.declared.answers.Answer.TheVariants.{Done, Owned}
 use Rattle.cards.specs.declared.card.Card.{Card}
 use Rattle.cards.specs.Calls.Call.{AddSlot, Claim, RemoveSlot}
-use Rattle.cards.specs.Opened.{circuitsOpen}
+use Rattle.cards.specs.Opened.{circuits_open}
 use Rattle.cards.specs.Shown.{after, by}
 use Rattle.cards.specs.Theorems.Apart.{apart}
 use Rattle.cards.specs.Views.{Made, Reply, Same, View}
@@ -26,15 +26,15 @@ abbrev ns : List Made
 ns = by 0 (Claim 0) ∷ by 1 (Claim 1) ∷ by 0 (AddSlot 0) ∷ by 0 (AddSlot 1) ∷ []
 
 used : Same 0 one other ms ns
-unfolding circuitsOpen
+unfolding circuits_open
 used = apart 0 (omega arith) one other ms ns refl refl refl
 
 -- slot 1 is not group 0's: 14
-replies-used : ◌≡◌ {A = List Reply} (Answered Done ∷ Answered Done ∷ Answered Owned ∷ []) (Answered Done ∷ Answered Done ∷ Answered Owned ∷ [])
-unfolding circuitsOpen
-replies-used = used.replies
+replies_used : ◌≡◌ {A = List Reply} (Answered Done ∷ Answered Done ∷ Answered Owned ∷ []) (Answered Done ∷ Answered Done ∷ Answered Owned ∷ [])
+unfolding circuits_open
+replies_used = used.replies
 
 -- slot 0 is ADD with number 0, slot 1 IDLE, and no wait is open
-view-used : ◌≡◌ {A = List ℕ} (1 ∷ 0 ∷ 5 ∷ 255 ∷ 0 ∷ []) (1 ∷ 0 ∷ 5 ∷ 255 ∷ 0 ∷ [])
-unfolding circuitsOpen
-view-used = ap (λ (v : View). shown v.sender.table) used.view
+view_used : ◌≡◌ {A = List ℕ} (1 ∷ 0 ∷ 5 ∷ 255 ∷ 0 ∷ []) (1 ∷ 0 ∷ 5 ∷ 255 ∷ 0 ∷ [])
+unfolding circuits_open
+view_used = ap (λ (v : View). shown v.sender.table) used.view

@@ -2,10 +2,10 @@
 use Rattle.std.specs.Prelude.{List, ℕ}
 use Rattle.sender.specs.Shown.{shown}
 use Rattle.cards.specs.declared.card.Card.{Card}
-use Rattle.cards.specs.Answers.{answerNumber}
-use Rattle.cards.specs.Calls.{Call, outcomeOf}
+use Rattle.cards.specs.Answers.{answer_number}
+use Rattle.cards.specs.Calls.{Call, outcome_of}
 use Rattle.cards.specs.Commands.{start_of}
-use Rattle.cards.specs.Parts.{senderOf}
+use Rattle.cards.specs.Parts.{sender_of}
 use Rattle.cards.specs.Views.{Made, run}
 use Rattle.cards.specs.Views.Asked.{Do}
 
@@ -18,8 +18,8 @@ after count ms = run (start_of 0 count 0 0).card ms
 
 -- the number that a call after them is answered
 abbrev pub told : (count : ℕ) (ms : List Made) (group : ℕ) (k : Call) → ℕ
-told count ms g k = answerNumber (outcomeOf (after count ms) g k).answer
+told count ms g k = answer_number (outcome_of (after count ms) g k).answer
 
 -- the word and number of each slot of a group, then its wait
 abbrev pub board : ℕ → Card → List ℕ
-board g c = shown (senderOf c g).table
+board g c = shown (sender_of c g).table

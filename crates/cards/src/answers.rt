@@ -1,6 +1,6 @@
 // The answers of a card: those of a sender, then 14 and 15 (02, 2026-06).
 ghost use Rattle.std.specs.Prelude.{◌≡◌};
-ghost use Rattle.cards.specs.Answers.{answerNumber, groupAnswer, fromSender};
+ghost use Rattle.cards.specs.Answers.{answer_number, group_answer, from_sender};
 
 #[derive(Drop)]
 pub enum Answer {
@@ -17,7 +17,7 @@ pub enum Answer {
 
 impl Answer {
     pub fn number(self) -> u8
-        ensures { result ≡ answerNumber self }
+        ensures { result ≡ answer_number self }
     {
         match self {
             Answer::Done => 0,
@@ -34,7 +34,7 @@ impl Answer {
 }
 
 pub(crate) fn from_sender(answer: sender::Answer) -> Answer
-    ensures { result ≡ fromSender answer }
+    ensures { result ≡ from_sender answer }
 {
     match answer {
         sender::Answer::Done => Answer::Done,
@@ -49,7 +49,7 @@ pub(crate) fn from_sender(answer: sender::Answer) -> Answer
 
 // 'a group other than the two is 1'
 pub(crate) fn group_answer(group: u32) -> Answer
-    ensures { result ≡ groupAnswer group }
+    ensures { result ≡ group_answer group }
 {
     if group < 2 {
         Answer::Done

@@ -1,9 +1,9 @@
 // The card and its calls. For each the refusals are in the order 1, 14, 15, 3, 2; those of the sender follow as they are.
 ghost use Rattle.std.specs.Prelude.{◌≡◌, length};
-ghost use Rattle.cards.specs.Calls.{outcomeOf};
+ghost use Rattle.cards.specs.Calls.{outcome_of};
 ghost use Rattle.cards.specs.Calls.Call.{Claim, Release, AddSlot, RemoveSlot, Report, Lapse, StartEpoch};
 ghost use Rattle.cards.specs.Commands.{start_of};
-ghost use Rattle.cards.specs.Readings.{boardShown, outgoingShown, ownedShown, packetAnswer, packetBytes, payloadAnswer, payloadBytes, ranksShown};
+ghost use Rattle.cards.specs.Readings.{board_shown, outgoing_shown, owned_shown, packet_answer, packet_bytes, payload_answer, payload_bytes, ranks_shown};
 
 use crate::answers::Answer;
 use crate::{answers, owners, parts};
@@ -63,7 +63,7 @@ impl Card {
 
     // 1, 14.
     pub fn claim(self, group: u32, slot: u32) -> CardOutcome
-        ensures { result ≡ outcomeOf self group (Claim slot) }
+        ensures { result ≡ outcome_of self group (Claim slot) }
     {
         if !parts::is_slot(self, group, slot) {
             return parts::refuse(self, Answer::NoSlot);
@@ -77,7 +77,7 @@ impl Card {
 
     // 1, 14, 15.
     pub fn release(self, group: u32, slot: u32) -> CardOutcome
-        ensures { result ≡ outcomeOf self group (Release slot) }
+        ensures { result ≡ outcome_of self group (Release slot) }
     {
         if !parts::is_slot(self, group, slot) {
             return parts::refuse(self, Answer::NoSlot);
@@ -93,7 +93,7 @@ impl Card {
 
     // 1, 14, 3, 2.
     pub fn add(self, group: u32, slot: u32) -> CardOutcome
-        ensures { result ≡ outcomeOf self group (AddSlot slot) }
+        ensures { result ≡ outcome_of self group (AddSlot slot) }
     {
         if !parts::is_slot(self, group, slot) {
             return parts::refuse(self, Answer::NoSlot);
@@ -108,7 +108,7 @@ impl Card {
 
     // 1, 14, 3, 2.
     pub fn remove(self, group: u32, slot: u32) -> CardOutcome
-        ensures { result ≡ outcomeOf self group (RemoveSlot slot) }
+        ensures { result ≡ outcome_of self group (RemoveSlot slot) }
     {
         if !parts::is_slot(self, group, slot) {
             return parts::refuse(self, Answer::NoSlot);
@@ -122,7 +122,7 @@ impl Card {
     }
 
     pub fn report(self, group: u32, epoch: u8, mst: u8, rs_ack: u8) -> CardOutcome
-        ensures { result ≡ outcomeOf self group (Report epoch mst rs_ack) }
+        ensures { result ≡ outcome_of self group (Report epoch mst rs_ack) }
     {
         if group >= 2 {
             return parts::refuse(self, Answer::NoSlot);
@@ -133,7 +133,7 @@ impl Card {
     }
 
     pub fn lapse(self, group: u32) -> CardOutcome
-        ensures { result ≡ outcomeOf self group Lapse }
+        ensures { result ≡ outcome_of self group Lapse }
     {
         if group >= 2 {
             return parts::refuse(self, Answer::NoSlot);
@@ -144,7 +144,7 @@ impl Card {
     }
 
     pub fn start_epoch(self, group: u32, gid: u8, mst: u8, rs_ack: u8) -> CardOutcome
-        ensures { result ≡ outcomeOf self group (StartEpoch gid mst rs_ack) }
+        ensures { result ≡ outcome_of self group (StartEpoch gid mst rs_ack) }
     {
         if group >= 2 {
             return parts::refuse(self, Answer::NoSlot);
@@ -156,7 +156,7 @@ impl Card {
 
     // 1, 14, 9, 2.
     pub fn packet(self, group: u32, slot: u32, h4: &mut [u8]) -> Answer
-        ensures { (result ≡ packetAnswer self group slot h4.old) × (h4.new ≡ packetBytes self group slot h4.old) }
+        ensures { (result ≡ packet_answer self group slot h4.old) × (h4.new ≡ packet_bytes self group slot h4.old) }
     {
         if !parts::is_slot(self, group, slot) {
             return Answer::NoSlot;
@@ -170,8 +170,8 @@ impl Card {
 
     // 1, 14, 4, 9, 2.
     pub fn payload(self, group: u32, slot: u32, p: u32, frame: &[u8], member: &mut [u8]) -> Answer
-        ensures { (result ≡ payloadAnswer self group slot p (length frame.now) (length member.old))
-            × (member.new ≡ payloadBytes self group slot p frame.now member.old) }
+        ensures { (result ≡ payload_answer self group slot p (length frame.now) (length member.old))
+            × (member.new ≡ payload_bytes self group slot p frame.now member.old) }
     {
         if !parts::is_slot(self, group, slot) {
             return Answer::NoSlot;
@@ -185,7 +185,7 @@ impl Card {
 
     // The table now, of all slots.
     pub fn board(self, group: u32) -> BoardOutcome
-        ensures { result ≡ boardShown self group }
+        ensures { result ≡ board_shown self group }
     {
         let sender = parts::shown_sender(self, group);
         let table = sender.table;
@@ -197,7 +197,7 @@ impl Card {
 
     // The board that goes out in this epoch's packets.
     pub fn outgoing(self, group: u32) -> BoardOutcome
-        ensures { result ≡ outgoingShown self group }
+        ensures { result ≡ outgoing_shown self group }
     {
         let sender = parts::shown_sender(self, group);
         let board = sender.outgoing;
@@ -208,7 +208,7 @@ impl Card {
     }
 
     pub fn ranks(self, group: u32) -> RanksOutcome
-        ensures { result ≡ ranksShown self group }
+        ensures { result ≡ ranks_shown self group }
     {
         let sender = parts::shown_sender(self, group);
         RanksOutcome {
@@ -219,7 +219,7 @@ impl Card {
 
     // Which slots the group owns, a byte a slot.
     pub fn owned(self, group: u32) -> OwnedOutcome
-        ensures { result ≡ ownedShown self group }
+        ensures { result ≡ owned_shown self group }
     {
         let owners = self.owners;
         OwnedOutcome {

@@ -1,6 +1,6 @@
 // The owner row: 0 nobody, 1 group 0, 2 group 1; any other byte counts as nobody.
 ghost use Rattle.std.specs.Prelude.{◌≡◌, ◌<◌};
-ghost use Rattle.cards.specs.Owners.{hasOwner, isMarked, mark_of, ownedBytes, ownerIn, withOwner};
+ghost use Rattle.cards.specs.Owners.{has_owner, is_marked, mark_of, owned_bytes, owner_in, with_owner};
 
 // How the owner row marks a slot of this group.
 pub fn mark_of(group: u32) -> u8
@@ -10,7 +10,7 @@ pub fn mark_of(group: u32) -> u8
 }
 
 fn owner_in(owners: [u8; 64], slot: u32) -> u8
-    ensures { result ≡ ownerIn owners slot }
+    ensures { result ≡ owner_in owners slot }
 {
     let at = slot as usize;
     if at < 64 {
@@ -20,7 +20,7 @@ fn owner_in(owners: [u8; 64], slot: u32) -> u8
 }
 
 pub(crate) fn is_marked(owners: [u8; 64], group: u32, slot: u32) -> bool
-    ensures { result ≡ isMarked owners group slot }
+    ensures { result ≡ is_marked owners group slot }
 {
     let owner = owner_in(owners, slot);
     let mark = mark_of(group);
@@ -29,7 +29,7 @@ pub(crate) fn is_marked(owners: [u8; 64], group: u32, slot: u32) -> bool
 
 // Owned by anyone.
 pub(crate) fn has_owner(owners: [u8; 64], slot: u32) -> bool
-    ensures { result ≡ hasOwner owners slot }
+    ensures { result ≡ has_owner owners slot }
 {
     let owner = owner_in(owners, slot);
     (owner == 1) | (owner == 2)
@@ -37,7 +37,7 @@ pub(crate) fn has_owner(owners: [u8; 64], slot: u32) -> bool
 
 pub(crate) fn with_owner(owners: [u8; 64], slot: u32, mark: u8) -> [u8; 64]
     requires { slot < 64 }
-    ensures { result ≡ withOwner owners slot mark }
+    ensures { result ≡ with_owner owners slot mark }
 {
     let mut out = owners;
     out[slot as usize] = mark;
@@ -46,7 +46,7 @@ pub(crate) fn with_owner(owners: [u8; 64], slot: u32, mark: u8) -> [u8; 64]
 
 // A byte a slot: 1 where the group owns it.
 pub(crate) fn owned_bytes(owners: [u8; 64], group: u32) -> [u8; 64]
-    ensures { result ≡ ownedBytes owners group }
+    ensures { result ≡ owned_bytes owners group }
 {
     let mark = mark_of(group);
     let is_group = group < 2;

@@ -1,7 +1,7 @@
 // A group's part of the card: picked out, put back, and what is asked of a slot before the sender's own calls.
 ghost use Rattle.std.specs.Prelude.{◌≡◌, ◌<◌};
-ghost use Rattle.sender.specs.Table.{slotCount};
-ghost use Rattle.cards.specs.Parts.{emptySender, groupOutcome, isSlot, isUsed, marked, owns, refused, senderOf, shownSender, withSender};
+ghost use Rattle.sender.specs.Table.{slot_count};
+ghost use Rattle.cards.specs.Parts.{empty_sender, group_outcome, is_slot, is_used, marked, owns, refused, sender_of, shown_sender, with_sender};
 
 use crate::answers::Answer;
 use crate::card::{Card, CardOutcome};
@@ -11,13 +11,13 @@ use sender::{Sender, SenderOutcome};
 
 // The group's own sender.
 pub fn sender_of(card: Card, group: u32) -> Sender
-    ensures { result ≡ senderOf card group }
+    ensures { result ≡ sender_of card group }
 {
     if group == 0 { card.first } else { card.second }
 }
 
 fn with_sender(card: Card, group: u32, sender: Sender) -> Card
-    ensures { result ≡ withSender card group sender }
+    ensures { result ≡ with_sender card group sender }
 {
     let owners = card.owners;
     if group == 0 {
@@ -38,14 +38,14 @@ fn with_sender(card: Card, group: u32, sender: Sender) -> Card
 
 // What no group is shown.
 fn empty_sender() -> Sender
-    ensures { result ≡ emptySender }
+    ensures { result ≡ empty_sender }
 {
     let outcome = Sender::start(kinds::H4, 0, 0);
     outcome.sender
 }
 
 pub(crate) fn shown_sender(card: Card, group: u32) -> Sender
-    ensures { result ≡ shownSender card group }
+    ensures { result ≡ shown_sender card group }
 {
     if group < 2 {
         sender_of(card, group)
@@ -56,14 +56,14 @@ pub(crate) fn shown_sender(card: Card, group: u32) -> Sender
 
 // How many slots there are: a count above 64, which no call returns, is taken as 64.
 fn size(count: u8) -> u32
-    ensures { result ≡ slotCount count }
+    ensures { result ≡ slot_count count }
 {
     ground::size_byte(count) as u32
 }
 
 // 1: 'a group other than the two', or a slot not below that group's own count.
 pub(crate) fn is_slot(card: Card, group: u32, slot: u32) -> bool
-    ensures { result ≡ isSlot card group slot }
+    ensures { result ≡ is_slot card group slot }
 {
     let sender = sender_of(card, group);
     let table = sender.table;
@@ -81,7 +81,7 @@ pub(crate) fn is_own(card: Card, group: u32, slot: u32) -> bool
 // Not IDLE in the group's table.
 pub(crate) fn is_used(card: Card, group: u32, slot: u32) -> bool
     requires { slot < 64 }
-    ensures { result ≡ isUsed card group slot }
+    ensures { result ≡ is_used card group slot }
 {
     let sender = sender_of(card, group);
     let table = sender.table;
@@ -114,7 +114,7 @@ pub(crate) fn mark(card: Card, slot: u32, owner: u8) -> CardOutcome
 }
 
 pub(crate) fn group_outcome(card: Card, group: u32, outcome: SenderOutcome) -> CardOutcome
-    ensures { result ≡ groupOutcome card group outcome }
+    ensures { result ≡ group_outcome card group outcome }
 {
     let sender = outcome.sender;
     let answer = outcome.answer;

@@ -7,14 +7,14 @@ use Rattle.std.proofs.Math.Nat.{mod-mod, mod-add-mod, add-mod-mod, add-mod_right
 unfoldable pub after : (m a b : ℕ) → ℕ
 after m a b = (a + (m - b % m)) % m
 
-pub after-lt : (m a b : ℕ) → 0 < m → after m a b < m
+pub after_lt : (m a b : ℕ) → 0 < m → after m a b < m
 unfolding after
-after-lt m a b h = mod-lt (a + (m - b % m)) h
+after_lt m a b h = mod-lt (a + (m - b % m)) h
 
 -- going on from b by that many places leads to a
-pub after-leads : (m a b : ℕ) → 0 < m → (b + after m a b) % m ≡ a % m
+pub after_leads : (m a b : ℕ) → 0 < m → (b + after m a b) % m ≡ a % m
 unfolding after
-after-leads m a b h =
+after_leads m a b h =
     add-mod-mod b (a + (m - b % m)) m
     ∙ ap (λ (n : ℕ). n % m) e
     ∙ add-mul-mod_self_right (a + m) (b / m) m
@@ -24,9 +24,9 @@ after-leads m a b h =
     e = omega (arith, div-add-mod' b m, mod-lt b h)
 
 -- and it is the only number below m that does
-pub after-only : (m a b d : ℕ) → d < m → (b + d) % m ≡ a % m → after m a b ≡ d
+pub after_only : (m a b d : ℕ) → d < m → (b + d) % m ≡ a % m → after m a b ≡ d
 unfolding after
-after-only m a b d h e =
+after_only m a b d h e =
     sym (mod-add-mod a m (m - b % m))
     ∙ ap (λ (n : ℕ). (n + (m - b % m)) % m) (sym e)
     ∙ mod-add-mod (b + d) m (m - b % m)
@@ -42,12 +42,12 @@ after-only m a b d h e =
     whole = omega (arith, div-add-mod' b m, mod-lt b m>0)
 
 -- places count modulo m
-pub after-mod : (m a b : ℕ) → 0 < m → after m (a % m) (b % m) ≡ after m a b
-after-mod m a b h =
-    after-only m (a % m) (b % m) (after m a b) (after-lt m a b h)
-    (mod-add-mod b m (after m a b) ∙ after-leads m a b h ∙ sym (mod-mod a m))
+pub after_mod : (m a b : ℕ) → 0 < m → after m (a % m) (b % m) ≡ after m a b
+after_mod m a b h =
+    after_only m (a % m) (b % m) (after m a b) (after_lt m a b h)
+    (mod-add-mod b m (after m a b) ∙ after_leads m a b h ∙ sym (mod-mod a m))
 
 -- of two positions in an endless count, less than a round apart, the places' distance is the positions'
-pub after-of : (m x y : ℕ) → y ≤ x → x < y + m → after m (x % m) (y % m) ≡ x - y
-after-of m x y low high =
-    after-mod m x y (omega arith) ∙ after-only m x y (x - y) (omega arith) (ap (λ (n : ℕ). n % m) (omega arith))
+pub after_of : (m x y : ℕ) → y ≤ x → x < y + m → after m (x % m) (y % m) ≡ x - y
+after_of m x y low high =
+    after_mod m x y (omega arith) ∙ after_only m x y (x - y) (omega arith) (ap (λ (n : ℕ). n % m) (omega arith))

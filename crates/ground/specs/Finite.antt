@@ -35,11 +35,11 @@ lists_at (suc n) f t (true ∷ l) e =
     lists_at n (λ m. f (true ∷ m)) (and_right (lists n (λ m. f (false ∷ m))) (lists n (λ m. f (true ∷ m))) t) l (omega arith)
 
 -- two lists of bits compared by a test
-abbrev pub sameBits : List Bool → List Bool → Bool
-sameBits [] [] = true
-sameBits [] (b ∷ m) = false
-sameBits (a ∷ l) [] = false
-sameBits (a ∷ l) (b ∷ m) = beq a b && sameBits l m
+abbrev pub same_bits : List Bool → List Bool → Bool
+same_bits [] [] = true
+same_bits [] (b ∷ m) = false
+same_bits (a ∷ l) [] = false
+same_bits (a ∷ l) (b ∷ m) = beq a b && same_bits l m
 
 pub same_bit : (a b : Bool) → beq a b ≡ true → a ≡ b
 same_bit true true t = refl
@@ -47,28 +47,28 @@ same_bit true false t = sym t
 same_bit false true t = t
 same_bit false false t = refl
 
-pub same_bits : (l m : List Bool) → sameBits l m ≡ true → l ≡ m
-same_bits [] [] t = refl
-same_bits [] (b ∷ m) t = absurd (false≢true t)
-same_bits (a ∷ l) [] t = absurd (false≢true t)
-same_bits (a ∷ l) (b ∷ m) t =
-    ap₂ ◌∷◌ (same_bit a b (and_left (beq a b) (sameBits l m) t)) (same_bits l m (and_right (beq a b) (sameBits l m) t))
+pub same_bits_lem : (l m : List Bool) → same_bits l m ≡ true → l ≡ m
+same_bits_lem [] [] t = refl
+same_bits_lem [] (b ∷ m) t = absurd (false≢true t)
+same_bits_lem (a ∷ l) [] t = absurd (false≢true t)
+same_bits_lem (a ∷ l) (b ∷ m) t =
+    ap₂ ◌∷◌ (same_bit a b (and_left (beq a b) (same_bits l m) t)) (same_bits_lem l m (and_right (beq a b) (same_bits l m) t))
 
-pub bits-same : (l : List Bool) → sameBits l l ≡ true
-bits-same [] = refl
-bits-same (true ∷ l) = bits-same l
-bits-same (false ∷ l) = bits-same l
+pub bits_same : (l : List Bool) → same_bits l l ≡ true
+bits_same [] = refl
+bits_same (true ∷ l) = bits_same l
+bits_same (false ∷ l) = bits_same l
 
 -- two lists of bytes compared by a test
-abbrev pub sameBytes : List ℕ → List ℕ → Bool
-sameBytes [] [] = true
-sameBytes [] (b ∷ m) = false
-sameBytes (a ∷ l) [] = false
-sameBytes (a ∷ l) (b ∷ m) = a == b && sameBytes l m
+abbrev pub same_bytes : List ℕ → List ℕ → Bool
+same_bytes [] [] = true
+same_bytes [] (b ∷ m) = false
+same_bytes (a ∷ l) [] = false
+same_bytes (a ∷ l) (b ∷ m) = a == b && same_bytes l m
 
-pub same_bytes : (l m : List ℕ) → sameBytes l m ≡ true → l ≡ m
-same_bytes [] [] t = refl
-same_bytes [] (b ∷ m) t = absurd (false≢true t)
-same_bytes (a ∷ l) [] t = absurd (false≢true t)
-same_bytes (a ∷ l) (b ∷ m) t =
-    ap₂ ◌∷◌ (eqb-true a b (and_left (a == b) (sameBytes l m) t)) (same_bytes l m (and_right (a == b) (sameBytes l m) t))
+pub same_bytes_lem : (l m : List ℕ) → same_bytes l m ≡ true → l ≡ m
+same_bytes_lem [] [] t = refl
+same_bytes_lem [] (b ∷ m) t = absurd (false≢true t)
+same_bytes_lem (a ∷ l) [] t = absurd (false≢true t)
+same_bytes_lem (a ∷ l) (b ∷ m) t =
+    ap₂ ◌∷◌ (eqb-true a b (and_left (a == b) (same_bytes l m) t)) (same_bytes_lem l m (and_right (a == b) (same_bytes l m) t))

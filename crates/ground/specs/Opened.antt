@@ -2,6 +2,6 @@
 use Rattle.std.specs.Prelude.{ℕ}
 use Rattle.ground.specs.Circle.{after}
 
-unfoldable pub groundOpen : ℕ
+unfoldable pub ground_open : ℕ
 unfolding after
-groundOpen = 0
+ground_open = 0

@@ -16,14 +16,14 @@ m <? n = ltb m n
 abbrev pub ◌≤?◌ : ℕ → ℕ → Bool
 m ≤? n = leb m n
 
-choice-is : {A : Type 0} (test : Bool) (one other : A) → (if test then one else other) ≡ cond test one other
-choice-is test one other = refl
+choice_is : {A : Type 0} (test : Bool) (one other : A) → (if test then one else other) ≡ cond test one other
+choice_is test one other = refl
 
-same-is : (m n : ℕ) → (m == n) ≡ eqb m n
-same-is m n = refl
+same_is : (m n : ℕ) → (m == n) ≡ eqb m n
+same_is m n = refl
 
-below-is : (m n : ℕ) → (m <? n) ≡ ltb m n
-below-is m n = refl
+below_is : (m n : ℕ) → (m <? n) ≡ ltb m n
+below_is m n = refl
 
-at-most-is : (m n : ℕ) → (m ≤? n) ≡ leb m n
-at-most-is m n = refl
+at_most_is : (m n : ℕ) → (m ≤? n) ≡ leb m n
+at_most_is m n = refl

@@ -42,5 +42,5 @@ weight (false ∷ l) = weight l
 weight (true ∷ l) = suc (weight l)
 
 -- in how many bits two messages of one length differ
-abbrev pub bitsApart : List Bool → List Bool → ℕ
-bitsApart l m = weight (sum l m)
+abbrev pub bits_apart : List Bool → List Bool → ℕ
+bits_apart l m = weight (sum l m)

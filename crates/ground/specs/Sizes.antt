@@ -11,5 +11,5 @@ abbrev pub PAYLOAD-MOST : ℕ
 PAYLOAD-MOST = 2340
 
 -- 'each 0 to 5,000 epochs' (02, 2026-03): the longest hold-off and wait-to-restore
-abbrev pub timerMost : ℕ
-timerMost = 5000
+abbrev pub timer_most : ℕ
+timer_most = 5000

@@ -44,23 +44,23 @@ pub clash : {A : Type 0} (b : Bool) → b ≡ true → b ≡ false → A
 clash b t f = absurd (true≢false (sym t ∙ f))
 
 -- what holds of either side of a choice, where the test picks it, holds of the choice
-pub cond-by : {A : Type 0} (P : A → Type 0) (b : Bool) (x y : A) → (b ≡ true → P x) → (b ≡ false → P y) → P (if b then x else y)
-cond-by P true x y t f = t refl
-cond-by P false x y t f = f refl
+pub cond_by : {A : Type 0} (P : A → Type 0) (b : Bool) (x y : A) → (b ≡ true → P x) → (b ≡ false → P y) → P (if b then x else y)
+cond_by P true x y t f = t refl
+cond_by P false x y t f = f refl
 
 -- the smaller of two numbers is at most the second
-pub smaller-le : (m n : ℕ) → (if m <? n then m else n) ≤ n
-smaller-le m n = cond-by (λ r. r ≤ n) (m <? n) m n (λ e. let h = ltb-true m n e in omega arith) (λ e. omega arith)
+pub smaller_le : (m n : ℕ) → (if m <? n then m else n) ≤ n
+smaller_le m n = cond_by (λ r. r ≤ n) (m <? n) m n (λ e. let h = ltb-true m n e in omega arith) (λ e. omega arith)
 
-pub le-or-lt : (m n : ℕ) → (m ≤ n) ⊎ (n < m)
-le-or-lt m n = go (m ≤? n) refl
+pub le_or_lt : (m n : ℕ) → (m ≤ n) ⊎ (n < m)
+le_or_lt m n = go (m ≤? n) refl
   where
     go : (b : Bool) → (m ≤? n) ≡ b → (m ≤ n) ⊎ (n < m)
     go true e = inl (leb-true m n e)
     go false e = inr (leb-false m n e)
 
-pub eq-or-ne : (m n : ℕ) → (m ≡ n) ⊎ (m ≢ n)
-eq-or-ne m n = go (m == n) refl
+pub eq_or_ne : (m n : ℕ) → (m ≡ n) ⊎ (m ≢ n)
+eq_or_ne m n = go (m == n) refl
   where
     go : (b : Bool) → (m == n) ≡ b → (m ≡ n) ⊎ (m ≢ n)
     go true e = inl (eqb-true m n e)

@@ -1,7 +1,7 @@
 -- A card from one start on: its calls one after the other without end, each with the group that makes it. Any list of calls is a beginning of some such history.
 use Rattle.std.specs.Prelude.{ℕ}
 use Rattle.ground.specs.Table.{tabulate}
-use Rattle.cards.specs.Views.{Made, cardFrom}
+use Rattle.cards.specs.Views.{Made, card_from}
 use Rattle.cards.specs.declared.card.Card.{Card}
 
 pub record CardHistory : Type 0 where
@@ -12,5 +12,5 @@ pub record CardHistory : Type 0 where
   pub made : ℕ → Made
 
 -- the card after the first n calls
-unfoldable pub cardAt : CardHistory → ℕ → Card
-cardAt h n = cardFrom h.kind h.slots (h.first 0) (h.first 1) (tabulate n h.made)
+unfoldable pub card_at : CardHistory → ℕ → Card
+card_at h n = card_from h.kind h.slots (h.first 0) (h.first 1) (tabulate n h.made)

@@ -3,19 +3,19 @@ use Rattle.std.specs.Prelude.{◌≡◌, false, List, [], ◌∷◌, ℕ, zero, 
 use Rattle.ground.specs.Plain.{if◌then◌else◌}
 use Rattle.reply.specs.Reports.{Claim}
 use Rattle.reply.specs.declared.members.Port.{Port}
-use Rattle.reply.specs.Members.{isIdle, portAt}
-use Rattle.invariant.specs.Calls.{Fetch, Frame, Receiver, ReceiverCall, receiverAfter}
-use Rattle.invariant.specs.Reports.{gives, reportPorts}
+use Rattle.reply.specs.Members.{is_idle, port_at}
+use Rattle.invariant.specs.Calls.{Fetch, Frame, Receiver, ReceiverCall, receiver_after}
+use Rattle.invariant.specs.Reports.{gives, report_ports}
 
 -- The ports as each report saw them, the latest first: after one call more, and after some calls.
 
-abbrev pub sawWith : (x : Receiver) (call : ReceiverCall) (saw : List (List Port)) → List (List Port)
-sawWith x (Frame i failed h payload) saw = saw
-sawWith x (Fetch out report) saw = if gives x out report then reportPorts x.rows x.store ∷ saw else saw
+abbrev pub saw_with : (x : Receiver) (call : ReceiverCall) (saw : List (List Port)) → List (List Port)
+saw_with x (Frame i failed h payload) saw = saw
+saw_with x (Fetch out report) saw = if gives x out report then report_ports x.rows x.store ∷ saw else saw
 
-abbrev pub sawOf : (x : Receiver) (calls : List ReceiverCall) (saw : List (List Port)) → List (List Port)
-sawOf x [] saw = saw
-sawOf x (c ∷ calls) saw = sawOf (receiverAfter x c) calls (sawWith x c saw)
+abbrev pub saw_of : (x : Receiver) (calls : List ReceiverCall) (saw : List (List Port)) → List (List Port)
+saw_of x [] saw = saw
+saw_of x (c ∷ calls) saw = saw_of (receiver_after x c) calls (saw_with x c saw)
 
 -- so many of the latest in a row, and no more
 abbrev pub InARow : (P : List Port → Type 0) (m : ℕ) (saw : List (List Port)) → Type 0
@@ -26,7 +26,7 @@ InARow P (suc m) (ports ∷ saw) = P ports × InARow P m saw
 
 -- port i of n is without its claim: it is not IDLE, and is no candidate or another port is OK under its number
 abbrev pub Unclaimed : (count port : ℕ) (ports : List Port) → Type 0
-Unclaimed n i ports = (isIdle (portAt ports i) ≡ false) × (Claim ports n i → ⊥)
+Unclaimed n i ports = (is_idle (port_at ports i) ≡ false) × (Claim ports n i → ⊥)
 
 -- it has its claim
 abbrev pub Claimant : (count port : ℕ) (ports : List Port) → Type 0

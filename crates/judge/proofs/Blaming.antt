@@ -7,18 +7,18 @@ use native.Mathlib.Numerals.{add-one}
 use Rattle.ground.specs.Counting.Laws.Tests.{some_at}
 use Rattle.ground.specs.Counting.Words.{some}
 use Rattle.judge.specs.declared.seen.Seen.{Seen}
-use Rattle.judge.specs.Cause.{applies, blamedBy}
-use Rattle.judge.specs.Laws.Lowest.{lowest-first}
+use Rattle.judge.specs.Cause.{applies, blamed_by}
+use Rattle.judge.specs.Laws.Lowest.{lowest_first}
 use Rattle.judge.specs.Verdict.{highest}
 
 pub none_more : (f : ℕ → Bool) (i : ℕ) → some i f ≡ false → f i ≡ false → some (i + 1) f ≡ false
 none_more f i e h = rw (add-one, e, h) refl
 
 module _ (ports : List Seen) (n cause top : ℕ) (e : top ≡ highest ports n) where
-  pub blamed-first : (i : ℕ) → i < n → some i (applies ports top cause) ≡ false → applies ports top cause i ≡ true → i ≡ blamedBy ports n cause
-  unfolding blamedBy
-  blamed-first i b none t = rw (← e, some_at n (applies ports top cause) i b t, lowest-first n (applies ports top cause) i b none t) refl
+  pub blamed_first : (i : ℕ) → i < n → some i (applies ports top cause) ≡ false → applies ports top cause i ≡ true → i ≡ blamed_by ports n cause
+  unfolding blamed_by
+  blamed_first i b none t = rw (← e, some_at n (applies ports top cause) i b t, lowest_first n (applies ports top cause) i b none t) refl
 
-  pub blamed-none : some n (applies ports top cause) ≡ false → ◌≡◌ {A = ℕ} 255 (blamedBy ports n cause)
-  unfolding blamedBy
-  blamed-none none = rw (← e, none) refl
+  pub blamed_none : some n (applies ports top cause) ≡ false → ◌≡◌ {A = ℕ} 255 (blamed_by ports n cause)
+  unfolding blamed_by
+  blamed_none none = rw (← e, none) refl

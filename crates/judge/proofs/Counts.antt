@@ -3,6 +3,6 @@ use mathlib.Core.Bool.{Bool, true, false, cond}
 use Prim.Native.Nat.{ℕ, ◌≤◌}
 use native.Mathlib.Omega.{arith}
 
-pub one-fits : (b : Bool) (r : ℕ) → r ≡ cond b 1 0 → r ≤ 1
-one-fits true r e = omega arith
-one-fits false r e = omega arith
+pub one_fits : (b : Bool) (r : ℕ) → r ≡ cond b 1 0 → r ≤ 1
+one_fits true r e = omega arith
+one_fits false r e = omega arith

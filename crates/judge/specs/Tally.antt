@@ -5,47 +5,47 @@ use Rattle.ground.specs.Plain.{if◌then◌else◌, ◌==◌, ◌<?◌}
 use Rattle.ground.specs.Counting.Words.{some, every, count, greatest}
 use Rattle.judge.specs.declared.seen.Seen.{Seen}
 use Rattle.judge.specs.declared.verdict.Tally.{Tally}
-use Rattle.judge.specs.Seen.{activeSeen, eosSeen, lackingSeen, numberedSeen, refusedSeen, seen_at, unidleSeen}
+use Rattle.judge.specs.Seen.{active_seen, eos_seen, lacking_seen, numbered_seen, refused_seen, seen_at, unidle_seen}
 use Rattle.judge.specs.Verdict.{takes}
 
 abbrev pub tally_of : List Seen → ℕ → Tally
 tally_of ports n =
     record {
-      refused = some n (λ i. refusedSeen (seen_at ports i));
-      lacking = some n (λ i. lackingSeen (seen_at ports i));
-      zero = some n (λ i. unidleSeen (seen_at ports i) && (seen_at ports i).gid == 0);
-      other = some n (λ i. unidleSeen (seen_at ports i) && not ((seen_at ports i).gid == 0));
-      active = some n (λ i. activeSeen (seen_at ports i));
-      eos = some n (λ i. eosSeen (seen_at ports i));
+      refused = some n (λ i. refused_seen (seen_at ports i));
+      lacking = some n (λ i. lacking_seen (seen_at ports i));
+      zero = some n (λ i. unidle_seen (seen_at ports i) && (seen_at ports i).gid == 0);
+      other = some n (λ i. unidle_seen (seen_at ports i) && not ((seen_at ports i).gid == 0));
+      active = some n (λ i. active_seen (seen_at ports i));
+      eos = some n (λ i. eos_seen (seen_at ports i));
       missing = some n (λ i. not (seen_at ports i).whole);
-      highest = greatest n (λ i. activeSeen (seen_at ports i)) (λ i. (seen_at ports i).number);
-      numbered = count n (λ i. numberedSeen (seen_at ports i));
+      highest = greatest n (λ i. active_seen (seen_at ports i)) (λ i. (seen_at ports i).number);
+      numbered = count n (λ i. numbered_seen (seen_at ports i));
     }
 
 -- one port more
-abbrev pub tallyWith : Tally → Seen → Tally
-tallyWith t p =
+abbrev pub tally_with : Tally → Seen → Tally
+tally_with t p =
     record {
-      refused = t.refused || refusedSeen p;
-      lacking = t.lacking || lackingSeen p;
-      zero = t.zero || (unidleSeen p && p.gid == 0);
-      other = t.other || (unidleSeen p && not (p.gid == 0));
-      active = t.active || activeSeen p;
-      eos = t.eos || eosSeen p;
+      refused = t.refused || refused_seen p;
+      lacking = t.lacking || lacking_seen p;
+      zero = t.zero || (unidle_seen p && p.gid == 0);
+      other = t.other || (unidle_seen p && not (p.gid == 0));
+      active = t.active || active_seen p;
+      eos = t.eos || eos_seen p;
       missing = t.missing || not p.whole;
-      highest = if activeSeen p && t.highest <? p.number then p.number else t.highest;
-      numbered = t.numbered + (if numberedSeen p then 1 else 0);
+      highest = if active_seen p && t.highest <? p.number then p.number else t.highest;
+      numbered = t.numbered + (if numbered_seen p then 1 else 0);
     }
 
-unfoldable pub eosAloneBy : (ports : List Seen) (count top : ℕ) → Bool
-eosAloneBy ports n top = every n (λ i. beq (eosSeen (seen_at ports i)) (activeSeen (seen_at ports i) && (seen_at ports i).number == top))
+unfoldable pub eos_alone_by : (ports : List Seen) (count top : ℕ) → Bool
+eos_alone_by ports n top = every n (λ i. beq (eos_seen (seen_at ports i)) (active_seen (seen_at ports i) && (seen_at ports i).number == top))
 
-unfoldable pub exactTo : (ports : List Seen) (count limit : ℕ) → Bool
-exactTo ports n limit = every limit (λ q. takes ports n q)
+unfoldable pub exact_to : (ports : List Seen) (count limit : ℕ) → Bool
+exact_to ports n limit = every limit (λ q. takes ports n q)
 
 -- the first clause that holds the epoch, 0 where none does
-abbrev pub heldCause : (t : Tally) (repeated alone : Bool) → ℕ
-heldCause t repeated alone =
+abbrev pub held_cause : (t : Tally) (repeated alone : Bool) → ℕ
+held_cause t repeated alone =
     if t.refused then 1
     else if t.lacking then 2
     else if repeated then 3
@@ -54,12 +54,12 @@ heldCause t repeated alone =
     else 0
 
 -- the first that leaves it doubtful
-abbrev pub doubtCause : (unseen exact : Bool) → ℕ
-doubtCause unseen exact = if unseen then 6 else if exact then 0 else 7
+abbrev pub doubt_cause : (unseen exact : Bool) → ℕ
+doubt_cause unseen exact = if unseen then 6 else if exact then 0 else 7
 
 -- of a fixed group
-abbrev pub fixedCauseWith : (t : Tally) (repeated exact : Bool) → ℕ
-fixedCauseWith t repeated exact =
+abbrev pub fixed_cause_with : (t : Tally) (repeated exact : Bool) → ℕ
+fixed_cause_with t repeated exact =
     if t.missing then 6
     else if t.refused then 1
     else if t.lacking then 2

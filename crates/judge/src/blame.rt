@@ -1,9 +1,9 @@
 // The port to which the clause applies that decides. Asked for at a desk and not in a fetch, so each port may take a walk over those below it.
 ghost use Rattle.std.specs.Prelude.{◌≡◌, not, ◌&&◌, ◌≤◌, ◌<◌};
 ghost use Rattle.std.specs.Bool.{beq};
-ghost use Rattle.judge.specs.Cause.{applies, blamedBy, gidUnlike};
+ghost use Rattle.judge.specs.Cause.{applies, blamed_by, gid_unlike};
 ghost use Rattle.ground.specs.Plain.{◌==◌};
-ghost use Rattle.judge.specs.Seen.{activeSeen, eosSeen, size_of};
+ghost use Rattle.judge.specs.Seen.{active_seen, eos_seen, size_of};
 
 use crate::seen::Seen;
 use crate::{seen, verdict};
@@ -14,7 +14,7 @@ const NOBODY: u8 = 255;
 // One of the first k ports is not IDLE and has another GID.
 fn is_gid_unlike(ports: [Seen; 64], k: usize, gid: u8) -> bool
     requires { k ≤ 64 }
-    ensures { result ≡ gidUnlike ports k gid }
+    ensures { result ≡ gid_unlike ports k gid }
 {
     let mut found = false;
     let mut j = 0;
@@ -27,7 +27,7 @@ fn is_gid_unlike(ports: [Seen; 64], k: usize, gid: u8) -> bool
 }
 
 fn is_eos_wrong(port: Seen, top: u8) -> bool
-    ensures { result ≡ not (beq (eosSeen port) (activeSeen port && port.number == top)) }
+    ensures { result ≡ not (beq (eos_seen port) (active_seen port && port.number == top)) }
 {
     let last = seen::is_active(port) & (port.number == top);
     !(seen::is_eos(port) == last)
@@ -63,7 +63,7 @@ fn is_applied(ports: [Seen; 64], top: u8, cause: u8, i: usize) -> bool
 // Ends at the lowest.
 fn blamed_by(ports: [Seen; 64], n: usize, cause: u8) -> u8
     requires { n ≤ 64 }
-    ensures { result ≡ blamedBy ports n cause }
+    ensures { result ≡ blamed_by ports n cause }
 {
     let top = verdict::highest_of(ports, n);
     let mut i = 0;
@@ -78,7 +78,7 @@ fn blamed_by(ports: [Seen; 64], n: usize, cause: u8) -> u8
 
 // The lowest port to which the clause applies, or none.
 pub fn blamed(ports: [Seen; 64], count: u8, cause: u8) -> u8
-    ensures { result ≡ blamedBy ports (size_of count) cause }
+    ensures { result ≡ blamed_by ports (size_of count) cause }
 {
     let n = seen::size_of(count);
     blamed_by(ports, n, cause)

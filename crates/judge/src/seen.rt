@@ -1,6 +1,6 @@
 // What is seen of a port: the packet that rules it, and whether its frames stand in the store.
 ghost use Rattle.std.specs.Prelude.{◌≡◌};
-ghost use Rattle.judge.specs.Seen.{activeSeen, eosSeen, lackingSeen, numberedSeen, refusedSeen, unidleSeen};
+ghost use Rattle.judge.specs.Seen.{active_seen, eos_seen, lacking_seen, numbered_seen, refused_seen, unidle_seen};
 
 pub(crate) use ground::{one_if, size_of};
 use packet::Word;
@@ -19,13 +19,13 @@ pub struct Seen {
 }
 
 pub(crate) fn is_refused(port: Seen) -> bool
-    ensures { result ≡ refusedSeen port }
+    ensures { result ≡ refused_seen port }
 {
     port.whole & !port.good
 }
 
 pub(crate) fn is_active(port: Seen) -> bool
-    ensures { result ≡ activeSeen port }
+    ensures { result ≡ active_seen port }
 {
     port.whole
         & port.good
@@ -33,7 +33,7 @@ pub(crate) fn is_active(port: Seen) -> bool
 }
 
 pub(crate) fn is_numbered(port: Seen) -> bool
-    ensures { result ≡ numberedSeen port }
+    ensures { result ≡ numbered_seen port }
 {
     port.whole
         & port.good
@@ -44,19 +44,19 @@ pub(crate) fn is_numbered(port: Seen) -> bool
 }
 
 pub(crate) fn is_eos(port: Seen) -> bool
-    ensures { result ≡ eosSeen port }
+    ensures { result ≡ eos_seen port }
 {
     port.whole & port.good & (port.word == Word::EOS.0)
 }
 
 pub(crate) fn is_unidle(port: Seen) -> bool
-    ensures { result ≡ unidleSeen port }
+    ensures { result ≡ unidle_seen port }
 {
     port.whole & port.good & !(port.word == Word::IDLE.0)
 }
 
 pub(crate) fn is_lacking(port: Seen) -> bool
-    ensures { result ≡ lackingSeen port }
+    ensures { result ≡ lacking_seen port }
 {
     is_active(port) & !port.here
 }

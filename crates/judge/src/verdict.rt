@@ -2,9 +2,9 @@
 ghost use Rattle.std.specs.Prelude.{◌≡◌, true, [], ◌∷◌, ◌≤◌, ◌<◌};
 ghost use Rattle.ground.specs.Plain.{if◌then◌else◌};
 ghost use Rattle.judge.specs.Full.{Full};
-ghost use Rattle.judge.specs.Cause.{causeOf, fixedCause, lcasCause, mark_of};
+ghost use Rattle.judge.specs.Cause.{cause_of, fixed_cause, lcas_cause, mark_of};
 ghost use Rattle.judge.specs.Seen.{size_of};
-ghost use Rattle.judge.specs.Tally.{doubtCause, eosAloneBy, exactTo, fixedCauseWith, heldCause, tally_of, tallyWith};
+ghost use Rattle.judge.specs.Tally.{doubt_cause, eos_alone_by, exact_to, fixed_cause_with, held_cause, tally_of, tally_with};
 ghost use Rattle.judge.specs.Verdict.{highest, repeats, takes};
 
 use crate::seen::Seen;
@@ -60,7 +60,7 @@ fn choose(test: bool, one: u8, other: u8) -> u8
 
 fn with_port(tally: Tally, port: Seen) -> Tally
     requires { tally.numbered < 64 }
-    ensures { result ≡ tallyWith tally port }
+    ensures { result ≡ tally_with tally port }
 {
     let active = seen::is_active(port);
     let unidle = seen::is_unidle(port);
@@ -160,7 +160,7 @@ fn has_repeats(ports: [Seen; 64], n: usize, full: bool) -> bool
 
 fn is_eos_alone(ports: [Seen; 64], n: usize, highest: u8) -> bool
     requires { n ≤ 64 }
-    ensures { result ≡ eosAloneBy ports n highest }
+    ensures { result ≡ eos_alone_by ports n highest }
 {
     let mut all = true;
     let mut i = 0;
@@ -175,7 +175,7 @@ fn is_eos_alone(ports: [Seen; 64], n: usize, highest: u8) -> bool
 
 fn are_taken(ports: [Seen; 64], n: usize, limit: u8) -> bool
     requires { n ≤ 64 }
-    ensures { result ≡ exactTo ports n limit }
+    ensures { result ≡ exact_to ports n limit }
 {
     let mut all = true;
     let mut number = 0;
@@ -189,7 +189,7 @@ fn are_taken(ports: [Seen; 64], n: usize, limit: u8) -> bool
 // Each of the numbers below the limit is taken.
 fn is_exact(ports: [Seen; 64], n: usize, limit: u8, full: bool) -> bool
     requires { (n ≤ 64) × (limit ≤ n) × (full ≡ true → Full ports n) }
-    ensures { result ≡ exactTo ports n limit }
+    ensures { result ≡ exact_to ports n limit }
 {
     if full {
         return true;
@@ -198,7 +198,7 @@ fn is_exact(ports: [Seen; 64], n: usize, limit: u8, full: bool) -> bool
 }
 
 fn held_cause(tally: Tally, repeated: bool, alone: bool) -> u8
-    ensures { result ≡ heldCause tally repeated alone }
+    ensures { result ≡ held_cause tally repeated alone }
 {
     let eos = choose(
         tally.active & !alone & !(!tally.eos & tally.missing),
@@ -212,7 +212,7 @@ fn held_cause(tally: Tally, repeated: bool, alone: bool) -> u8
 }
 
 fn doubt_cause(unseen: bool, exact: bool) -> u8
-    ensures { result ≡ doubtCause unseen exact }
+    ensures { result ≡ doubt_cause unseen exact }
 {
     let numbers = choose(exact, NONE, NUMBERS);
     choose(unseen, UNSEEN, numbers)
@@ -220,7 +220,7 @@ fn doubt_cause(unseen: bool, exact: bool) -> u8
 
 fn lcas_cause(ports: [Seen; 64], n: usize) -> u8
     requires { n ≤ 64 }
-    ensures { result ≡ lcasCause ports n }
+    ensures { result ≡ lcas_cause ports n }
 {
     let full = numbers::is_full(ports, n);
     let tally = tallied(ports, n);
@@ -235,7 +235,7 @@ fn lcas_cause(ports: [Seen; 64], n: usize) -> u8
 }
 
 fn fixed_cause_with(tally: Tally, repeated: bool, exact: bool) -> u8
-    ensures { result ≡ fixedCauseWith tally repeated exact }
+    ensures { result ≡ fixed_cause_with tally repeated exact }
 {
     let numbers = choose(exact, NONE, NUMBERS);
     let twice = choose(repeated, REPEATED, numbers);
@@ -247,7 +247,7 @@ fn fixed_cause_with(tally: Tally, repeated: bool, exact: bool) -> u8
 // A fixed group (request 2026-12). X is the number of its ports, so no report of it is doubtful.
 fn fixed_cause(ports: [Seen; 64], n: usize) -> u8
     requires { n ≤ 64 }
-    ensures { result ≡ fixedCause ports n }
+    ensures { result ≡ fixed_cause ports n }
 {
     let full = numbers::is_full(ports, n);
     let tally = tallied(ports, n);
@@ -265,7 +265,7 @@ fn tallied_alone(port: Seen) -> Tally
 }
 
 fn is_eos_last(port: Seen, highest: u8) -> bool
-    ensures { result ≡ eosAloneBy (port ∷ []) 1 highest }
+    ensures { result ≡ eos_alone_by (port ∷ []) 1 highest }
 {
     let last = seen::is_active(port) & (port.number == highest);
     seen::is_eos(port) == last
@@ -278,7 +278,7 @@ fn has_zero(port: Seen) -> bool
 }
 
 fn lcas_alone(port: Seen) -> u8
-    ensures { result ≡ lcasCause (port ∷ []) 1 }
+    ensures { result ≡ lcas_cause (port ∷ []) 1 }
 {
     let tally = tallied_alone(port);
     let alone = is_eos_last(port, tally.highest);
@@ -291,7 +291,7 @@ fn lcas_alone(port: Seen) -> u8
 }
 
 fn fixed_alone(port: Seen) -> u8
-    ensures { result ≡ fixedCause (port ∷ []) 1 }
+    ensures { result ≡ fixed_cause (port ∷ []) 1 }
 {
     let tally = tallied_alone(port);
     let zero = has_zero(port);
@@ -299,7 +299,7 @@ fn fixed_alone(port: Seen) -> u8
 }
 
 fn cause_alone(kind: u8, port: Seen) -> u8
-    ensures { result ≡ causeOf kind (port ∷ []) 1 }
+    ensures { result ≡ cause_of kind (port ∷ []) 1 }
 {
     if kind == kinds::FIXED {
         return fixed_alone(port);
@@ -309,7 +309,7 @@ fn cause_alone(kind: u8, port: Seen) -> u8
 
 // Why the epoch is held or doubtful; the mark follows from it.
 pub fn cause(kind: u8, ports: [Seen; 64], count: u8) -> u8
-    ensures { result ≡ causeOf kind ports (size_of count) }
+    ensures { result ≡ cause_of kind ports (size_of count) }
 {
     if count == 1 {
         let port = ports[0];

@@ -1,9 +1,9 @@
 -- The moments of a run, by which demand 3 is said: in frame time t the ports of `done` have been served, those of `rest` are still to come.
 use Rattle.std.specs.Prelude.{◌≡◌, ◌⊎◌, List, [], ◌∷◌, ◌++◌, ℕ, zero, suc, ◌+◌, ◌-◌, ◌*◌, ◌≤◌, ◌<◌, length}
 use Rattle.ground.specs.Plain.{if◌then◌else◌, ◌<?◌, ◌≤?◌}
-use Rattle.step.specs.SentRuns.{startFrom}
+use Rattle.step.specs.SentRuns.{start_from}
 use Rattle.link.specs.Road.{L, Road, times}
-use Rattle.link.specs.Running.{Moment, hasBegun, through, turns}
+use Rattle.link.specs.Running.{Moment, has_begun, through, turns}
 
 -- a run: what stands in a frame time after the ports of a list have been served
 abbrev pub Run : Type 0
@@ -30,7 +30,7 @@ module _ (r : Road) where
 
   -- every port has had two multiframes, the first of which starts at MFI1 0, and no two are further apart than the spread
   pub record Ready (coming : ℕ → ℕ) : Type 0 where
-    pub stepped : (q : ℕ) → q < r.ports → startFrom r.kind r.offset (r.first q) + L r * 2 ≤ coming q
+    pub stepped : (q : ℕ) → q < r.ports → start_from r.kind r.offset (r.first q) + L r * 2 ≤ coming q
     pub near : (p q : ℕ) → p < r.ports → q < r.ports → coming p + L r ≤ coming q + r.window
 
   -- a moment that is not after another: by frame time, and by how many ports have been served in it
@@ -47,26 +47,26 @@ module _ (r : Road) where
     pub done : List ℕ
     pub port : ℕ
     pub rest : List ℕ
-    pub is-order : r.order time ≡ done ++ (port ∷ rest)
-    pub not_yet : hasBegun (run time done) ≡ 0
-    pub begun : hasBegun (run time (done ++ (port ∷ []))) ≡ 1
+    pub is_order : r.order time ≡ done ++ (port ∷ rest)
+    pub not_yet : has_begun (run time done) ≡ 0
+    pub begun : has_begun (run time (done ++ (port ∷ []))) ≡ 1
     pub foremost : Foremost (coming time rest) F
     pub ready : Ready (coming time rest)
     pub unready : Unready time done
 
   -- the answer to port p's frame at position x: 12 until the port has had two multiframes, the first of which starts at MFI1 0
   abbrev pub said : ℕ → ℕ → ℕ
-  said p x = if startFrom r.kind r.offset (r.first p) + L r * 2 ≤? x + 1 then 0 else 12
+  said p x = if start_from r.kind r.offset (r.first p) + L r * 2 ≤? x + 1 then 0 else 12
 
   -- of a port's turn in frame time t
-  abbrev pub saysOne : ℕ → ℕ → List ℕ
-  saysOne t p = if r.delay p + r.first p ≤? t then said p (t - r.delay p) ∷ [] else []
+  abbrev pub says_one : ℕ → ℕ → List ℕ
+  says_one t p = if r.delay p + r.first p ≤? t then said p (t - r.delay p) ∷ [] else []
 
   -- of some ports, one after the other, and of all frame times before t
   abbrev pub says : ℕ → List ℕ → List ℕ
   says t [] = []
-  says t (p ∷ ps) = saysOne t p ++ says t ps
+  says t (p ∷ ps) = says_one t p ++ says t ps
 
-  abbrev pub saysThrough : ℕ → List ℕ
-  saysThrough zero = []
-  saysThrough (suc t) = saysThrough t ++ says t (r.order t)
+  abbrev pub says_through : ℕ → List ℕ
+  says_through zero = []
+  says_through (suc t) = says_through t ++ says t (r.order t)

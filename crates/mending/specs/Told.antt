@@ -3,7 +3,7 @@ use Rattle.std.specs.Prelude.{ℕ, length}
 use Rattle.ground.specs.Plain.{if◌then◌else◌, ◌==◌, ◌≤?◌}
 use Rattle.ground.specs.Types.{Bytes}
 use Rattle.mending.specs.declared.measuring.Lengths.{Lengths}
-use Rattle.mending.specs.Mending.{mendAnswer, mendedOf, notesOf, readAnswer}
+use Rattle.mending.specs.Mending.{mend_answer, mended_of, notes_of, read_answer}
 
 -- the largest number that a length can be
 abbrev pub LARGEST : ℕ
@@ -14,16 +14,16 @@ abbrev pub told : ℕ → ℕ
 told n = if n ≤? LARGEST then n else LARGEST
 
 -- 13 and 4 come with no lengths
-unfoldable pub lengthsOf : Bytes → Lengths
-lengthsOf text =
-    if readAnswer text == 0
-    then (record { mended = length (mendedOf text); notes = told (length (notesOf text)); answer = 0 })
-    else (record { mended = 0; notes = 0; answer = readAnswer text })
+unfoldable pub lengths_of : Bytes → Lengths
+lengths_of text =
+    if read_answer text == 0
+    then (record { mended = length (mended_of text); notes = told (length (notes_of text)); answer = 0 })
+    else (record { mended = 0; notes = 0; answer = read_answer text })
 
 -- what is left of the lent buffers: 'no lines are written' under a refusal
 
-unfoldable pub mendedLeft : (text mended notes : Bytes) → Bytes
-mendedLeft text mended notes = if mendAnswer text (length mended) (length notes) == 0 then mendedOf text else mended
+unfoldable pub mended_left : (text mended notes : Bytes) → Bytes
+mended_left text mended notes = if mend_answer text (length mended) (length notes) == 0 then mended_of text else mended
 
-unfoldable pub notesLeft : (text mended notes : Bytes) → Bytes
-notesLeft text mended notes = if mendAnswer text (length mended) (length notes) == 0 then notesOf text else notes
+unfoldable pub notes_left : (text mended notes : Bytes) → Bytes
+notes_left text mended notes = if mend_answer text (length mended) (length notes) == 0 then notes_of text else notes

@@ -1,226 +1,226 @@
 -- Wrong readings of 2026-11, each as a definition with a recording on which it differs.
 use Rattle.std.specs.Prelude.{◌≡◌, refl, Bool, true, false, ◌||◌, List, [], ◌∷◌, ◌++◌, ℕ, zero, suc, ◌-◌, ◌%◌, length}
 use Rattle.ground.specs.Plain.{if◌then◌else◌, ◌==◌, ◌≤?◌}
-use Rattle.mending.specs.Following.{countDue, followed, followedIf, goodAmong, hasCount, isGood}
-use Rattle.mending.specs.Lines.{Fate, Judged, Line, countsOf, judged, linesWith, recordOf}
+use Rattle.mending.specs.Following.{count_due, followed, followed_if, good_among, has_count, is_good}
+use Rattle.mending.specs.Lines.{Fate, Judged, Line, counts_of, judged, lines_with, record_of}
 use Rattle.mending.specs.Lines.{Fate as F}
-use Rattle.mending.specs.Mending.{noteBy, noteText, notesFrom}
+use Rattle.mending.specs.Mending.{note_by, note_text, notes_from}
 use Rattle.recording.specs.declared.record.Record.{Record}
 use Rattle.recording.specs.declared.record.Record.TheVariants.{Frame, Malformed, Long, Unfinished, End}
 use Rattle.text.specs.Ascii.{ascii}
-use Rattle.mending.specs.Opened.{mendingOpen}
+use Rattle.mending.specs.Opened.{mending_open}
 
 -- Good by the last line plus one, broken or not. The request counts on from the last good one; here mending the mended recording changes it again.
-abbrev lineAmong : ℕ → ℕ → List ℕ → Bool
-lineAmong zero before counts = false
-lineAmong (suc n) before [] = false
-lineAmong (suc n) before (c ∷ cs) = isGood before 1 c || lineAmong n c cs
+abbrev line_among : ℕ → ℕ → List ℕ → Bool
+line_among zero before counts = false
+line_among (suc n) before [] = false
+line_among (suc n) before (c ∷ cs) = is_good before 1 c || line_among n c cs
 
-abbrev byLine : ℕ → ℕ → ℕ → List ℕ → List ℕ
-byLine before last since [] = []
-byLine before last since (c ∷ cs) =
-    if isGood before 1 c then c ∷ byLine c c 1 cs
-    else if lineAmong (4 - since) c cs then countDue last since ∷ byLine c last (suc since) cs
-    else c ∷ byLine c c 1 cs
+abbrev by_line : ℕ → ℕ → ℕ → List ℕ → List ℕ
+by_line before last since [] = []
+by_line before last since (c ∷ cs) =
+    if is_good before 1 c then c ∷ by_line c c 1 cs
+    else if line_among (4 - since) c cs then count_due last since ∷ by_line c last (suc since) cs
+    else c ∷ by_line c c 1 cs
 
-wrong-line : List ℕ → List ℕ
-wrong-line [] = []
-wrong-line (c ∷ cs) = c ∷ byLine c c 1 cs
+wrong_line : List ℕ → List ℕ
+wrong_line [] = []
+wrong_line (c ∷ cs) = c ∷ by_line c c 1 cs
 
-line-breaks : (wrong-line (0 ∷ 0 ∷ 1 ∷ 2 ∷ []) ≡ 0 ∷ 1 ∷ 1 ∷ 2 ∷ []) × (wrong-line (0 ∷ 1 ∷ 1 ∷ 2 ∷ []) ≡ 0 ∷ 1 ∷ 2 ∷ 2 ∷ []) × (followed (0 ∷ 0 ∷ 1 ∷ 2 ∷ []) ≡ 0 ∷ 0 ∷ 1 ∷ 2 ∷ [])
-unfolding mendingOpen wrong-line
-line-breaks = (refl, refl, refl)
+line_breaks : (wrong_line (0 ∷ 0 ∷ 1 ∷ 2 ∷ []) ≡ 0 ∷ 1 ∷ 1 ∷ 2 ∷ []) × (wrong_line (0 ∷ 1 ∷ 1 ∷ 2 ∷ []) ≡ 0 ∷ 1 ∷ 2 ∷ 2 ∷ []) × (followed (0 ∷ 0 ∷ 1 ∷ 2 ∷ []) ≡ 0 ∷ 0 ∷ 1 ∷ 2 ∷ [])
+unfolding mending_open wrong_line
+line_breaks = (refl, refl, refl)
 
 -- The lines since not counted: good is the last good one plus one, however many broken lines lie between, and a restored one gets the same.
-abbrev nextAmong : ℕ → ℕ → List ℕ → Bool
-nextAmong zero last counts = false
-nextAmong (suc n) last [] = false
-nextAmong (suc n) last (c ∷ cs) = isGood last 1 c || nextAmong n last cs
+abbrev next_among : ℕ → ℕ → List ℕ → Bool
+next_among zero last counts = false
+next_among (suc n) last [] = false
+next_among (suc n) last (c ∷ cs) = is_good last 1 c || next_among n last cs
 
-abbrev uncountedFrom : ℕ → ℕ → List ℕ → List ℕ
-uncountedFrom last since [] = []
-uncountedFrom last since (c ∷ cs) =
-    if isGood last 1 c then c ∷ uncountedFrom c 1 cs
-    else if nextAmong (4 - since) last cs then countDue last 1 ∷ uncountedFrom last (suc since) cs
-    else c ∷ uncountedFrom c 1 cs
+abbrev uncounted_from : ℕ → ℕ → List ℕ → List ℕ
+uncounted_from last since [] = []
+uncounted_from last since (c ∷ cs) =
+    if is_good last 1 c then c ∷ uncounted_from c 1 cs
+    else if next_among (4 - since) last cs then count_due last 1 ∷ uncounted_from last (suc since) cs
+    else c ∷ uncounted_from c 1 cs
 
-wrong-since : List ℕ → List ℕ
-wrong-since [] = []
-wrong-since (c ∷ cs) = c ∷ uncountedFrom c 1 cs
+wrong_since : List ℕ → List ℕ
+wrong_since [] = []
+wrong_since (c ∷ cs) = c ∷ uncounted_from c 1 cs
 
-since-breaks : (wrong-since (5 ∷ 6 ∷ 0 ∷ 7 ∷ 8 ∷ []) ≡ 5 ∷ 6 ∷ 7 ∷ 7 ∷ 8 ∷ []) × (followed (5 ∷ 6 ∷ 0 ∷ 7 ∷ 8 ∷ []) ≡ 5 ∷ 6 ∷ 0 ∷ 7 ∷ 8 ∷ [])
-    × (wrong-since (5 ∷ 6 ∷ 0 ∷ 8 ∷ []) ≡ 5 ∷ 6 ∷ 0 ∷ 8 ∷ []) × (followed (5 ∷ 6 ∷ 0 ∷ 8 ∷ []) ≡ 5 ∷ 6 ∷ 7 ∷ 8 ∷ [])
-unfolding mendingOpen wrong-since
-since-breaks = (refl, refl, refl, refl)
+since_breaks : (wrong_since (5 ∷ 6 ∷ 0 ∷ 7 ∷ 8 ∷ []) ≡ 5 ∷ 6 ∷ 7 ∷ 7 ∷ 8 ∷ []) × (followed (5 ∷ 6 ∷ 0 ∷ 7 ∷ 8 ∷ []) ≡ 5 ∷ 6 ∷ 0 ∷ 7 ∷ 8 ∷ [])
+    × (wrong_since (5 ∷ 6 ∷ 0 ∷ 8 ∷ []) ≡ 5 ∷ 6 ∷ 0 ∷ 8 ∷ []) × (followed (5 ∷ 6 ∷ 0 ∷ 8 ∷ []) ≡ 5 ∷ 6 ∷ 7 ∷ 8 ∷ [])
+unfolding mending_open wrong_since
+since_breaks = (refl, refl, refl, refl)
 
 -- Another number of broken lines at most, and the end taken for a good line or not.
 abbrev among : Bool → ℕ → ℕ → ℕ → List ℕ → Bool
-among atEnd zero last since counts = false
-among atEnd (suc n) last since [] = atEnd
-among atEnd (suc n) last since (c ∷ cs) = isGood last since c || among atEnd n last (suc since) cs
+among at_end zero last since counts = false
+among at_end (suc n) last since [] = at_end
+among at_end (suc n) last since (c ∷ cs) = is_good last since c || among at_end n last (suc since) cs
 
-abbrev mostFrom : Bool → ℕ → ℕ → ℕ → List ℕ → List ℕ
-mostFrom atEnd most last since [] = []
-mostFrom atEnd most last since (c ∷ cs) =
-    if isGood last since c then c ∷ mostFrom atEnd most c 1 cs
-    else if among atEnd (suc most - since) last (suc since) cs then countDue last since ∷ mostFrom atEnd most last (suc since) cs
-    else c ∷ mostFrom atEnd most c 1 cs
+abbrev most_from : Bool → ℕ → ℕ → ℕ → List ℕ → List ℕ
+most_from at_end most last since [] = []
+most_from at_end most last since (c ∷ cs) =
+    if is_good last since c then c ∷ most_from at_end most c 1 cs
+    else if among at_end (suc most - since) last (suc since) cs then count_due last since ∷ most_from at_end most last (suc since) cs
+    else c ∷ most_from at_end most c 1 cs
 
 abbrev most : Bool → ℕ → List ℕ → List ℕ
-most atEnd n [] = []
-most atEnd n (c ∷ cs) = c ∷ mostFrom atEnd n c 1 cs
+most at_end n [] = []
+most at_end n (c ∷ cs) = c ∷ most_from at_end n c 1 cs
 
 -- Restored at the end: 'or at the end of the recording, nothing is restored'.
-wrong-end : List ℕ → List ℕ
-wrong-end counts = most true 3 counts
+wrong_end : List ℕ → List ℕ
+wrong_end counts = most true 3 counts
 
-end-breaks : (wrong-end (5 ∷ 6 ∷ 9 ∷ []) ≡ 5 ∷ 6 ∷ 7 ∷ []) × (followed (5 ∷ 6 ∷ 9 ∷ []) ≡ 5 ∷ 6 ∷ 9 ∷ [])
-unfolding mendingOpen wrong-end
-end-breaks = (refl, refl)
+end_breaks : (wrong_end (5 ∷ 6 ∷ 9 ∷ []) ≡ 5 ∷ 6 ∷ 7 ∷ []) × (followed (5 ∷ 6 ∷ 9 ∷ []) ≡ 5 ∷ 6 ∷ 9 ∷ [])
+unfolding mending_open wrong_end
+end_breaks = (refl, refl)
 
 -- Four restored, and two at most: 'One to three'.
-wrong-four : List ℕ → List ℕ
-wrong-four counts = most false 4 counts
+wrong_four : List ℕ → List ℕ
+wrong_four counts = most false 4 counts
 
-four-breaks : (wrong-four (5 ∷ 0 ∷ 0 ∷ 0 ∷ 0 ∷ 10 ∷ []) ≡ 5 ∷ 6 ∷ 7 ∷ 8 ∷ 9 ∷ 10 ∷ []) × (followed (5 ∷ 0 ∷ 0 ∷ 0 ∷ 0 ∷ 10 ∷ []) ≡ 5 ∷ 0 ∷ 0 ∷ 0 ∷ 0 ∷ 10 ∷ [])
-unfolding mendingOpen wrong-four
-four-breaks = (refl, refl)
+four_breaks : (wrong_four (5 ∷ 0 ∷ 0 ∷ 0 ∷ 0 ∷ 10 ∷ []) ≡ 5 ∷ 6 ∷ 7 ∷ 8 ∷ 9 ∷ 10 ∷ []) × (followed (5 ∷ 0 ∷ 0 ∷ 0 ∷ 0 ∷ 10 ∷ []) ≡ 5 ∷ 0 ∷ 0 ∷ 0 ∷ 0 ∷ 10 ∷ [])
+unfolding mending_open wrong_four
+four_breaks = (refl, refl)
 
-wrong-two : List ℕ → List ℕ
-wrong-two counts = most false 2 counts
+wrong_two : List ℕ → List ℕ
+wrong_two counts = most false 2 counts
 
-two-breaks : (wrong-two (5 ∷ 0 ∷ 0 ∷ 0 ∷ 9 ∷ []) ≡ 5 ∷ 0 ∷ 0 ∷ 0 ∷ 9 ∷ []) × (followed (5 ∷ 0 ∷ 0 ∷ 0 ∷ 9 ∷ []) ≡ 5 ∷ 6 ∷ 7 ∷ 8 ∷ 9 ∷ [])
-unfolding mendingOpen wrong-two
-two-breaks = (refl, refl)
+two_breaks : (wrong_two (5 ∷ 0 ∷ 0 ∷ 0 ∷ 9 ∷ []) ≡ 5 ∷ 0 ∷ 0 ∷ 0 ∷ 9 ∷ []) × (followed (5 ∷ 0 ∷ 0 ∷ 0 ∷ 9 ∷ []) ≡ 5 ∷ 6 ∷ 7 ∷ 8 ∷ 9 ∷ [])
+unfolding mending_open wrong_two
+two_breaks = (refl, refl)
 
 -- Afresh behind the four, which are left: 'afresh at the first broken line'. left: so many lines are passed before one is taken as good.
-abbrev behindFour : ℕ → ℕ → ℕ → List ℕ → List ℕ
-behindFour left last since [] = []
-behindFour zero last since (c ∷ cs) =
-    if isGood last since c then c ∷ behindFour 0 c 1 cs
-    else if goodAmong (4 - since) last (suc since) cs then countDue last since ∷ behindFour 0 last (suc since) cs
-    else c ∷ behindFour 4 last since cs
-behindFour (suc zero) last since (c ∷ cs) = c ∷ behindFour 0 c 1 cs
-behindFour (suc (suc left)) last since (c ∷ cs) = c ∷ behindFour (suc left) last since cs
+abbrev behind_four : ℕ → ℕ → ℕ → List ℕ → List ℕ
+behind_four left last since [] = []
+behind_four zero last since (c ∷ cs) =
+    if is_good last since c then c ∷ behind_four 0 c 1 cs
+    else if good_among (4 - since) last (suc since) cs then count_due last since ∷ behind_four 0 last (suc since) cs
+    else c ∷ behind_four 4 last since cs
+behind_four (suc zero) last since (c ∷ cs) = c ∷ behind_four 0 c 1 cs
+behind_four (suc (suc left)) last since (c ∷ cs) = c ∷ behind_four (suc left) last since cs
 
-wrong-behind : List ℕ → List ℕ
-wrong-behind counts = behindFour 1 0 1 counts
+wrong_behind : List ℕ → List ℕ
+wrong_behind counts = behind_four 1 0 1 counts
 
-behind-breaks : (wrong-behind (5 ∷ 1 ∷ 9 ∷ 3 ∷ 4 ∷ 5 ∷ []) ≡ 5 ∷ 1 ∷ 9 ∷ 3 ∷ 4 ∷ 5 ∷ []) × (followed (5 ∷ 1 ∷ 9 ∷ 3 ∷ 4 ∷ 5 ∷ []) ≡ 5 ∷ 1 ∷ 2 ∷ 3 ∷ 4 ∷ 5 ∷ [])
-unfolding mendingOpen wrong-behind
-behind-breaks = (refl, refl)
+behind_breaks : (wrong_behind (5 ∷ 1 ∷ 9 ∷ 3 ∷ 4 ∷ 5 ∷ []) ≡ 5 ∷ 1 ∷ 9 ∷ 3 ∷ 4 ∷ 5 ∷ []) × (followed (5 ∷ 1 ∷ 9 ∷ 3 ∷ 4 ∷ 5 ∷ []) ≡ 5 ∷ 1 ∷ 2 ∷ 3 ∷ 4 ∷ 5 ∷ [])
+unfolding mending_open wrong_behind
+behind_breaks = (refl, refl)
 
 -- Afresh at the first of the four, but the other three not judged: the following goes on from the first, so they are lines since.
-abbrev unjudgedFrom : ℕ → ℕ → ℕ → List ℕ → List ℕ
-unjudgedFrom left last since [] = []
-unjudgedFrom zero last since (c ∷ cs) =
-    if isGood last since c then c ∷ unjudgedFrom 0 c 1 cs
-    else if goodAmong (4 - since) last (suc since) cs then countDue last since ∷ unjudgedFrom 0 last (suc since) cs
-    else c ∷ unjudgedFrom 3 c 1 cs
-unjudgedFrom (suc left) last since (c ∷ cs) = c ∷ unjudgedFrom left last (suc since) cs
+abbrev unjudged_from : ℕ → ℕ → ℕ → List ℕ → List ℕ
+unjudged_from left last since [] = []
+unjudged_from zero last since (c ∷ cs) =
+    if is_good last since c then c ∷ unjudged_from 0 c 1 cs
+    else if good_among (4 - since) last (suc since) cs then count_due last since ∷ unjudged_from 0 last (suc since) cs
+    else c ∷ unjudged_from 3 c 1 cs
+unjudged_from (suc left) last since (c ∷ cs) = c ∷ unjudged_from left last (suc since) cs
 
-wrong-unjudged : List ℕ → List ℕ
-wrong-unjudged [] = []
-wrong-unjudged (c ∷ cs) = c ∷ unjudgedFrom 0 c 1 cs
+wrong_unjudged : List ℕ → List ℕ
+wrong_unjudged [] = []
+wrong_unjudged (c ∷ cs) = c ∷ unjudged_from 0 c 1 cs
 
-unjudged-breaks : (wrong-unjudged (5 ∷ 1 ∷ 9 ∷ 3 ∷ 4 ∷ 5 ∷ []) ≡ 5 ∷ 1 ∷ 9 ∷ 3 ∷ 4 ∷ 5 ∷ []) × (followed (5 ∷ 1 ∷ 9 ∷ 3 ∷ 4 ∷ 5 ∷ []) ≡ 5 ∷ 1 ∷ 2 ∷ 3 ∷ 4 ∷ 5 ∷ [])
-unfolding mendingOpen wrong-unjudged
-unjudged-breaks = (refl, refl)
+unjudged_breaks : (wrong_unjudged (5 ∷ 1 ∷ 9 ∷ 3 ∷ 4 ∷ 5 ∷ []) ≡ 5 ∷ 1 ∷ 9 ∷ 3 ∷ 4 ∷ 5 ∷ []) × (followed (5 ∷ 1 ∷ 9 ∷ 3 ∷ 4 ∷ 5 ∷ []) ≡ 5 ∷ 1 ∷ 2 ∷ 3 ∷ 4 ∷ 5 ∷ [])
+unfolding mending_open wrong_unjudged
+unjudged_breaks = (refl, refl)
 
 -- Fewer than four broken lines at the end left as they are: 'or at the end' the following starts afresh too.
-abbrev leftFrom : ℕ → ℕ → List ℕ → List ℕ
-leftFrom last since [] = []
-leftFrom last since (c ∷ cs) =
-    if isGood last since c then c ∷ leftFrom c 1 cs
-    else if goodAmong (4 - since) last (suc since) cs then countDue last since ∷ leftFrom last (suc since) cs
-    else if 3 ≤? length cs then c ∷ leftFrom c 1 cs
+abbrev left_from : ℕ → ℕ → List ℕ → List ℕ
+left_from last since [] = []
+left_from last since (c ∷ cs) =
+    if is_good last since c then c ∷ left_from c 1 cs
+    else if good_among (4 - since) last (suc since) cs then count_due last since ∷ left_from last (suc since) cs
+    else if 3 ≤? length cs then c ∷ left_from c 1 cs
     else c ∷ cs
 
-wrong-left : List ℕ → List ℕ
-wrong-left [] = []
-wrong-left (c ∷ cs) = c ∷ leftFrom c 1 cs
+wrong_left : List ℕ → List ℕ
+wrong_left [] = []
+wrong_left (c ∷ cs) = c ∷ left_from c 1 cs
 
-left-breaks : (wrong-left (5 ∷ 0 ∷ 9 ∷ 2 ∷ []) ≡ 5 ∷ 0 ∷ 9 ∷ 2 ∷ []) × (followed (5 ∷ 0 ∷ 9 ∷ 2 ∷ []) ≡ 5 ∷ 0 ∷ 1 ∷ 2 ∷ [])
-unfolding mendingOpen wrong-left
-left-breaks = (refl, refl)
+left_breaks : (wrong_left (5 ∷ 0 ∷ 9 ∷ 2 ∷ []) ≡ 5 ∷ 0 ∷ 9 ∷ 2 ∷ []) × (followed (5 ∷ 0 ∷ 9 ∷ 2 ∷ []) ≡ 5 ∷ 0 ∷ 1 ∷ 2 ∷ [])
+unfolding mending_open wrong_left
+left_breaks = (refl, refl)
 
 -- The lines of all ports together: 'follows the H4 count of each port'.
-abbrev countsBy : (Record → List ℕ → List ℕ) → ℕ → ℕ → List Line → List ℕ
-countsBy f ports size [] = []
-countsBy f ports size (l ∷ ls) = f (recordOf ports size l) (countsBy f ports size ls)
+abbrev counts_by : (Record → List ℕ → List ℕ) → ℕ → ℕ → List Line → List ℕ
+counts_by f ports size [] = []
+counts_by f ports size (l ∷ ls) = f (record_of ports size l) (counts_by f ports size ls)
 
-abbrev countAny : Record → List ℕ → List ℕ
-countAny (Frame p h4 flag place next) counts = h4 % 16 ∷ counts
-countAny (Malformed next) counts = counts
-countAny Long counts = counts
-countAny Unfinished counts = counts
-countAny End counts = counts
+abbrev count_any : Record → List ℕ → List ℕ
+count_any (Frame p h4 flag place next) counts = h4 % 16 ∷ counts
+count_any (Malformed next) counts = counts
+count_any Long counts = counts
+count_any Unfinished counts = counts
+count_any End counts = counts
 
-wrong-together : ℕ → ℕ → List Line → List ℕ
-wrong-together ports size ls = followed (countsBy countAny ports size ls)
+wrong_together : ℕ → ℕ → List Line → List ℕ
+wrong_together ports size ls = followed (counts_by count_any ports size ls)
 
 abbrev interleaved : List Line
-interleaved = linesWith (ascii "0\t00\t0\tAA\n1\t01\t0\tAA\n0\t05\t0\tAA\n1\t02\t0\tAA\n0\t02\t0\tAA\n")
+interleaved = lines_with (ascii "0\t00\t0\tAA\n1\t01\t0\tAA\n0\t05\t0\tAA\n1\t02\t0\tAA\n0\t02\t0\tAA\n")
 
-together-breaks : (wrong-together 2 1 interleaved ≡ 0 ∷ 1 ∷ 5 ∷ 2 ∷ 2 ∷ []) × (followed (countsOf 2 1 0 interleaved) ≡ 0 ∷ 1 ∷ 2 ∷ []) × (followed (countsOf 2 1 1 interleaved) ≡ 1 ∷ 2 ∷ [])
-unfolding mendingOpen wrong-together
-together-breaks = (refl, refl, refl)
+together_breaks : (wrong_together 2 1 interleaved ≡ 0 ∷ 1 ∷ 5 ∷ 2 ∷ 2 ∷ []) × (followed (counts_of 2 1 0 interleaved) ≡ 0 ∷ 1 ∷ 2 ∷ []) × (followed (counts_of 2 1 1 interleaved) ≡ 1 ∷ 2 ∷ [])
+unfolding mending_open wrong_together
+together_breaks = (refl, refl, refl)
 
 -- Dropped lines counted as the port's, with a count that is never good: whose they were is not known. Here a line is restored that no good one follows.
-abbrev countDropped : Record → List ℕ → List ℕ
-countDropped (Frame p h4 flag place next) counts = h4 % 16 ∷ counts
-countDropped (Malformed next) counts = 16 ∷ counts
-countDropped Long counts = 16 ∷ counts
-countDropped Unfinished counts = counts
-countDropped End counts = counts
+abbrev count_dropped : Record → List ℕ → List ℕ
+count_dropped (Frame p h4 flag place next) counts = h4 % 16 ∷ counts
+count_dropped (Malformed next) counts = 16 ∷ counts
+count_dropped Long counts = 16 ∷ counts
+count_dropped Unfinished counts = counts
+count_dropped End counts = counts
 
-wrong-dropped : ℕ → ℕ → List Line → List ℕ
-wrong-dropped ports size ls = followed (countsBy countDropped ports size ls)
+wrong_dropped : ℕ → ℕ → List Line → List ℕ
+wrong_dropped ports size ls = followed (counts_by count_dropped ports size ls)
 
 abbrev torn : List Line
-torn = linesWith (ascii "0\t00\t0\tAA\n0\t0\n0\t05\t0\tAA\n0\t03\t0\tAA\n")
+torn = lines_with (ascii "0\t00\t0\tAA\n0\t0\n0\t05\t0\tAA\n0\t03\t0\tAA\n")
 
-dropped-breaks : (wrong-dropped 1 1 torn ≡ 0 ∷ 1 ∷ 2 ∷ 3 ∷ []) × (followed (countsOf 1 1 0 torn) ≡ 0 ∷ 5 ∷ 3 ∷ [])
-unfolding mendingOpen wrong-dropped
-dropped-breaks = (refl, refl)
+dropped_breaks : (wrong_dropped 1 1 torn ≡ 0 ∷ 1 ∷ 2 ∷ 3 ∷ []) × (followed (counts_of 1 1 0 torn) ≡ 0 ∷ 5 ∷ 3 ∷ [])
+unfolding mending_open wrong_dropped
+dropped_breaks = (refl, refl)
 
 -- Flagged lines not counted: they are lines of the port, and every flag would break its count. Here a good line becomes a broken one.
-abbrev countPlain : Record → List ℕ → List ℕ
-countPlain (Frame p h4 flag place next) counts = if flag == 0 then h4 % 16 ∷ counts else counts
-countPlain (Malformed next) counts = counts
-countPlain Long counts = counts
-countPlain Unfinished counts = counts
-countPlain End counts = counts
+abbrev count_plain : Record → List ℕ → List ℕ
+count_plain (Frame p h4 flag place next) counts = if flag == 0 then h4 % 16 ∷ counts else counts
+count_plain (Malformed next) counts = counts
+count_plain Long counts = counts
+count_plain Unfinished counts = counts
+count_plain End counts = counts
 
-wrong-plain : ℕ → ℕ → List Line → List ℕ
-wrong-plain ports size ls = followed (countsBy countPlain ports size ls)
+wrong_plain : ℕ → ℕ → List Line → List ℕ
+wrong_plain ports size ls = followed (counts_by count_plain ports size ls)
 
 abbrev flagged : List Line
-flagged = linesWith (ascii "0\t00\t0\tAA\n0\t01\t1\tAA\n0\t02\t0\tAA\n0\t02\t0\tAA\n")
+flagged = lines_with (ascii "0\t00\t0\tAA\n0\t01\t1\tAA\n0\t02\t0\tAA\n0\t02\t0\tAA\n")
 
-plain-breaks : (wrong-plain 1 1 flagged ≡ 0 ∷ 1 ∷ 2 ∷ []) × (followed (countsOf 1 1 0 flagged) ≡ 0 ∷ 1 ∷ 2 ∷ 2 ∷ [])
-unfolding mendingOpen wrong-plain
-plain-breaks = (refl, refl)
+plain_breaks : (wrong_plain 1 1 flagged ≡ 0 ∷ 1 ∷ 2 ∷ []) × (followed (counts_of 1 1 0 flagged) ≡ 0 ∷ 1 ∷ 2 ∷ 2 ∷ [])
+unfolding mending_open wrong_plain
+plain_breaks = (refl, refl)
 
 -- A note for each line that was kept: notes are 'For each line it dropped or altered'.
-abbrev wrong-note : ℕ → Line → Fate → List ℕ
-wrong-note n l F.Kept = noteText n (ascii "line") l.bytes l.bytes
-wrong-note n l (F.Restored old new) = noteBy 1 n l (F.Restored old new)
-wrong-note n l F.Dropped = noteBy 1 n l F.Dropped
+abbrev wrong_note : ℕ → Line → Fate → List ℕ
+wrong_note n l F.Kept = note_text n (ascii "line") l.bytes l.bytes
+wrong_note n l (F.Restored old new) = note_by 1 n l (F.Restored old new)
+wrong_note n l F.Dropped = note_by 1 n l F.Dropped
 
-abbrev wrong-notes : ℕ → List Judged → List ℕ
-wrong-notes n [] = []
-wrong-notes n (j ∷ js) = wrong-note n j.line j.fate ++ wrong-notes (suc n) js
+abbrev wrong_notes : ℕ → List Judged → List ℕ
+wrong_notes n [] = []
+wrong_notes n (j ∷ js) = wrong_note n j.line j.fate ++ wrong_notes (suc n) js
 
-notes-break : (notesFrom 1 2 (judged true 1 1 (linesWith (ascii "0\t00\t0\tAA\n"))) ≡ []) × (wrong-notes 2 (judged true 1 1 (linesWith (ascii "0\t00\t0\tAA\n"))) ≡ ascii "2\tline\t0\t00\t0\tAA\t0\t00\t0\tAA\n")
-unfolding mendingOpen
-notes-break = (refl, refl)
+notes_break : (notes_from 1 2 (judged true 1 1 (lines_with (ascii "0\t00\t0\tAA\n"))) ≡ []) × (wrong_notes 2 (judged true 1 1 (lines_with (ascii "0\t00\t0\tAA\n"))) ≡ ascii "2\tline\t0\t00\t0\tAA\t0\t00\t0\tAA\n")
+unfolding mending_open
+notes_break = (refl, refl)
 
 -- VC-12's lines followed by their second digit as if it were a count (request 2026-01): of its byte one bit is K4's, so that a run of three such bytes can read as a count that broke.
-wrong-kind : ℕ → List ℕ → List ℕ
-wrong-kind kind counts = followed counts
+wrong_kind : ℕ → List ℕ → List ℕ
+wrong_kind kind counts = followed counts
 
-kind-breaks : (wrong-kind 1 (0 ∷ 0 ∷ 2 ∷ []) ≡ 0 ∷ 1 ∷ 2 ∷ []) × (followedIf (hasCount 1) (0 ∷ 0 ∷ 2 ∷ []) ≡ 0 ∷ 0 ∷ 2 ∷ [])
-    × (followedIf (hasCount 0) (0 ∷ 0 ∷ 2 ∷ []) ≡ 0 ∷ 1 ∷ 2 ∷ []) × (followedIf (hasCount 2) (0 ∷ 0 ∷ 2 ∷ []) ≡ 0 ∷ 1 ∷ 2 ∷ [])
-unfolding mendingOpen wrong-kind
-kind-breaks = (refl, refl, refl, refl)
+kind_breaks : (wrong_kind 1 (0 ∷ 0 ∷ 2 ∷ []) ≡ 0 ∷ 1 ∷ 2 ∷ []) × (followed_if (has_count 1) (0 ∷ 0 ∷ 2 ∷ []) ≡ 0 ∷ 0 ∷ 2 ∷ [])
+    × (followed_if (has_count 0) (0 ∷ 0 ∷ 2 ∷ []) ≡ 0 ∷ 1 ∷ 2 ∷ []) × (followed_if (has_count 2) (0 ∷ 0 ∷ 2 ∷ []) ≡ 0 ∷ 1 ∷ 2 ∷ [])
+unfolding mending_open wrong_kind
+kind_breaks = (refl, refl, refl, refl)

@@ -1,8 +1,8 @@
 // The lines of a recording that are frames, copied one behind the other. A count is restored at its place in what is written already.
 ghost use Rattle.std.specs.Prelude.{◌≡◌, ◌≤◌, ◌<◌, drop, length, take};
-ghost use Rattle.mending.specs.Laws.Copies.{sweepIn};
-ghost use Rattle.mending.specs.Laws.Sweeps.{sweepEnd, sweepStart, swept, restoredIn, setIf};
-ghost use Rattle.mending.specs.Lines.{capital, linesWith};
+ghost use Rattle.mending.specs.Laws.Copies.{sweep_in};
+ghost use Rattle.mending.specs.Laws.Sweeps.{sweep_end, sweep_start, swept, restored_in, set_if};
+ghost use Rattle.mending.specs.Lines.{capital, lines_with};
 
 use crate::follow::{Follow, Keys};
 use crate::{follow, line};
@@ -18,7 +18,7 @@ fn capital_of(n: u8) -> u8
 // A count restored, if it is to be, at its place.
 fn restore_at(is: bool, place: usize, count: u8, mended: &mut [u8])
     requires { count < 16 }
-    ensures { mended.new ≡ setIf is place (capital count) mended.old }
+    ensures { mended.new ≡ set_if is place (capital count) mended.old }
 {
     if is {
         if place < mended.len() {
@@ -29,7 +29,7 @@ fn restore_at(is: bool, place: usize, count: u8, mended: &mut [u8])
 
 // What a port's next line lets be restored.
 fn restore(before: Follow, after: Follow, places: Keys, mended: &mut [u8])
-    ensures { mended.new ≡ restoredIn before after places mended.old }
+    ensures { mended.new ≡ restored_in before after places mended.old }
 {
     let first = follow::is_first(before, after);
     let second = follow::is_second(before, after);
@@ -56,7 +56,7 @@ fn restore(before: Follow, after: Follow, places: Keys, mended: &mut [u8])
 
 // What is restored at the end.
 fn finish(follows: [Follow; 64], keys: [Keys; 64], mended: &mut [u8])
-    ensures { mended.new ≡ sweepEnd 64 (sweepIn follows keys mended.old) }
+    ensures { mended.new ≡ sweep_end 64 (sweep_in follows keys mended.old) }
 {
     let mut i = 0;
     while i < 64 {
@@ -72,8 +72,8 @@ fn finish(follows: [Follow; 64], keys: [Keys; 64], mended: &mut [u8])
 // The lines behind the first, which lies up to `start` and is written already.
 fn copy_lines(text: &[u8], start: usize, ports: u32, size: u32, counted: bool, mended: &mut [u8])
     requires { (start ≤ length text.now) × (ports ≤ 64) × (start ≤ length mended.old)
-        × (length mended.old ≡ length (swept counted ports size (sweepStart (take start mended.old)) (linesWith (drop start text.now))).written) }
-    ensures { mended.new ≡ sweepEnd 64 (swept counted ports size (sweepStart (take start mended.old)) (linesWith (drop start text.now))) }
+        × (length mended.old ≡ length (swept counted ports size (sweep_start (take start mended.old)) (lines_with (drop start text.now))).written) }
+    ensures { mended.new ≡ sweep_end 64 (swept counted ports size (sweep_start (take start mended.old)) (lines_with (drop start text.now))) }
 {
     let begun = follow::none_yet();
     let none = follow::no_keys();
@@ -112,8 +112,8 @@ pub(crate) fn copy_all(
     mended: &mut [u8],
 )
     requires { (start ≤ length text.now) × (ports ≤ 64)
-        × (length mended.old ≡ length (swept counted ports size (sweepStart (take start text.now)) (linesWith (drop start text.now))).written) }
-    ensures { mended.new ≡ sweepEnd 64 (swept counted ports size (sweepStart (take start text.now)) (linesWith (drop start text.now))) }
+        × (length mended.old ≡ length (swept counted ports size (sweep_start (take start text.now)) (lines_with (drop start text.now))).written) }
+    ensures { mended.new ≡ sweep_end 64 (swept counted ports size (sweep_start (take start text.now)) (lines_with (drop start text.now))) }
 {
     payload::lay(&text[..start], 0, mended);
     copy_lines(text, start, ports, size, counted, mended);

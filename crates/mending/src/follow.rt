@@ -1,7 +1,7 @@
 // The H4 count of one port, followed line by line (2026-11).
 ghost use Rattle.std.specs.Prelude.{◌≡◌, ◌≤◌, ◌<◌};
-ghost use Rattle.mending.specs.Follow.{afresh, beginning, countBack, fed, fedBy, fedIf, going, lessPlace, restoresFirst, restoresLast, restoresSecond, restoresThird};
-ghost use Rattle.mending.specs.Laws.Sweeps.{noKeys, withKey};
+ghost use Rattle.mending.specs.Follow.{afresh, beginning, count_back, fed, fed_by, fed_if, going, less_place, restores_first, restores_last, restores_second, restores_third};
+ghost use Rattle.mending.specs.Laws.Sweeps.{no_keys, with_key};
 
 // begun: the port has had a line. v: the count less the place, modulo 16, of the last good line. place: that of the port's next line, modulo 16.
 // pending: broken lines in a row, which are the port's last ones. first, second, third: count less place of its last three lines, third the latest.
@@ -31,7 +31,7 @@ pub(crate) fn none_yet() -> Follow
 }
 
 fn less_place(count: u8, place: u8) -> u8
-    ensures { result ≡ lessPlace count place }
+    ensures { result ≡ less_place count place }
 {
     (count % 16 + 16 - place % 16) % 16
 }
@@ -39,7 +39,7 @@ fn less_place(count: u8, place: u8) -> u8
 // The count that a line gets, so many lines before the one to come.
 pub(crate) fn count_back(f: Follow, v: u8, back: u8) -> u8
     requires { back ≤ 16 }
-    ensures { (result ≡ countBack f v back) × (result < 16) }
+    ensures { (result ≡ count_back f v back) × (result < 16) }
 {
     (v % 16 + 16 + f.place % 16 - back) % 16
 }
@@ -76,7 +76,7 @@ fn still_pending(f: Follow, o: u8) -> u8
 }
 
 fn follow_on(f: Follow, o: u8) -> Follow
-    ensures { result ≡ fedBy f o }
+    ensures { result ≡ fed_by f o }
 {
     if !f.begun {
         return gone_on(f, o, 0, o);
@@ -99,7 +99,7 @@ pub(crate) fn followed(f: Follow, count: u8) -> Follow
 
 // The same where lines have counts; where they have none, nothing is to be restored.
 pub(crate) fn followed_if(counted: bool, f: Follow, count: u8) -> Follow
-    ensures { result ≡ fedIf counted f count }
+    ensures { result ≡ fed_if counted f count }
 {
     if counted {
         return followed(f, count);
@@ -110,26 +110,26 @@ pub(crate) fn followed_if(counted: bool, f: Follow, count: u8) -> Follow
 
 // Whether the next line lets one of the last three be restored, the first, second or third of them.
 pub(crate) fn is_first(before: Follow, after: Follow) -> bool
-    ensures { result ≡ restoresFirst before after }
+    ensures { result ≡ restores_first before after }
 {
     (3 <= before.pending) & (after.pending <= 3) & !(before.first == after.v)
 }
 
 pub(crate) fn is_second(before: Follow, after: Follow) -> bool
-    ensures { result ≡ restoresSecond before after }
+    ensures { result ≡ restores_second before after }
 {
     (2 <= before.pending) & (after.pending <= 2) & !(before.second == after.v)
 }
 
 pub(crate) fn is_third(before: Follow, after: Follow) -> bool
-    ensures { result ≡ restoresThird before after }
+    ensures { result ≡ restores_third before after }
 {
     (1 <= before.pending) & (after.pending <= 1) & !(before.third == after.v)
 }
 
 // Whether the second is restored at the end.
 pub(crate) fn is_last(f: Follow) -> bool
-    ensures { result ≡ restoresLast f }
+    ensures { result ≡ restores_last f }
 {
     (3 <= f.pending) & (f.third == f.first) & !(f.second == f.first)
 }
@@ -143,7 +143,7 @@ pub(crate) struct Keys {
 }
 
 pub(crate) fn no_keys() -> Keys
-    ensures { result ≡ noKeys }
+    ensures { result ≡ no_keys }
 {
     Keys {
         first: 0,
@@ -153,7 +153,7 @@ pub(crate) fn no_keys() -> Keys
 }
 
 pub(crate) fn with_key(keys: Keys, key: usize) -> Keys
-    ensures { result ≡ withKey keys key }
+    ensures { result ≡ with_key keys key }
 {
     Keys {
         first: keys.second,

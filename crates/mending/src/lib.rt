@@ -8,15 +8,15 @@ mod notes;
 mod opening;
 
 ghost use Rattle.std.specs.Prelude.{◌≡◌, length};
-ghost use Rattle.mending.specs.Mending.{mendAnswer};
-ghost use Rattle.mending.specs.Told.{lengthsOf, mendedLeft, notesLeft};
+ghost use Rattle.mending.specs.Mending.{mend_answer};
+ghost use Rattle.mending.specs.Told.{lengths_of, mended_left, notes_left};
 
 pub use follow::Follow;
 pub use measuring::Lengths;
 
 // How many bytes the mended recording and its notes have.
 pub fn mend_lengths(recording: &[u8]) -> Lengths
-    ensures { result ≡ lengthsOf recording.now }
+    ensures { result ≡ lengths_of recording.now }
 {
     let start = opening::opened(recording);
     if start.answer != 0 {
@@ -33,9 +33,9 @@ pub fn mend_lengths(recording: &[u8]) -> Lengths
 
 // The recording mended, and its notes: 'A library copies a recording lent whole'.
 pub fn mend(recording: &[u8], mended: &mut [u8], notes: &mut [u8]) -> u8
-    ensures { (result ≡ mendAnswer recording.now (length mended.old) (length notes.old))
-        × (mended.new ≡ mendedLeft recording.now mended.old notes.old)
-        × (notes.new ≡ notesLeft recording.now mended.old notes.old) }
+    ensures { (result ≡ mend_answer recording.now (length mended.old) (length notes.old))
+        × (mended.new ≡ mended_left recording.now mended.old notes.old)
+        × (notes.new ≡ notes_left recording.now mended.old notes.old) }
 {
     let start = opening::opened(recording);
     if start.answer != 0 {

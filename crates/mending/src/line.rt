@@ -1,6 +1,6 @@
 // A line of a recording behind the first, read at its place.
 ghost use Rattle.std.specs.Prelude.{◌≡◌, ◌≤◌, ◌<◌, length};
-ghost use Rattle.mending.specs.Laws.Reads.{Bounds, droppedTo, isUnended, next_of, place_of, readAt, readFound};
+ghost use Rattle.mending.specs.Laws.Reads.{Bounds, dropped_to, is_unended, next_of, place_of, read_at, read_found};
 
 use recording::Record;
 
@@ -16,7 +16,7 @@ pub(crate) struct Read {
 }
 
 fn dropped(next: usize, end: usize) -> Read
-    ensures { result ≡ droppedTo next end }
+    ensures { result ≡ dropped_to next end }
 {
     Read {
         next,
@@ -30,7 +30,7 @@ fn dropped(next: usize, end: usize) -> Read
 
 // The rest of the text is a line that lacks its end.
 fn is_unended(found: Record) -> bool
-    ensures { result ≡ isUnended found }
+    ensures { result ≡ is_unended found }
 {
     match found {
         Record::Frame(_, _, _, _, _) => false,
@@ -44,7 +44,7 @@ fn is_unended(found: Record) -> bool
 // Before a payload stand the second digit of H4, a tab, the flag and a tab. back: how many bytes the line's end has.
 fn read_as(found: Record, back: usize) -> Read
     requires { (4 ≤ place_of found) × (back ≤ next_of found) }
-    ensures { result ≡ readFound back found }
+    ensures { result ≡ read_found back found }
 {
     match found {
         Record::Frame(port, h4, _, place, next) => Read {
@@ -65,7 +65,7 @@ fn read_as(found: Record, back: usize) -> Read
 // The last line of a recording may lack its end.
 pub(crate) fn read_line(text: &[u8], at: usize, ports: u32, size: u32) -> Read
     requires { (at < length text.now) × (ports ≤ 64) }
-    ensures { (result ≡ readAt ports size at text.now) × Bounds at (length text.now) result }
+    ensures { (result ≡ read_at ports size at text.now) × Bounds at (length text.now) result }
 {
     let found = recording::record_at(text, at, ports, size);
     if is_unended(found) {

@@ -1,10 +1,10 @@
 // How long the mended recording and the notes are, with nothing written.
 ghost use Rattle.std.specs.Prelude.{◌≡◌, ◌+◌, ◌≤◌, drop, length};
-ghost use Rattle.mending.specs.Laws.Counting.{countIn, notedBy};
-ghost use Rattle.mending.specs.Laws.Sweeps.{countStart, droppedLength, keptLength, lengthEnd, notesLength, restoredLength, restoredLengths};
-ghost use Rattle.mending.specs.Lines.{linesWith};
+ghost use Rattle.mending.specs.Laws.Counting.{count_in, noted_by};
+ghost use Rattle.mending.specs.Laws.Sweeps.{count_start, dropped_length, kept_length, length_end, notes_length, restored_length, restored_lengths};
+ghost use Rattle.mending.specs.Lines.{lines_with};
 ghost use Rattle.mending.specs.Told.{told};
-ghost use Rattle.text.specs.Output.{ended, numberText};
+ghost use Rattle.text.specs.Output.{ended, number_text};
 ghost use Rattle.text.specs.Text.{TAB};
 
 use crate::follow::{Follow, Keys};
@@ -43,7 +43,7 @@ fn more(n: usize, m: usize) -> usize
 
 // How many bytes a number takes, with a tab behind it.
 fn number_length(number: u64) -> usize
-    ensures { (result ≡ length (ended (numberText number) TAB)) × (result ≤ 21) }
+    ensures { (result ≡ length (ended (number_text number) TAB)) × (result ≤ 21) }
 {
     let mut room = [0u8; 21];
     text::put_decimal(number, b'\t', &mut room, 0)
@@ -51,14 +51,14 @@ fn number_length(number: u64) -> usize
 
 // The note of a dropped line of so many bytes.
 fn dropped_length(number: u64, bytes: usize) -> usize
-    ensures { result ≡ told (droppedLength number bytes) }
+    ensures { result ≡ told (dropped_length number bytes) }
 {
     more(number_length(number) + 7, bytes)
 }
 
 // That of a restored one, if it is restored.
 fn restored_length(is: bool, number: usize) -> usize
-    ensures { (result ≡ restoredLength is number) × (result ≤ 30) }
+    ensures { (result ≡ restored_length is number) × (result ≤ 30) }
 {
     if is {
         return number_length(number as u64) + 9;
@@ -68,7 +68,7 @@ fn restored_length(is: bool, number: usize) -> usize
 
 // Of those that a port's next line lets be restored.
 fn restored_lengths(before: Follow, after: Follow, numbers: Keys) -> usize
-    ensures { result ≡ restoredLengths before after numbers }
+    ensures { result ≡ restored_lengths before after numbers }
 {
     let first = follow::is_first(before, after);
     let second = follow::is_second(before, after);
@@ -88,7 +88,7 @@ fn noted_by(
     at: usize,
 ) -> usize
     requires { at ≤ read.end }
-    ensures { result ≡ notedBy read before after numbers number at }
+    ensures { result ≡ noted_by read before after numbers number at }
 {
     if read.kept {
         return restored_lengths(before, after, numbers);
@@ -98,7 +98,7 @@ fn noted_by(
 
 // Those of the lines that are restored at the end, behind so many bytes of notes.
 fn with_last(follows: [Follow; 64], keys: [Keys; 64], before: usize) -> usize
-    ensures { result ≡ told (before + lengthEnd 64 (countIn follows keys 0)) }
+    ensures { result ≡ told (before + length_end 64 (count_in follows keys 0)) }
 {
     let mut notes = before;
     let mut i = 0;
@@ -122,7 +122,7 @@ pub(crate) fn lengths_from(
     counted: bool,
 ) -> Lengths
     requires { (start ≤ length text.now) × (ports ≤ 64) }
-    ensures { result ≡ record { mended = start + keptLength ports size (linesWith (drop start text.now)); notes = told (notesLength counted ports size countStart (linesWith (drop start text.now))); answer = 0 } }
+    ensures { result ≡ record { mended = start + kept_length ports size (lines_with (drop start text.now)); notes = told (notes_length counted ports size count_start (lines_with (drop start text.now))); answer = 0 } }
 {
     let begun = follow::none_yet();
     let none = follow::no_keys();

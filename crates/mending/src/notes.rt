@@ -1,11 +1,11 @@
 // The notes: the recording and the mended one walked side by side.
 ghost use Rattle.std.specs.Prelude.{◌≡◌, [], ◌∷◌, ◌+◌, ◌-◌, ◌≤◌, ◌<◌, drop, get_or, length};
 ghost use Rattle.std.proofs.Math.Seq.{slice};
-ghost use Rattle.mending.specs.Laws.Noting.{noteRead, toRead};
-ghost use Rattle.mending.specs.Laws.Sweeps.{notesSwept};
+ghost use Rattle.mending.specs.Laws.Noting.{note_read, to_read};
+ghost use Rattle.mending.specs.Laws.Sweeps.{notes_swept};
 ghost use Rattle.mending.specs.Laws.Reads.{Bounds};
-ghost use Rattle.mending.specs.Lines.{linesWith};
-ghost use Rattle.mending.specs.Mending.{noteText};
+ghost use Rattle.mending.specs.Lines.{lines_with};
+ghost use Rattle.mending.specs.Mending.{note_text};
 ghost use Rattle.text.specs.Ascii.{ascii};
 ghost use Rattle.text.specs.Output.{Put};
 
@@ -25,8 +25,8 @@ fn put_dropped(
     notes: &mut [u8],
     start: usize,
 ) -> usize
-    requires { (at ≤ end) × (end ≤ length text.now) × (start + length (noteText number (ascii "line") (slice at end text.now) []) ≤ length notes.old) }
-    ensures { Put (noteText number (ascii "line") (slice at end text.now) []) start notes.old result notes.new }
+    requires { (at ≤ end) × (end ≤ length text.now) × (start + length (note_text number (ascii "line") (slice at end text.now) []) ≤ length notes.old) }
+    ensures { Put (note_text number (ascii "line") (slice at end text.now) []) start notes.old result notes.new }
 {
     let second = text::put_decimal(number, TAB, notes, start);
     let third = text::put(b"line\t", notes, second);
@@ -36,8 +36,8 @@ fn put_dropped(
 
 // The second digit of H4 was restored.
 fn put_restored(number: u64, high: u8, old: u8, new: u8, notes: &mut [u8], start: usize) -> usize
-    requires { start + length (noteText number (ascii "H4") (high ∷ old ∷ []) (high ∷ new ∷ [])) ≤ length notes.old }
-    ensures { Put (noteText number (ascii "H4") (high ∷ old ∷ []) (high ∷ new ∷ [])) start notes.old result notes.new }
+    requires { start + length (note_text number (ascii "H4") (high ∷ old ∷ []) (high ∷ new ∷ [])) ≤ length notes.old }
+    ensures { Put (note_text number (ascii "H4") (high ∷ old ∷ []) (high ∷ new ∷ [])) start notes.old result notes.new }
 {
     let second = text::put_decimal(number, TAB, notes, start);
     let third = text::put(b"H4\t", notes, second);
@@ -61,8 +61,8 @@ fn put_note(
     notes: &mut [u8],
     start: usize,
 ) -> usize
-    requires { Bounds at (length text.now) read × (to ≤ at) × (start + length (noteRead number text.now at mended.now to read) ≤ length notes.old) }
-    ensures { Put (noteRead number text.now at mended.now to read) start notes.old result notes.new }
+    requires { Bounds at (length text.now) read × (to ≤ at) × (start + length (note_read number text.now at mended.now to read) ≤ length notes.old) }
+    ensures { Put (note_read number text.now at mended.now to read) start notes.old result notes.new }
 {
     if !read.kept {
         return put_dropped(number, text, at, read.end, notes, start);
@@ -79,7 +79,7 @@ fn put_note(
 // Where the next line lies in the mended recording.
 fn after(read: Read, at: usize, to: usize) -> usize
     requires { (at ≤ read.next) × (to ≤ at) }
-    ensures { result ≡ toRead at to read }
+    ensures { result ≡ to_read at to read }
 {
     if read.kept {
         return to + (read.next - at);
@@ -95,8 +95,8 @@ pub(crate) fn put_notes(
     mended: &[u8],
     notes: &mut [u8],
 )
-    requires { (start ≤ length text.now) × (ports ≤ 64) × (length notes.old ≡ length (notesSwept ports size mended.now 2 start (linesWith (drop start text.now)))) }
-    ensures { notes.new ≡ notesSwept ports size mended.now 2 start (linesWith (drop start text.now)) }
+    requires { (start ≤ length text.now) × (ports ≤ 64) × (length notes.old ≡ length (notes_swept ports size mended.now 2 start (lines_with (drop start text.now)))) }
+    ensures { notes.new ≡ notes_swept ports size mended.now 2 start (lines_with (drop start text.now)) }
 {
     let mut at = start;
     let mut to = start;

@@ -1,6 +1,6 @@
 // The first line of a recording: whether it can be read, and whether its settings are in range.
 ghost use Rattle.std.specs.Prelude.{◌≡◌, ◌≤◌};
-ghost use Rattle.mending.specs.Laws.Starts.{noStart, start_of, startWith, timesBoth};
+ghost use Rattle.mending.specs.Laws.Starts.{no_start, start_of, start_with, times_both};
 ghost use Rattle.mending.specs.Mending.{fitting};
 
 use packet::kinds;
@@ -17,7 +17,7 @@ pub(crate) struct Start {
 }
 
 fn refused(answer: u8) -> Start
-    ensures { result ≡ noStart answer }
+    ensures { result ≡ no_start answer }
 {
     Start {
         next: 0,
@@ -31,7 +31,7 @@ fn refused(answer: u8) -> Start
 // The times of the group's ports are in range.
 fn times_fit(settings: Settings) -> bool
     requires { settings.ports ≤ 64 }
-    ensures { result ≡ timesBoth settings }
+    ensures { result ≡ times_both settings }
 {
     let hold = settings.hold_off;
     let restore = settings.restore;
@@ -54,7 +54,7 @@ fn is_fitting(settings: Settings) -> bool
 }
 
 fn opened_with(settings: Settings, next: usize) -> Start
-    ensures { result ≡ startWith settings next }
+    ensures { result ≡ start_with settings next }
 {
     if is_fitting(settings) {
         return Start {

@@ -10,22 +10,22 @@ use Rattle.none_due.specs.Proofs.Started as S
 use Rattle.packet.specs.Kinds.{frames}
 use Rattle.replay_lines.specs.declared.replay.Phase.TheVariants.{Reading}
 use Rattle.replay_lines.specs.Replay.{beginning}
-use Rattle.replay_lines.specs.Runs.{Desk, deskThrough}
-use Rattle.rows.specs.Group.{groupAt}
+use Rattle.replay_lines.specs.Runs.{Desk, desk_through}
+use Rattle.rows.specs.Group.{group_at}
 
 -- fetches that all give a report are at most as many as the window has epochs, whatever output and record each is lent
-pub few-due : (x : Receiver) → Kept x.rows → (calls : List ReceiverCall) → AllGive x calls → length calls * frames (groupAt x.rows).kind ≤ (groupAt x.rows).window
-few-due = F.few-due
+pub few_due : (x : Receiver) → Kept x.rows → (calls : List ReceiverCall) → AllGive x calls → length calls * frames (group_at x.rows).kind ≤ (group_at x.rows).window
+few_due = F.few_due
 
 -- so of one more some one finds none
-pub none-due : (x : Receiver) → Kept x.rows → (calls : List ReceiverCall) → (groupAt x.rows).window < length calls * frames (groupAt x.rows).kind → AllGive x calls → ⊥
-none-due = F.none-due
+pub none_due_lem : (x : Receiver) → Kept x.rows → (calls : List ReceiverCall) → (group_at x.rows).window < length calls * frames (group_at x.rows).kind → AllGive x calls → ⊥
+none_due_lem = F.none_due_lem
 
 -- A replay that is ready stays so from line to line: behind each frame every report that is due is fetched, of the W fetches that may follow one finds none, and none stays due at the cut or at the end.
-pub stays-ready : (out : List ℕ) (d : Desk) → Ready out d → (lines : List (List ℕ)) → Ready out (deskThrough out d lines)
-stays-ready = D.stays-ready
+pub stays_ready : (out : List ℕ) (d : Desk) → Ready out d → (lines : List (List ℕ)) → Ready out (desk_through out d lines)
+stays_ready = D.stays_ready
 
 -- So of every recording, however far it has been read: while lines are read, no report is due between two of them, nor behind the last. Of the W fetches that may follow a frame one finds none.
-pub always-ready : (out : List ℕ) (rows : List (List ℕ)) (store : List ℕ) → 321 ≤ length rows → (lines : List (List ℕ))
-    → (deskThrough out (record { replay = beginning; rows = rows; store = store }) lines).replay.phase ≡ Reading → Ready out (deskThrough out (record { replay = beginning; rows = rows; store = store }) lines)
-always-ready = S.always-ready
+pub always_ready : (out : List ℕ) (rows : List (List ℕ)) (store : List ℕ) → 321 ≤ length rows → (lines : List (List ℕ))
+    → (desk_through out (record { replay = beginning; rows = rows; store = store }) lines).replay.phase ≡ Reading → Ready out (desk_through out (record { replay = beginning; rows = rows; store = store }) lines)
+always_ready = S.always_ready

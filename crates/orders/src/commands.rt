@@ -1,6 +1,6 @@
 // A command: 'a small record of kind, group and slot' (02, 2026-07). The kinds are the four calls of a card that take a group and a slot.
 ghost use Rattle.std.specs.Prelude.{◌≡◌, ◌<◌, length};
-ghost use Rattle.orders.specs.Orders.{outcomeBy, storedBy};
+ghost use Rattle.orders.specs.Orders.{outcome_by, stored_by};
 
 use cards::{Card, CardOutcome};
 
@@ -20,7 +20,7 @@ pub struct Command {
 }
 
 fn outcome_of(card: Card, command: Command) -> CardOutcome
-    ensures { result ≡ outcomeBy card command }
+    ensures { result ≡ outcome_by card command }
 {
     let kind = command.kind;
     let group = command.group;
@@ -36,7 +36,7 @@ fn outcome_of(card: Card, command: Command) -> CardOutcome
 // The card that one command leaves; its number stands in the list of answers.
 pub(crate) fn one(card: Card, command: Command, i: usize, answers: &mut [u8]) -> Card
     requires { i < length answers.old }
-    ensures { (result ≡ (outcomeBy card command).card) × (answers.new ≡ storedBy card command i answers.old) }
+    ensures { (result ≡ (outcome_by card command).card) × (answers.new ≡ stored_by card command i answers.old) }
 {
     let done = outcome_of(card, command);
     let answer = done.answer;

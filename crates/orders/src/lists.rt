@@ -1,6 +1,6 @@
 // An order is a list of commands. `order` and `first_of` are proved by a walk of their own, since they have a slice of structs in them: they hold one loop and one call, and no test.
 ghost use Rattle.std.specs.Prelude.{◌≡◌, ◌≤◌, length, take};
-ghost use Rattle.orders.specs.Orders.{answersOf, finishOf, firstAnswers, firstOrdered, orderedOf, turnsOf};
+ghost use Rattle.orders.specs.Orders.{answers_of, finish_of, first_answers, first_ordered, ordered_of, turns_of};
 
 use crate::commands;
 use crate::commands::Command;
@@ -14,14 +14,14 @@ pub struct Ordered {
 
 // How many commands are done.
 fn turns(commands: usize, answers: usize) -> usize
-    ensures { result ≡ turnsOf commands answers }
+    ensures { result ≡ turns_of commands answers }
 {
     if commands == answers { commands } else { 0 }
 }
 
 // 'answers list of a different length than the commands is 9'
 fn finish(card: Card, commands: usize, answers: usize) -> Ordered
-    ensures { result ≡ finishOf card commands answers }
+    ensures { result ≡ finish_of card commands answers }
 {
     if commands != answers {
         Ordered {
@@ -38,7 +38,7 @@ fn finish(card: Card, commands: usize, answers: usize) -> Ordered
 
 // Each command on the card as those before it left it; 9 where there are more or fewer answers than commands, and nothing is done.
 pub fn order(card: Card, commands: &[Command], answers: &mut [u8]) -> Ordered
-    ensures { (result ≡ orderedOf card commands.now (length answers.old)) × (answers.new ≡ answersOf card commands.now answers.old) }
+    ensures { (result ≡ ordered_of card commands.now (length answers.old)) × (answers.new ≡ answers_of card commands.now answers.old) }
 {
     let n = turns(commands.len(), answers.len());
     let mut left = card;
@@ -53,14 +53,14 @@ pub fn order(card: Card, commands: &[Command], answers: &mut [u8]) -> Ordered
 
 fn first_of(card: Card, commands: [Command; 64], n: usize, answers: &mut [u8]) -> Ordered
     requires { n ≤ 64 }
-    ensures { (result ≡ orderedOf card (take n commands) (length answers.old)) × (answers.new ≡ answersOf card (take n commands) answers.old) }
+    ensures { (result ≡ ordered_of card (take n commands) (length answers.old)) × (answers.new ≡ answers_of card (take n commands) answers.old) }
 {
     order(card, &commands[..n], answers)
 }
 
 // The first n of an array, for callers that hold no slice of commands; 9 where n is more than there are.
 pub fn order_of(card: Card, commands: [Command; 64], n: usize, answers: &mut [u8]) -> Ordered
-    ensures { (result ≡ firstOrdered card commands n (length answers.old)) × (answers.new ≡ firstAnswers card commands n answers.old) }
+    ensures { (result ≡ first_ordered card commands n (length answers.old)) × (answers.new ≡ first_answers card commands n answers.old) }
 {
     if n > 64 {
         return Ordered {

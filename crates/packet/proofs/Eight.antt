@@ -1,34 +1,34 @@
 -- A packet's sixteen nibbles as eight bytes, as the code reads them.
 use Rattle.std.proofs.Common.{◌≡◌, ℕ, ◌+◌, ◌*◌, ◌/◌, ◌%◌, ◌^◌, ◌<◌, List, [], ◌∷◌, get_or, sym, refl, ◌∙◌, arith}
-use Rattle.packet.specs.ByTable.{crcWith, readNibblesWith}
-use Rattle.packet.specs.Laws.Bytes.{byte-back}
-use Rattle.packet.specs.Layout.{byte_of, carriedIn, fields_of}
-use Rattle.packet.specs.Shares.{byte_at, halvesOf, joinedBy, shareIn}
+use Rattle.packet.specs.ByTable.{crc_with, read_nibbles_with}
+use Rattle.packet.specs.Laws.Bytes.{byte_back}
+use Rattle.packet.specs.Layout.{byte_of, carried_in, fields_of}
+use Rattle.packet.specs.Shares.{byte_at, halves_of, joined_by, share_in}
 use Rattle.packet.proofs.Joining.{seven}
 
 module _ (a b c d e f g h : ℕ) (ha : a < 256) (hb : b < 256) (hc : c < 256) (hd : d < 256) (he : e < 256) (hf : f < 256) (hg : g < 256) (hh : h < 256) where
   abbrev halves : List ℕ
-  halves = halvesOf (a ∷ b ∷ c ∷ d ∷ e ∷ f ∷ g ∷ h ∷ [])
+  halves = halves_of (a ∷ b ∷ c ∷ d ∷ e ∷ f ∷ g ∷ h ∷ [])
 
-  pub sum_of : (table : List (List ℕ)) (s : ℕ) → s ≡ joinedBy (shareIn table) (λ p. get_or (a ∷ b ∷ c ∷ d ∷ e ∷ f ∷ g ∷ []) p 0) 7 → s ≡ crcWith table halves
-  unfolding crcWith
+  pub sum_of : (table : List (List ℕ)) (s : ℕ) → s ≡ joined_by (share_in table) (λ p. get_or (a ∷ b ∷ c ∷ d ∷ e ∷ f ∷ g ∷ []) p 0) 7 → s ≡ crc_with table halves
+  unfolding crc_with
   sum_of table s j =
       j
-      ∙ seven (shareIn table) (byte_at halves) a b c d e f g
-      (sym (byte-back a ha))
-      (sym (byte-back b hb))
-      (sym (byte-back c hc))
-      (sym (byte-back d hd))
-      (sym (byte-back e he))
-      (sym (byte-back f hf))
-      (sym (byte-back g hg))
+      ∙ seven (share_in table) (byte_at halves) a b c d e f g
+      (sym (byte_back a ha))
+      (sym (byte_back b hb))
+      (sym (byte_back c hc))
+      (sym (byte_back d hd))
+      (sym (byte_back e he))
+      (sym (byte_back f hf))
+      (sym (byte_back g hg))
 
-  pub carried_of : h ≡ carriedIn halves
-  unfolding carriedIn
-  carried_of = sym (byte-back h hh)
+  pub carried_of : h ≡ carried_in halves
+  unfolding carried_in
+  carried_of = sym (byte_back h hh)
 
-byte-again : (n a b : ℕ) → n ≡ byte_of a b → byte_of (n / 16) (n % 16) ≡ byte_of a b
-byte-again n a b e = omega arith
+byte_again : (n a b : ℕ) → n ≡ byte_of a b → byte_of (n / 16) (n % 16) ≡ byte_of a b
+byte_again n a b e = omega arith
 
 high : (n a b : ℕ) → n ≡ byte_of a b → n / 16 % 16 ≡ a % 16
 high n a b e = omega arith
@@ -48,34 +48,34 @@ module _ (table : List (List ℕ)) (ns : List ℕ) (a b c d e f g h : ℕ) (ea :
   n k = get_or ns k 0
 
   abbrev these : List ℕ
-  these = halvesOf (a ∷ b ∷ c ∷ d ∷ e ∷ f ∷ g ∷ h ∷ [])
+  these = halves_of (a ∷ b ∷ c ∷ d ∷ e ∷ f ∷ g ∷ h ∷ [])
 
-  same_sum : crcWith table these ≡ crcWith table ns
-  unfolding crcWith
+  same_sum : crc_with table these ≡ crc_with table ns
+  unfolding crc_with
   same_sum =
-      seven (shareIn table) (byte_at ns) (byte_at these 0) (byte_at these 1) (byte_at these 2) (byte_at these 3) (byte_at these 4) (byte_at these 5) (byte_at these 6)
-      (byte-again a (n 0) (n 1) ea)
-      (byte-again b (n 2) (n 3) eb)
-      (byte-again c (n 4) (n 5) ec)
-      (byte-again d (n 6) (n 7) ed)
-      (byte-again e (n 8) (n 9) ee)
-      (byte-again f (n 10) (n 11) ef)
-      (byte-again g (n 12) (n 13) eg)
+      seven (share_in table) (byte_at ns) (byte_at these 0) (byte_at these 1) (byte_at these 2) (byte_at these 3) (byte_at these 4) (byte_at these 5) (byte_at these 6)
+      (byte_again a (n 0) (n 1) ea)
+      (byte_again b (n 2) (n 3) eb)
+      (byte_again c (n 4) (n 5) ec)
+      (byte_again d (n 6) (n 7) ed)
+      (byte_again e (n 8) (n 9) ee)
+      (byte_again f (n 10) (n 11) ef)
+      (byte_again g (n 12) (n 13) eg)
 
-  same-carried : carriedIn these ≡ carriedIn ns
-  unfolding carriedIn
-  same-carried = byte-again h (n 14) (n 15) eh
+  same_carried : carried_in these ≡ carried_in ns
+  unfolding carried_in
+  same_carried = byte_again h (n 14) (n 15) eh
 
-  same-fields : fields_of these ≡ fields_of ns
+  same_fields : fields_of these ≡ fields_of ns
   unfolding fields_of
-  same-fields =
+  same_fields =
       λ i. record {
-        epoch = byte-again e (n 8) (n 9) ee i;
+        epoch = byte_again e (n 8) (n 9) ee i;
         word = record { 0 = high f (n 10) (n 11) ef i };
         gid = low_bit f (n 10) (n 11) ef i;
-        mst = byte-again a (n 0) (n 1) ea i;
+        mst = byte_again a (n 0) (n 1) ea i;
         rs_ack = high_bit b (n 2) (n 3) eb i;
-        sq = byte-again d (n 6) (n 7) ed i;
+        sq = byte_again d (n 6) (n 7) ed i;
         reserved =
             high b (n 2) (n 3) eb i / 2 * 2 ^ 23
             + low b (n 2) (n 3) eb i * 2 ^ 19
@@ -86,6 +86,6 @@ module _ (table : List (List ℕ)) (ns : List ℕ) (a b c d e f g h : ℕ) (ea :
             + low g (n 12) (n 13) eg i;
       }
 
-  pub by_bytes : readNibblesWith table these ≡ readNibblesWith table ns
-  unfolding readNibblesWith
-  by_bytes = rw (same_sum, same-carried, same-fields) refl
+  pub by_bytes : read_nibbles_with table these ≡ read_nibbles_with table ns
+  unfolding read_nibbles_with
+  by_bytes = rw (same_sum, same_carried, same_fields) refl

@@ -2,9 +2,9 @@
 use Rattle.std.specs.Prelude.{◌≡◌, ℕ, ◌+◌, ◌/◌, ◌%◌, ◌<◌, slice_index, slice_index_or}
 use Rattle.ground.specs.Types.{Bytes}
 use Rattle.packet.specs.Crc.{bits_of}
-use Rattle.packet.specs.Layout.{highsOf}
-use Rattle.packet.specs.Vc12.{lowestOf, writeVc12Answer, writeVc12Bytes}
-use Rattle.packet.specs.Writing.{writeAnswer, writeBytes}
+use Rattle.packet.specs.Layout.{highs_of}
+use Rattle.packet.specs.Vc12.{lowest_of, write_vc12_answer, write_vc12_bytes}
+use Rattle.packet.specs.Writing.{write_answer, write_bytes}
 use Rattle.packet.specs.declared.layout.Fields.{Fields}
 use Rattle.packet.specs.declared.writer.Writing.TheVariants.{Done}
 
@@ -15,8 +15,8 @@ pub record Counted (s : Bytes) : Type 0 where
 
 -- what is written of a packet that was read
 pub record Again (s t : Bytes) (f : Fields) : Type 0 where
-  pub answer : writeAnswer f t ≡ Done
-  pub bits : bits_of (highsOf (writeBytes f t)) ≡ bits_of (highsOf s)
+  pub answer : write_answer f t ≡ Done
+  pub bits : bits_of (highs_of (write_bytes f t)) ≡ bits_of (highs_of s)
 
 -- VC-12: bytes as a host hands them in: the bit, and 2 more in the first
 pub record Started (s : Bytes) : Type 0 where
@@ -25,5 +25,5 @@ pub record Started (s : Bytes) : Type 0 where
 
 -- VC-12: what is written of a packet that was read
 pub record Vc12Again (s t : Bytes) (f : Fields) : Type 0 where
-  pub answer : writeVc12Answer f t ≡ Done
-  pub bits : lowestOf (writeVc12Bytes f t) ≡ lowestOf s
+  pub answer : write_vc12_answer f t ≡ Done
+  pub bits : lowest_of (write_vc12_bytes f t) ≡ lowest_of s

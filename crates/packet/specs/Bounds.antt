@@ -13,7 +13,7 @@ pub record Within (epochs numbers values : ℕ) (f : Fields) : Type 0 where
   pub reserved : f.reserved < values
   pub nibble : f.word.0 < 16
   pub word : assigned f.word ≡ true
-  pub not-fixed : (f.word.0 == FIXED) ≡ false
+  pub not_fixed : (f.word.0 == FIXED) ≡ false
 
 abbrev pub Bounds : Fields → Type 0
 Bounds f = Within 256 256 (2 ^ 26) f

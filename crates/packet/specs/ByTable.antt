@@ -3,20 +3,20 @@ use Rattle.std.specs.Prelude.{ℕ, List}
 use Rattle.ground.specs.Plain.{if◌then◌else◌, ◌==◌}
 use Rattle.packet.specs.declared.reader.Reading.{Reading}
 use Rattle.packet.specs.declared.ruling.Ruling.{Ruling}
-use Rattle.packet.specs.Kinds.{vc12Kind}
-use Rattle.packet.specs.Reading.{readUnder}
-use Rattle.packet.specs.Ruling.{rulingBy}
-use Rattle.packet.specs.Shares.{byte_at, joinedBy, shareIn}
-use Rattle.packet.specs.Vc12.{readVc12Row}
+use Rattle.packet.specs.Kinds.{vc12_kind}
+use Rattle.packet.specs.Reading.{read_under}
+use Rattle.packet.specs.Ruling.{ruling_by}
+use Rattle.packet.specs.Shares.{byte_at, joined_by, share_in}
+use Rattle.packet.specs.Vc12.{read_vc12_row}
 
-unfoldable pub crcWith : (table : List (List ℕ)) (nibbles : List ℕ) → ℕ
-crcWith table ns = joinedBy (shareIn table) (byte_at ns) 7
+unfoldable pub crc_with : (table : List (List ℕ)) (nibbles : List ℕ) → ℕ
+crc_with table ns = joined_by (share_in table) (byte_at ns) 7
 
-unfoldable pub readNibblesWith : (table : List (List ℕ)) (nibbles : List ℕ) → Reading
-readNibblesWith table ns = readUnder (crcWith table ns) ns
+unfoldable pub read_nibbles_with : (table : List (List ℕ)) (nibbles : List ℕ) → Reading
+read_nibbles_with table ns = read_under (crc_with table ns) ns
 
-unfoldable pub readRowWith : (table : List (List ℕ)) (kind : ℕ) (row : List ℕ) → Reading
-readRowWith table kind row = if kind == vc12Kind then readVc12Row row else readNibblesWith table row
+unfoldable pub read_row_with : (table : List (List ℕ)) (kind : ℕ) (row : List ℕ) → Reading
+read_row_with table kind row = if kind == vc12_kind then read_vc12_row row else read_nibbles_with table row
 
-unfoldable pub rulingWith : (table : List (List ℕ)) (kind epoch : ℕ) (row : List ℕ) → Ruling
-rulingWith table kind epoch row = rulingBy (readRowWith table kind row)
+unfoldable pub ruling_with : (table : List (List ℕ)) (kind epoch : ℕ) (row : List ℕ) → Ruling
+ruling_with table kind epoch row = ruling_by (read_row_with table kind row)

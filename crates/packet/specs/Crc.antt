@@ -7,13 +7,13 @@ use Rattle.ground.specs.Polynomial.{check}
 unfoldable pub divisor : List Bool
 divisor = false ∷ false ∷ false ∷ false ∷ false ∷ true ∷ true ∷ true ∷ []
 
-unfoldable pub nibbleBits : ℕ → List Bool
-nibbleBits n = bits 4 n
+unfoldable pub nibble_bits : ℕ → List Bool
+nibble_bits n = bits 4 n
 
 -- the bits that nibbles carry, the first nibble's first
 abbrev pub bits_of : List ℕ → List Bool
 bits_of [] = []
-bits_of (n ∷ ns) = nibbleBits n ++ bits_of ns
+bits_of (n ∷ ns) = nibble_bits n ++ bits_of ns
 
-unfoldable pub crcOf : List ℕ → ℕ
-crcOf nibbles = number (check divisor (bits_of nibbles))
+unfoldable pub crc_of : List ℕ → ℕ
+crc_of nibbles = number (check divisor (bits_of nibbles))

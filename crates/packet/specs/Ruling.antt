@@ -5,30 +5,30 @@ use Rattle.packet.specs.declared.reader.Reading.{Reading}
 use Rattle.packet.specs.declared.reader.Reading.TheVariants.{Packet, Length, Crc, Fixed, Unassigned}
 use Rattle.ground.specs.Plain.{if◌then◌else◌, ◌==◌}
 use Rattle.ground.specs.Types.{Epoch}
-use Rattle.packet.specs.Kinds.{vc12Kind}
+use Rattle.packet.specs.Kinds.{vc12_kind}
 use Rattle.packet.specs.Layout.{fields_of}
-use Rattle.packet.specs.Reading.{readNibbles}
-use Rattle.packet.specs.Vc12.{readVc12Row, rowBits, vc12Fields}
+use Rattle.packet.specs.Reading.{read_nibbles}
+use Rattle.packet.specs.Vc12.{read_vc12_row, row_bits, vc12_fields}
 use Rattle.packet.specs.declared.ruling.Ruling.{Ruling}
 
 abbrev pub refused : Ruling
 refused = record { good = false; word = 0; number = 0; gid = 0 }
 
-abbrev pub rulingBy : Reading → Ruling
-rulingBy (Packet f) = record { good = true; word = f.word.0; number = f.sq; gid = f.gid }
-rulingBy Length = refused
-rulingBy Crc = refused
-rulingBy Fixed = refused
-rulingBy Unassigned = refused
+abbrev pub ruling_by : Reading → Ruling
+ruling_by (Packet f) = record { good = true; word = f.word.0; number = f.sq; gid = f.gid }
+ruling_by Length = refused
+ruling_by Crc = refused
+ruling_by Fixed = refused
+ruling_by Unassigned = refused
 
 -- the sixteen entries of a packet read
-unfoldable pub readRow : ℕ → List ℕ → Reading
-readRow kind row = if kind == vc12Kind then readVc12Row row else readNibbles row
+unfoldable pub read_row : ℕ → List ℕ → Reading
+read_row kind row = if kind == vc12_kind then read_vc12_row row else read_nibbles row
 
 -- the fields that they carry, under a right CRC or a wrong one
-unfoldable pub fieldsIn : ℕ → List ℕ → Fields
-fieldsIn kind row = if kind == vc12Kind then vc12Fields (rowBits row) else fields_of row
+unfoldable pub fields_in : ℕ → List ℕ → Fields
+fields_in kind row = if kind == vc12_kind then vc12_fields (row_bits row) else fields_of row
 
 -- of the packet of an epoch by the receiver's own count, which is not looked at: the epoch inside the packet is the step rule's to judge
-unfoldable pub rulingOf : (kind : ℕ) (epoch : Epoch) (nibbles : List ℕ) → Ruling
-rulingOf kind epoch row = rulingBy (readRow kind row)
+unfoldable pub ruling_of : (kind : ℕ) (epoch : Epoch) (nibbles : List ℕ) → Ruling
+ruling_of kind epoch row = ruling_by (read_row kind row)

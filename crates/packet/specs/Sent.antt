@@ -4,15 +4,15 @@ use Rattle.ground.specs.Plain.{if◌then◌else◌, ◌==◌}
 use Rattle.ground.specs.Types.{Bytes}
 use Rattle.packet.specs.declared.layout.Fields.{Fields}
 use Rattle.packet.specs.declared.writer.Writing.{Writing}
-use Rattle.packet.specs.Kinds.{vc12Kind}
-use Rattle.packet.specs.Vc12.{vc12Fits, writeVc12Answer, writeVc12Bytes}
-use Rattle.packet.specs.Writing.{fitting, writeAnswer, writeBytes}
+use Rattle.packet.specs.Kinds.{vc12_kind}
+use Rattle.packet.specs.Vc12.{vc12_fits, write_vc12_answer, write_vc12_bytes}
+use Rattle.packet.specs.Writing.{fitting, write_answer, write_bytes}
 
-unfoldable pub sentFits : ℕ → Fields → Bool
-sentFits kind f = if kind == vc12Kind then vc12Fits f else fitting f
+unfoldable pub sent_fits : ℕ → Fields → Bool
+sent_fits kind f = if kind == vc12_kind then vc12_fits f else fitting f
 
-unfoldable pub sentAnswer : (kind : ℕ) (f : Fields) (s : Bytes) → Writing
-sentAnswer kind f s = if kind == vc12Kind then writeVc12Answer f s else writeAnswer f s
+unfoldable pub sent_answer : (kind : ℕ) (f : Fields) (s : Bytes) → Writing
+sent_answer kind f s = if kind == vc12_kind then write_vc12_answer f s else write_answer f s
 
-unfoldable pub sentBytes : (kind : ℕ) (f : Fields) (s : Bytes) → Bytes
-sentBytes kind f s = if kind == vc12Kind then writeVc12Bytes f s else writeBytes f s
+unfoldable pub sent_bytes : (kind : ℕ) (f : Fields) (s : Bytes) → Bytes
+sent_bytes kind f s = if kind == vc12_kind then write_vc12_bytes f s else write_bytes f s

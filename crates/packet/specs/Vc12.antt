@@ -1,7 +1,7 @@
 -- VC-12's packet (request 2026-01): 'one bit a frame', '32 bits in order', in the lowest bit of each frame's byte.
 use Rattle.std.specs.Prelude.{ℕ, ◌+◌, ◌-◌, ◌/◌, ◌%◌, ◌^◌, Bool, true, false, List, [], ◌∷◌, ◌++◌, length, take, drop, slice_index, slice_index_or}
 use Rattle.ground.specs.Bits.{bits, number, odd}
-use Rattle.ground.specs.Finite.{sameBits}
+use Rattle.ground.specs.Finite.{same_bits}
 use Rattle.ground.specs.Plain.{if◌then◌else◌, ◌==◌}
 use Rattle.ground.specs.Polynomial.{check, sealed}
 use Rattle.ground.specs.Table.{tabulate}
@@ -11,48 +11,48 @@ use Rattle.packet.specs.declared.reader.Reading.{Reading}
 use Rattle.packet.specs.declared.reader.Reading.TheVariants.{Crc, Length}
 use Rattle.packet.specs.declared.writer.Writing.{Writing}
 use Rattle.packet.specs.declared.writer.Writing.TheVariants.{Done, Field, Length as Short}
-use Rattle.packet.specs.Reading.{readFields}
-use Rattle.packet.specs.Writing.{fitsWithin}
+use Rattle.packet.specs.Reading.{read_fields}
+use Rattle.packet.specs.Writing.{fits_within}
 
 -- x^3+x+1 without its leading 1
-unfoldable pub vc12Divisor : List Bool
-vc12Divisor = false ∷ true ∷ true ∷ []
+unfoldable pub vc12_divisor : List Bool
+vc12_divisor = false ∷ true ∷ true ∷ []
 
 -- '5 multiframe count, 6 SQ, 4 CTRL, GID, 4 reserved, RS-Ack, 8 MST'
-unfoldable pub vc12Data : Fields → List Bool
-vc12Data f =
+unfoldable pub vc12_data : Fields → List Bool
+vc12_data f =
     bits 5 f.epoch ++ bits 6 f.sq ++ bits 4 f.word.0 ++ bits 1 f.gid ++ bits 4 f.reserved ++ bits 1 f.rs_ack ++ bits 8 f.mst
 
 -- '3 CRC by x^3+x+1 over the first 29'
-unfoldable pub vc12Bits : Fields → List Bool
-vc12Bits f = sealed vc12Divisor (vc12Data f)
+unfoldable pub vc12_bits : Fields → List Bool
+vc12_bits f = sealed vc12_divisor (vc12_data f)
 
 -- the byte of the frame at a place: its bit, and 2 more in the first, by which 'the host says where it starts'
-abbrev pub frameByte : List Bool → ℕ → ℕ
-frameByte l k = (if k == 0 then 2 else 0) + (if slice_index_or l k false then 1 else 0)
+abbrev pub frame_byte : List Bool → ℕ → ℕ
+frame_byte l k = (if k == 0 then 2 else 0) + (if slice_index_or l k false then 1 else 0)
 
-unfoldable pub vc12Bytes : List Bool → Bytes
-vc12Bytes l = tabulate 32 (frameByte l)
+unfoldable pub vc12_bytes : List Bool → Bytes
+vc12_bytes l = tabulate 32 (frame_byte l)
 
 -- 8 (01): five bits of count, six of SQ and four reserved ones
-unfoldable pub vc12Fits : Fields → Bool
-vc12Fits f = fitsWithin 32 64 16 f
+unfoldable pub vc12_fits : Fields → Bool
+vc12_fits f = fits_within 32 64 16 f
 
 -- 'For writing: 9, 8' (01)
-unfoldable pub writeVc12Answer : Fields → Bytes → Writing
-writeVc12Answer f s = if length s == 32 then (if vc12Fits f then Done else Field) else Short
+unfoldable pub write_vc12_answer : Fields → Bytes → Writing
+write_vc12_answer f s = if length s == 32 then (if vc12_fits f then Done else Field) else Short
 
 -- the lent bytes afterwards: the packet, or as they were
-unfoldable pub writeVc12Bytes : Fields → Bytes → Bytes
-writeVc12Bytes f s = if length s == 32 then (if vc12Fits f then vc12Bytes (vc12Bits f) else s) else s
+unfoldable pub write_vc12_bytes : Fields → Bytes → Bytes
+write_vc12_bytes f s = if length s == 32 then (if vc12_fits f then vc12_bytes (vc12_bits f) else s) else s
 
 -- n bits from a place on, as a number
 abbrev pub number_at : (place n : ℕ) (l : List Bool) → ℕ
 number_at place n l = number (take n (drop place l))
 
 -- the fields that 32 bits carry
-unfoldable pub vc12Fields : List Bool → Fields
-vc12Fields l =
+unfoldable pub vc12_fields : List Bool → Fields
+vc12_fields l =
     record {
       epoch = number_at 0 5 l;
       word = record { 0 = number_at 11 4 l };
@@ -64,19 +64,19 @@ vc12Fields l =
     }
 
 -- 'For reading a packet: 9, 5, 7, 6' (01)
-unfoldable pub readVc12Bits : List Bool → Reading
-readVc12Bits l = if sameBits (check vc12Divisor (take 29 l)) (drop 29 l) then readFields (vc12Fields l) else Crc
+unfoldable pub read_vc12_bits : List Bool → Reading
+read_vc12_bits l = if same_bits (check vc12_divisor (take 29 l)) (drop 29 l) then read_fields (vc12_fields l) else Crc
 
 -- the bits that 32 bytes carry: the lowest of each, and no other is looked at
-unfoldable pub lowestOf : Bytes → List Bool
-lowestOf s = tabulate 32 (λ k. odd (slice_index s k))
+unfoldable pub lowest_of : Bytes → List Bool
+lowest_of s = tabulate 32 (λ k. odd (slice_index s k))
 
-unfoldable pub readVc12Answer : Bytes → Reading
-readVc12Answer s = if length s == 32 then readVc12Bits (lowestOf s) else Length
+unfoldable pub read_vc12_answer : Bytes → Reading
+read_vc12_answer s = if length s == 32 then read_vc12_bits (lowest_of s) else Length
 
 -- The receiver keeps sixteen entries of two bits each, the earlier frame's twice as high.
-unfoldable pub rowBits : List ℕ → List Bool
-rowBits row = tabulate 32 (λ k. odd (slice_index row (k / 2) / 2 ^ (1 - k % 2)))
+unfoldable pub row_bits : List ℕ → List Bool
+row_bits row = tabulate 32 (λ k. odd (slice_index row (k / 2) / 2 ^ (1 - k % 2)))
 
-unfoldable pub readVc12Row : List ℕ → Reading
-readVc12Row row = readVc12Bits (rowBits row)
+unfoldable pub read_vc12_row : List ℕ → Reading
+read_vc12_row row = read_vc12_bits (row_bits row)

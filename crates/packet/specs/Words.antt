@@ -29,5 +29,5 @@ assigned w =
 abbrev pub word_of : ℕ → Word
 word_of n = record { 0 = n % 16 }
 
-abbrev pub nibbleOf : Word → ℕ
-nibbleOf w = w.0 % 16
+abbrev pub nibble_of : Word → ℕ
+nibble_of w = w.0 % 16

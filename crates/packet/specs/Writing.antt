@@ -5,18 +5,18 @@ use Rattle.ground.specs.Types.{Bytes}
 use Rattle.packet.specs.declared.layout.Fields.{Fields}
 use Rattle.packet.specs.declared.writer.Writing.{Writing}
 use Rattle.packet.specs.declared.writer.Writing.TheVariants.{Done, Length, Field}
-use Rattle.packet.specs.Layout.{nibblesOf, h4Of}
+use Rattle.packet.specs.Layout.{nibbles_of, h4_of}
 use Rattle.packet.specs.Words.{FIXED, assigned}
 
 -- 01's number for each answer
-abbrev pub writingNumber : Writing → ℕ
-writingNumber Done = 0
-writingNumber Length = 9
-writingNumber Field = 8
+abbrev pub writing_number : Writing → ℕ
+writing_number Done = 0
+writing_number Length = 9
+writing_number Field = 8
 
 -- 8: 'a field given for writing is too large, or its word is FIXED or unassigned', by how many epochs, numbers and values of the reserved bits a packet has room for
-abbrev pub fitsWithin : (epochs numbers values : ℕ) (f : Fields) → Bool
-fitsWithin epochs numbers values f =
+abbrev pub fits_within : (epochs numbers values : ℕ) (f : Fields) → Bool
+fits_within epochs numbers values f =
     f.mst <? 256
     && f.epoch <? epochs
     && f.sq <? numbers
@@ -27,12 +27,12 @@ fitsWithin epochs numbers values f =
     && assigned f.word
 
 unfoldable pub fitting : Fields → Bool
-fitting f = fitsWithin 256 256 (2 ^ 26) f
+fitting f = fits_within 256 256 (2 ^ 26) f
 
 -- 'For writing: 9, 8.'
-unfoldable pub writeAnswer : Fields → Bytes → Writing
-writeAnswer f s = if length s == 16 then (if fitting f then Done else Field) else Length
+unfoldable pub write_answer : Fields → Bytes → Writing
+write_answer f s = if length s == 16 then (if fitting f then Done else Field) else Length
 
 -- the lent H4 bytes afterwards: the packet, or as they were
-unfoldable pub writeBytes : Fields → Bytes → Bytes
-writeBytes f s = if length s == 16 then (if fitting f then h4Of (nibblesOf f) else s) else s
+unfoldable pub write_bytes : Fields → Bytes → Bytes
+write_bytes f s = if length s == 16 then (if fitting f then h4_of (nibbles_of f) else s) else s

@@ -1,7 +1,7 @@
 // The CRC of a packet (01, 'CRC') by a table (request 2026-02): the shares of its seven bytes joined.
 ghost use Rattle.std.specs.Prelude.{◌≡◌, [], ◌∷◌, slice_index};
-ghost use Rattle.packet.specs.ByTable.{crcWith};
-ghost use Rattle.packet.specs.Shares.{joinedBy, shareIn};
+ghost use Rattle.packet.specs.ByTable.{crc_with};
+ghost use Rattle.packet.specs.Shares.{joined_by, share_in};
 
 use crate::layout::byte_of;
 
@@ -16,7 +16,7 @@ pub(crate) fn join(
     at_5: u8,
     at_6: u8,
 ) -> u8
-    ensures { result ≡ joinedBy (shareIn table.now) (λ p. slice_index (at_0 ∷ at_1 ∷ at_2 ∷ at_3 ∷ at_4 ∷ at_5 ∷ at_6 ∷ []) p) 7 }
+    ensures { result ≡ joined_by (share_in table.now) (λ p. slice_index (at_0 ∷ at_1 ∷ at_2 ∷ at_3 ∷ at_4 ∷ at_5 ∷ at_6 ∷ []) p) 7 }
 {
     table[0][at_0 as usize]
         ^ table[1][at_1 as usize]
@@ -28,7 +28,7 @@ pub(crate) fn join(
 }
 
 pub(crate) fn crc(table: &[[u8; 256]; 7], nibbles: [u8; 16]) -> u8
-    ensures { result ≡ crcWith table.now nibbles }
+    ensures { result ≡ crc_with table.now nibbles }
 {
     join(
         table,

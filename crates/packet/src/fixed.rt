@@ -1,6 +1,6 @@
 // A fixed group's packet (request 2026-12): MFI2, SQ and the word FIXED, and no CRC.
 ghost use Rattle.std.specs.Prelude.{◌≡◌};
-ghost use Rattle.packet.specs.Fixed.{fixedFields, fixedNibbles, fixedRulingOf, readFixedAnswer, readFixedNibbles, writeFixedAnswer, writeFixedBytes};
+ghost use Rattle.packet.specs.Fixed.{fixed_fields, fixed_nibbles, fixed_ruling_of, read_fixed_answer, read_fixed_nibbles, write_fixed_answer, write_fixed_bytes};
 
 use crate::layout::Fields;
 use crate::reader::Reading;
@@ -10,7 +10,7 @@ use crate::writer::Writing;
 use crate::{layout, reader};
 
 fn fixed_nibbles(epoch: u8, sq: u8) -> [u8; 16]
-    ensures { result ≡ fixedNibbles epoch sq }
+    ensures { result ≡ fixed_nibbles epoch sq }
 {
     [
         0,
@@ -34,7 +34,7 @@ fn fixed_nibbles(epoch: u8, sq: u8) -> [u8; 16]
 
 // Epoch and SQ are 32 bits wide, so that 256 is refused and not cut down to 0.
 pub fn write_fixed(epoch: u32, sq: u32, h4: &mut [u8]) -> Writing
-    ensures { (result ≡ writeFixedAnswer epoch sq h4.old) × (h4.new ≡ writeFixedBytes epoch sq h4.old) }
+    ensures { (result ≡ write_fixed_answer epoch sq h4.old) × (h4.new ≡ write_fixed_bytes epoch sq h4.old) }
 {
     if h4.len() != 16 {
         return Writing::Length;
@@ -52,7 +52,7 @@ pub fn write_fixed(epoch: u32, sq: u32, h4: &mut [u8]) -> Writing
 }
 
 fn fixed_fields(epoch: u8, sq: u8) -> Fields
-    ensures { result ≡ fixedFields epoch sq }
+    ensures { result ≡ fixed_fields epoch sq }
 {
     Fields {
         epoch,
@@ -67,7 +67,7 @@ fn fixed_fields(epoch: u8, sq: u8) -> Fields
 
 // Sixteen nibbles read, each in the low four bits of its byte.
 pub fn read_fixed_nibbles(nibbles: [u8; 16]) -> Reading
-    ensures { result ≡ readFixedNibbles nibbles }
+    ensures { result ≡ read_fixed_nibbles nibbles }
 {
     let word = nibbles[10] % 16;
     let epoch = layout::byte_of(nibbles[8], nibbles[9]);
@@ -81,7 +81,7 @@ pub fn read_fixed_nibbles(nibbles: [u8; 16]) -> Reading
 
 // Sixteen H4 bytes read.
 pub fn read_fixed(h4: &[u8]) -> Reading
-    ensures { result ≡ readFixedAnswer h4.now }
+    ensures { result ≡ read_fixed_answer h4.now }
 {
     if h4.len() != 16 {
         return Reading::Length;
@@ -92,7 +92,7 @@ pub fn read_fixed(h4: &[u8]) -> Reading
 
 // A packet read for what it rules. Whether it is of the receiver's own epoch is the step rule's to judge.
 pub fn fixed_ruling_of(nibbles: [u8; 16]) -> Ruling
-    ensures { result ≡ fixedRulingOf nibbles }
+    ensures { result ≡ fixed_ruling_of nibbles }
 {
     let reading = read_fixed_nibbles(nibbles);
     match reading {

@@ -1,8 +1,8 @@
 // The layout of a packet (01, 'The control packet'): its fields, its sixteen nibbles, and the H4 bytes that carry them.
 ghost use Rattle.std.specs.Prelude.{◌≡◌, [], ◌∷◌, ◌++◌};
 ghost use Rattle.packet.specs.Bounds.{Bounds};
-ghost use Rattle.packet.specs.Layout.{byte_of, data_of, fields_of, h4Of, nibblesOf, reservedOf};
-ghost use Rattle.packet.specs.Shares.{halvesOf, shares_of};
+ghost use Rattle.packet.specs.Layout.{byte_of, data_of, fields_of, h4_of, nibbles_of, reserved_of};
+ghost use Rattle.packet.specs.Shares.{halves_of, shares_of};
 
 use crate::crc::crc;
 use crate::words::Word;
@@ -36,7 +36,7 @@ pub(crate) fn halves_of(
     at_6: u8,
     at_7: u8,
 ) -> [u8; 16]
-    ensures { result ≡ halvesOf (at_0 ∷ at_1 ∷ at_2 ∷ at_3 ∷ at_4 ∷ at_5 ∷ at_6 ∷ at_7 ∷ []) }
+    ensures { result ≡ halves_of (at_0 ∷ at_1 ∷ at_2 ∷ at_3 ∷ at_4 ∷ at_5 ∷ at_6 ∷ at_7 ∷ []) }
 {
     [
         at_0 / 16,
@@ -72,7 +72,7 @@ const BESIDE_GID: u32 = 256;
 const MFI1_4: u32 = 16;
 
 fn reserved_of(nibbles: [u8; 16]) -> u32
-    ensures { result ≡ reservedOf nibbles }
+    ensures { result ≡ reserved_of nibbles }
 {
     let beside_ack = (nibbles[2] % 16 / 2) as u32;
     let mfi1_11_and_12 = byte_of(nibbles[3], nibbles[4]) as u32;
@@ -128,7 +128,7 @@ fn data_of(fields: Fields) -> [u8; 16]
 
 pub(crate) fn nibbles_of(table: &[[u8; 256]; 7], fields: Fields) -> [u8; 16]
     requires { (table.now ≡ shares_of) × Bounds fields }
-    ensures { result ≡ nibblesOf fields }
+    ensures { result ≡ nibbles_of fields }
 {
     let mut nibbles = data_of(fields);
     let sum = crc(table, nibbles);
@@ -138,7 +138,7 @@ pub(crate) fn nibbles_of(table: &[[u8; 256]; 7], fields: Fields) -> [u8; 16]
 }
 
 pub(crate) fn h4_of(nibbles: [u8; 16]) -> [u8; 16]
-    ensures { result ≡ h4Of nibbles }
+    ensures { result ≡ h4_of nibbles }
 {
     [
         nibbles[0] % 16 * 16 + 8,

@@ -1,9 +1,9 @@
 // A packet read (01, 'Answer numbers': for reading 9, 5, 7, 6; only the high nibbles are looked at).
 ghost use Rattle.std.specs.Prelude.{◌≡◌, [], ◌∷◌, length};
-ghost use Rattle.packet.specs.ByTable.{readNibblesWith};
-ghost use Rattle.packet.specs.Layout.{highsOf};
-ghost use Rattle.packet.specs.Reading.{readAnswer, readFields, readingNumber};
-ghost use Rattle.packet.specs.Shares.{halvesOf};
+ghost use Rattle.packet.specs.ByTable.{read_nibbles_with};
+ghost use Rattle.packet.specs.Layout.{highs_of};
+ghost use Rattle.packet.specs.Reading.{read_answer, read_fields, reading_number};
+ghost use Rattle.packet.specs.Shares.{halves_of};
 
 use crate::crc::join;
 use crate::layout;
@@ -22,7 +22,7 @@ pub enum Reading {
 
 impl Reading {
     pub fn number(self) -> u8
-        ensures { result ≡ readingNumber self }
+        ensures { result ≡ reading_number self }
     {
         match self {
             Reading::Packet(_) => 0,
@@ -36,7 +36,7 @@ impl Reading {
 
 // The fields of a packet whose CRC is right.
 pub(crate) fn by_word(fields: Fields) -> Reading
-    ensures { result ≡ readFields fields }
+    ensures { result ≡ read_fields fields }
 {
     let word = fields.word;
     if word.0 == Word::FIXED.0 {
@@ -60,7 +60,7 @@ fn read_bytes(
     at_6: u8,
     carried: u8,
 ) -> Reading
-    ensures { result ≡ readNibblesWith table.now (halvesOf (at_0 ∷ at_1 ∷ at_2 ∷ at_3 ∷ at_4 ∷ at_5 ∷ at_6 ∷ carried ∷ [])) }
+    ensures { result ≡ read_nibbles_with table.now (halves_of (at_0 ∷ at_1 ∷ at_2 ∷ at_3 ∷ at_4 ∷ at_5 ∷ at_6 ∷ carried ∷ [])) }
 {
     let sum = join(table, at_0, at_1, at_2, at_3, at_4, at_5, at_6);
     if sum != carried {
@@ -72,7 +72,7 @@ fn read_bytes(
 
 // Sixteen nibbles read, each in the low four bits of its byte.
 pub fn read_nibbles(table: &[[u8; 256]; 7], nibbles: [u8; 16]) -> Reading
-    ensures { result ≡ readNibblesWith table.now nibbles }
+    ensures { result ≡ read_nibbles_with table.now nibbles }
 {
     read_bytes(
         table,
@@ -89,7 +89,7 @@ pub fn read_nibbles(table: &[[u8; 256]; 7], nibbles: [u8; 16]) -> Reading
 
 pub(crate) fn highs_of(h4: &[u8]) -> [u8; 16]
     requires { length h4.now ≡ 16 }
-    ensures { result ≡ highsOf h4.now }
+    ensures { result ≡ highs_of h4.now }
 {
     [
         h4[0] / 16,
@@ -113,7 +113,7 @@ pub(crate) fn highs_of(h4: &[u8]) -> [u8; 16]
 
 // Sixteen H4 bytes read. It goes by no array of nibbles: the compiler would lay that in memory.
 pub fn read(h4: &[u8]) -> Reading
-    ensures { result ≡ readAnswer h4.now }
+    ensures { result ≡ read_answer h4.now }
 {
     if h4.len() != 16 {
         return Reading::Length;

@@ -1,6 +1,6 @@
 // A packet read for what it rules.
 ghost use Rattle.std.specs.Prelude.{◌≡◌};
-ghost use Rattle.packet.specs.ByTable.{readRowWith, rulingWith};
+ghost use Rattle.packet.specs.ByTable.{read_row_with, ruling_with};
 ghost use Rattle.packet.specs.Ruling.{refused};
 
 use crate::reader::Reading;
@@ -28,7 +28,7 @@ pub(crate) fn refusal() -> Ruling
 
 // The sixteen entries of a packet, by its kind.
 pub fn read_row(table: &[[u8; 256]; 7], kind: u8, row: [u8; 16]) -> Reading
-    ensures { result ≡ readRowWith table.now kind row }
+    ensures { result ≡ read_row_with table.now kind row }
 {
     if kind == kinds::VC12 {
         return vc12::read_vc12_row(row);
@@ -38,7 +38,7 @@ pub fn read_row(table: &[[u8; 256]; 7], kind: u8, row: [u8; 16]) -> Reading
 
 // The packet of an epoch by the receiver's own count, which the rule of today does not look at.
 pub fn ruling_of(table: &[[u8; 256]; 7], kind: u8, epoch: u8, row: [u8; 16]) -> Ruling
-    ensures { result ≡ rulingWith table.now kind epoch row }
+    ensures { result ≡ ruling_with table.now kind epoch row }
 {
     let reading = read_row(table, kind, row);
     match reading {

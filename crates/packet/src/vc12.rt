@@ -4,7 +4,7 @@ ghost use Rattle.ground.specs.Bits.{bits, number, odd};
 ghost use Rattle.ground.specs.Polynomial.{bring};
 ghost use Rattle.packet.specs.Bounds.{Vc12Bounds};
 ghost use Rattle.packet.specs.Laws.Vc12.{left_of};
-ghost use Rattle.packet.specs.Vc12.{frameByte, lowestOf, readVc12Answer, readVc12Bits, readVc12Row, rowBits, vc12Bits, vc12Bytes, vc12Data, vc12Divisor, vc12Fields, vc12Fits, writeVc12Answer, writeVc12Bytes};
+ghost use Rattle.packet.specs.Vc12.{frame_byte, lowest_of, read_vc12_answer, read_vc12_bits, read_vc12_row, row_bits, vc12_bits, vc12_bytes, vc12_data, vc12_divisor, vc12_fields, vc12_fits, write_vc12_answer, write_vc12_bytes};
 
 use crate::layout::Fields;
 use crate::reader;
@@ -14,7 +14,7 @@ use crate::writer::Writing;
 
 // One bit more of a division by x^3+x+1.
 fn brought(left: u8, bit: u8) -> u8
-    ensures { result ≡ number (bring vc12Divisor (bits 3 left) (odd bit)) }
+    ensures { result ≡ number (bring vc12_divisor (bits 3 left) (odd bit)) }
 {
     let shifted = left % 4 * 2 + bit % 2;
     if left / 4 % 2 == 1 {
@@ -37,7 +37,7 @@ fn left_of(number: u32) -> u8
 }
 
 fn fields_of(number: u32) -> Fields
-    ensures { result ≡ vc12Fields (bits 32 number) }
+    ensures { result ≡ vc12_fields (bits 32 number) }
 {
     Fields {
         epoch: (number >> 27) as u8,
@@ -51,7 +51,7 @@ fn fields_of(number: u32) -> Fields
 }
 
 fn read_number(number: u32) -> Reading
-    ensures { result ≡ readVc12Bits (bits 32 number) }
+    ensures { result ≡ read_vc12_bits (bits 32 number) }
 {
     if left_of(number) != 0 {
         return Reading::Crc;
@@ -61,7 +61,7 @@ fn read_number(number: u32) -> Reading
 
 fn number_of(frames: &[u8]) -> u32
     requires { length frames.now ≡ 32 }
-    ensures { result ≡ number (lowestOf frames.now) }
+    ensures { result ≡ number (lowest_of frames.now) }
 {
     let mut number = 0u32;
     let mut k = 0;
@@ -74,7 +74,7 @@ fn number_of(frames: &[u8]) -> u32
 
 // The bytes of 32 frames read.
 pub fn read_vc12(frames: &[u8]) -> Reading
-    ensures { result ≡ readVc12Answer frames.now }
+    ensures { result ≡ read_vc12_answer frames.now }
 {
     if frames.len() != 32 {
         return Reading::Length;
@@ -83,7 +83,7 @@ pub fn read_vc12(frames: &[u8]) -> Reading
 }
 
 fn number_in(row: [u8; 16]) -> u32
-    ensures { result ≡ number (rowBits row) }
+    ensures { result ≡ number (row_bits row) }
 {
     let mut number = 0u32;
     let mut k = 0;
@@ -96,13 +96,13 @@ fn number_in(row: [u8; 16]) -> u32
 
 // Sixteen entries read, each with two bits in its lowest.
 pub fn read_vc12_row(row: [u8; 16]) -> Reading
-    ensures { result ≡ readVc12Row row }
+    ensures { result ≡ read_vc12_row row }
 {
     read_number(number_in(row))
 }
 
 fn fits(fields: Fields) -> bool
-    ensures { result ≡ vc12Fits fields }
+    ensures { result ≡ vc12_fits fields }
 {
     let word = fields.word;
     let assigned = word.is_assigned();
@@ -117,7 +117,7 @@ fn fits(fields: Fields) -> bool
 
 fn data_of(fields: Fields) -> u32
     requires { Vc12Bounds fields }
-    ensures { result ≡ number (vc12Data fields) }
+    ensures { result ≡ number (vc12_data fields) }
 {
     let word = fields.word;
     (((((fields.epoch as u32 * 64 + fields.sq as u32) * 16 + word.0 as u32) * 2 + fields.gid as u32)
@@ -131,7 +131,7 @@ fn data_of(fields: Fields) -> u32
 
 fn packet_of(fields: Fields) -> u32
     requires { Vc12Bounds fields }
-    ensures { bits 32 result ≡ vc12Bits fields }
+    ensures { bits 32 result ≡ vc12_bits fields }
 {
     let data = data_of(fields);
     data * 8 + left_of(data * 8) as u32
@@ -139,7 +139,7 @@ fn packet_of(fields: Fields) -> u32
 
 fn frame_byte(number: u32, place: u32) -> u8
     requires { place < 32 }
-    ensures { result ≡ frameByte (bits 32 number) place }
+    ensures { result ≡ frame_byte (bits 32 number) place }
 {
     let bit = ((number >> (31 - place)) % 2) as u8;
     if place == 0 {
@@ -150,7 +150,7 @@ fn frame_byte(number: u32, place: u32) -> u8
 
 fn put_bytes(number: u32, frames: &mut [u8])
     requires { length frames.old ≡ 32 }
-    ensures { frames.new ≡ vc12Bytes (bits 32 number) }
+    ensures { frames.new ≡ vc12_bytes (bits 32 number) }
 {
     let mut k = 0u32;
     while k < 32 {
@@ -161,7 +161,7 @@ fn put_bytes(number: u32, frames: &mut [u8])
 
 // The bytes of 32 frames: the first says the start.
 pub fn write_vc12(fields: Fields, frames: &mut [u8]) -> Writing
-    ensures { (result ≡ writeVc12Answer fields frames.old) × (frames.new ≡ writeVc12Bytes fields frames.old) }
+    ensures { (result ≡ write_vc12_answer fields frames.old) × (frames.new ≡ write_vc12_bytes fields frames.old) }
 {
     if frames.len() != 32 {
         return Writing::Length;

@@ -1,6 +1,6 @@
 // Control words (01, 'The control packet'), each known by name.
 ghost use Rattle.std.specs.Prelude.{◌≡◌, [], ◌∷◌};
-ghost use Rattle.packet.specs.Words.{FIXED, ADD, NORM, EOS, IDLE, DNU, word_of, nibbleOf, assigned};
+ghost use Rattle.packet.specs.Words.{FIXED, ADD, NORM, EOS, IDLE, DNU, word_of, nibble_of, assigned};
 
 #[derive(Drop)]
 pub struct Word(pub u8);
@@ -40,7 +40,7 @@ impl Word {
     }
 
     pub fn to_nibble(self) -> u8
-        ensures { result ≡ nibbleOf self }
+        ensures { result ≡ nibble_of self }
     {
         self.0 % 16
     }

@@ -1,6 +1,6 @@
 // A packet written (01, 'Answer numbers': for writing 9, then 8).
 ghost use Rattle.std.specs.Prelude.{◌≡◌};
-ghost use Rattle.packet.specs.Writing.{fitting, writeAnswer, writeBytes, writingNumber};
+ghost use Rattle.packet.specs.Writing.{fitting, write_answer, write_bytes, writing_number};
 
 use crate::layout;
 use crate::layout::Fields;
@@ -16,7 +16,7 @@ pub enum Writing {
 
 impl Writing {
     pub fn number(self) -> u8
-        ensures { result ≡ writingNumber self }
+        ensures { result ≡ writing_number self }
     {
         match self {
             Writing::Done => 0,
@@ -39,7 +39,7 @@ fn fits(fields: Fields) -> bool
 }
 
 pub fn write(fields: Fields, h4: &mut [u8]) -> Writing
-    ensures { (result ≡ writeAnswer fields h4.old) × (h4.new ≡ writeBytes fields h4.old) }
+    ensures { (result ≡ write_answer fields h4.old) × (h4.new ≡ write_bytes fields h4.old) }
 {
     if h4.len() != 16 {
         return Writing::Length;

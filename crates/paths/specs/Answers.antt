@@ -4,7 +4,7 @@ use Rattle.ground.specs.Plain.{if◌then◌else◌, ◌≤?◌}
 use Rattle.ground.specs.Counting.Words.{every}
 use Rattle.paths.specs.declared.answers.Answer.{Answer}
 use Rattle.paths.specs.declared.answers.Answer.TheVariants.{Done, Range}
-use Rattle.paths.specs.Paths.{delayAt}
+use Rattle.paths.specs.Paths.{delay_at}
 
 -- 01's number for each answer
 abbrev pub number_of : Answer → ℕ
@@ -16,11 +16,11 @@ abbrev pub sized : (n k W : ℕ) → Bool
 sized n k W = n ≤? 64 && 1 ≤? k && k ≤? n && 16 ≤? W && W ≤? 2048
 
 -- and so is 'a delay above 4,095', also of a candidate that would not be chosen
-unfoldable pub areShort : List ℕ → Bool
-areShort delays = every (length delays) (λ i. delayAt delays i ≤? 4095)
+unfoldable pub are_short : List ℕ → Bool
+are_short delays = every (length delays) (λ i. delay_at delays i ≤? 4095)
 
 abbrev pub in_range : (delays : List ℕ) (k W : ℕ) → Bool
-in_range delays k W = sized (length delays) k W && areShort delays
+in_range delays k W = sized (length delays) k W && are_short delays
 
 unfoldable pub answer_of : (delays : List ℕ) (k W : ℕ) → Answer
 answer_of delays k W = if in_range delays k W then Done else Range

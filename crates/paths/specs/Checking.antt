@@ -4,26 +4,26 @@ use Rattle.ground.specs.Plain.{if◌then◌else◌, ◌==◌, ◌<?◌, ◌≤?�
 use Rattle.ground.specs.Counting.Words.{every}
 use Rattle.paths.specs.declared.checking.Checked.{Checked}
 use Rattle.paths.specs.Answers.{answer_of, in_range}
-use Rattle.paths.specs.Paths.{delayAt, pathAt}
+use Rattle.paths.specs.Paths.{delay_at, path_at}
 
 -- how far two delays lie apart
-abbrev pub delaysApart : ℕ → ℕ → ℕ
-delaysApart x y = if x <? y then y - x else x - y
+abbrev pub delays_apart : ℕ → ℕ → ℕ
+delays_apart x y = if x <? y then y - x else x - y
 
 -- two candidates are different and at most s apart
 unfoldable pub agree : (delays : List ℕ) (spread path other : ℕ) → Bool
-agree delays s i j = not (i == j) && delaysApart (delayAt delays i) (delayAt delays j) ≤? s
+agree delays s i j = not (i == j) && delays_apart (delay_at delays i) (delay_at delays j) ≤? s
 
 -- entry a agrees with every entry before it
-unfoldable pub agreesWith : (delays set : List ℕ) (spread a : ℕ) → Bool
-agreesWith delays set s a = every a (λ b. agree delays s (pathAt set b) (pathAt set a))
+unfoldable pub agrees_with : (delays set : List ℕ) (spread a : ℕ) → Bool
+agrees_with delays set s a = every a (λ b. agree delays s (path_at set b) (path_at set a))
 
-abbrev pub entryFits : (delays set : List ℕ) (spread a : ℕ) → Bool
-entryFits delays set s a = pathAt set a <? length delays && agreesWith delays set s a
+abbrev pub entry_fits : (delays set : List ℕ) (spread a : ℕ) → Bool
+entry_fits delays set s a = path_at set a <? length delays && agrees_with delays set s a
 
 -- there are k entries, and each names a candidate and agrees with those before it
 unfoldable pub accepts : (delays : List ℕ) (k spread : ℕ) (set : List ℕ) → Bool
-accepts delays k s set = length set == k && every (length set) (entryFits delays set s)
+accepts delays k s set = length set == k && every (length set) (entry_fits delays set s)
 
-unfoldable pub checkedOf : (delays : List ℕ) (k W : ℕ) (set : List ℕ) → Checked
-checkedOf delays k W set = record { accepted = in_range delays k W && accepts delays k (W - 16) set; answer = answer_of delays k W }
+unfoldable pub checked_of : (delays : List ℕ) (k W : ℕ) (set : List ℕ) → Checked
+checked_of delays k W set = record { accepted = in_range delays k W && accepts delays k (W - 16) set; answer = answer_of delays k W }

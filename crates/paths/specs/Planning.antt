@@ -8,19 +8,19 @@ use Rattle.paths.specs.declared.answers.Answer.TheVariants.{Done}
 use Rattle.paths.specs.declared.planning.Proposal.{Proposal}
 use Rattle.paths.specs.declared.planning.Stretch.{Stretch}
 use Rattle.paths.specs.Answers.{answer_of, in_range}
-use Rattle.paths.specs.Order.{ranksOf, sortedBy}
+use Rattle.paths.specs.Order.{ranks_of, sorted_by}
 
 -- from a rank to the one so far after it
-abbrev pub stretchFrom : (sorted : List ℕ) (far first : ℕ) → Stretch
-stretchFrom sorted far first = record { first = first; spread = get_or sorted (first + far) 0 - get_or sorted first 0 }
+abbrev pub stretch_from : (sorted : List ℕ) (far first : ℕ) → Stretch
+stretch_from sorted far first = record { first = first; spread = get_or sorted (first + far) 0 - get_or sorted first 0 }
 
 abbrev pub tighter : Stretch → Stretch → Stretch
 tighter one other = if other.spread <? one.spread then other else one
 
 -- of the stretches from rank 0 and from each of the first m ranks the tightest, of several the first
 abbrev pub tightest : (sorted : List ℕ) (far m : ℕ) → Stretch
-tightest sorted far zero = stretchFrom sorted far 0
-tightest sorted far (suc m) = tighter (tightest sorted far m) (stretchFrom sorted far m)
+tightest sorted far zero = stretch_from sorted far 0
+tightest sorted far (suc m) = tighter (tightest sorted far m) (stretch_from sorted far m)
 
 -- the numbers below n at which the test holds, rising
 abbrev pub listed : ℕ → (ℕ → Bool) → List ℕ
@@ -28,29 +28,29 @@ listed zero f = []
 listed (suc n) f = listed n f ++ (if f n then n ∷ [] else [])
 
 -- k in a row are k - 1 ranks from first to last, and begin at the latest where k are left
-unfoldable pub tightestOf : List ℕ → ℕ → Stretch
-tightestOf delays k = tightest (sortedBy delays (ranksOf delays)) (k - 1) (length delays + 1 - k)
+unfoldable pub tightest_of : List ℕ → ℕ → Stretch
+tightest_of delays k = tightest (sorted_by delays (ranks_of delays)) (k - 1) (length delays + 1 - k)
 
-abbrev pub inStretch : (ranks : List ℕ) (first k path : ℕ) → Bool
-inStretch ranks first k i = within first k (get_or ranks i 0)
+abbrev pub in_stretch : (ranks : List ℕ) (first k path : ℕ) → Bool
+in_stretch ranks first k i = within first k (get_or ranks i 0)
 
 unfoldable pub proposed : (delays : List ℕ) (k spread : ℕ) → List ℕ
 proposed delays k s =
-    if (tightestOf delays k).spread ≤? s then listed (length delays) (inStretch (ranksOf delays) (tightestOf delays k).first k) else []
+    if (tightest_of delays k).spread ≤? s then listed (length delays) (in_stretch (ranks_of delays) (tightest_of delays k).first k) else []
 
 -- what the planner proposes; the empty list says none
-unfoldable pub setOf : (delays : List ℕ) (k W : ℕ) → List ℕ
-setOf delays k W = if in_range delays k W then proposed delays k (W - 16) else []
+unfoldable pub set_of : (delays : List ℕ) (k W : ℕ) → List ℕ
+set_of delays k W = if in_range delays k W then proposed delays k (W - 16) else []
 
 -- in a plan's 64 bytes the rest is 255
 abbrev pub padded : List ℕ → List ℕ
 padded set = set ++ replicate (64 - length set) 255
 
-abbrev pub planWith : Answer → List ℕ → Proposal
-planWith answer set = record { paths = padded set; count = length set; answer = answer }
+abbrev pub plan_with : Answer → List ℕ → Proposal
+plan_with answer set = record { paths = padded set; count = length set; answer = answer }
 
 unfoldable pub plan_of : (delays : List ℕ) (k W : ℕ) → Proposal
-plan_of delays k W = planWith (answer_of delays k W) (setOf delays k W)
+plan_of delays k W = plan_with (answer_of delays k W) (set_of delays k W)
 
 -- the candidates that a plan names
 abbrev pub planned : Proposal → List ℕ
@@ -58,10 +58,10 @@ planned p = take p.count p.paths
 
 -- for the functions behind it
 abbrev pub nothing : Answer → Proposal
-nothing answer = planWith answer []
+nothing answer = plan_with answer []
 
-unfoldable pub listedPlan : (ranks : List ℕ) (n first k : ℕ) → Proposal
-listedPlan ranks n first k = planWith Done (listed n (inStretch ranks first k))
+unfoldable pub listed_plan : (ranks : List ℕ) (n first k : ℕ) → Proposal
+listed_plan ranks n first k = plan_with Done (listed n (in_stretch ranks first k))
 
-unfoldable pub proposedPlan : (delays : List ℕ) (k spread : ℕ) → Proposal
-proposedPlan delays k s = planWith Done (proposed delays k s)
+unfoldable pub proposed_plan : (delays : List ℕ) (k spread : ℕ) → Proposal
+proposed_plan delays k s = plan_with Done (proposed delays k s)

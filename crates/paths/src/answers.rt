@@ -1,7 +1,7 @@
 // What the planner and the check refuse, both alike: 4, 'before any search'.
 ghost use Rattle.std.specs.Prelude.{◌≡◌};
 ghost use Rattle.ground.specs.Plain.{if◌then◌else◌};
-ghost use Rattle.paths.specs.Answers.{answer_of, areShort, number_of, sized};
+ghost use Rattle.paths.specs.Answers.{answer_of, are_short, number_of, sized};
 
 #[derive(Drop)]
 pub enum Answer {
@@ -28,7 +28,7 @@ fn is_sized(n: usize, k: u32, window: u32) -> bool
 }
 
 fn are_short(delays: &[u32]) -> bool
-    ensures { result ≡ areShort delays.now }
+    ensures { result ≡ are_short delays.now }
 {
     let mut all = true;
     let mut i = 0;

@@ -1,7 +1,7 @@
 // The check: it 'accepts a proposal only if it names k different candidates within that spread, and accepts every such set'.
 ghost use Rattle.std.specs.Prelude.{◌≡◌, ◌<◌, length};
 ghost use Rattle.ground.specs.Plain.{◌<?◌};
-ghost use Rattle.paths.specs.Checking.{accepts, agree, agreesWith, delaysApart, checkedOf};
+ghost use Rattle.paths.specs.Checking.{accepts, agree, agrees_with, delays_apart, checked_of};
 
 use crate::answers::Answer;
 use crate::{answers, order};
@@ -14,7 +14,7 @@ pub struct Checked {
 
 // How far two delays lie apart, plainly.
 fn delays_apart(x: u32, y: u32) -> u32
-    ensures { result ≡ delaysApart x y }
+    ensures { result ≡ delays_apart x y }
 {
     if x < y { y - x } else { x - y }
 }
@@ -37,7 +37,7 @@ fn do_agree(delays: &[u32], one: u8, other: u8, room: u32) -> bool
 // Entry a agrees with every entry before it.
 fn agrees(delays: &[u32], set: &[u8], a: usize, room: u32) -> bool
     requires { a < length set.now }
-    ensures { result ≡ agreesWith delays.now set.now room a }
+    ensures { result ≡ agrees_with delays.now set.now room a }
 {
     let mut all = true;
     let mut b = 0;
@@ -65,7 +65,7 @@ fn is_accepted(delays: &[u32], k: usize, room: u32, set: &[u8]) -> bool
 }
 
 pub fn check(delays: &[u32], k: u32, window: u32, set: &[u8]) -> Checked
-    ensures { result ≡ checkedOf delays.now k window set.now }
+    ensures { result ≡ checked_of delays.now k window set.now }
 {
     match answers::answer_to(delays, k, window) {
         Answer::Done => Checked {

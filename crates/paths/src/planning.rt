@@ -2,7 +2,7 @@
 ghost use Rattle.std.specs.Prelude.{◌≡◌, ◌&&◌, ◌+◌, ◌-◌, ◌≤◌, ◌<◌, length, set};
 ghost use Rattle.ground.specs.Drawn.{within};
 ghost use Rattle.ground.specs.Plain.{if◌then◌else◌, ◌<?◌};
-ghost use Rattle.paths.specs.Planning.{listedPlan, nothing, plan_of, proposedPlan, stretchFrom, tighter, tightest};
+ghost use Rattle.paths.specs.Planning.{listed_plan, nothing, plan_of, proposed_plan, stretch_from, tighter, tightest};
 
 use crate::answers::Answer;
 use crate::{answers, order};
@@ -32,7 +32,7 @@ fn above(x: u32, y: u32) -> u32
 
 fn stretch_from(sorted: [u32; 64], far: usize, first: usize) -> Stretch
     requires { first + far < 64 }
-    ensures { result ≡ stretchFrom sorted far first }
+    ensures { result ≡ stretch_from sorted far first }
 {
     let spread = above(sorted[first + far], sorted[first]);
     Stretch { first, spread }
@@ -93,7 +93,7 @@ fn put_path(paths: [u8; 64], at: u8, chosen: bool, path: u8) -> [u8; 64]
 // The candidates whose ranks are the k from the first on.
 fn listed(ranks: [u8; 64], n: usize, first: usize, k: usize) -> Proposal
     requires { (n ≤ 64) × (first + k ≤ 128) }
-    ensures { result ≡ listedPlan ranks n first k }
+    ensures { result ≡ listed_plan ranks n first k }
 {
     let mut paths = [255; 64];
     let mut count = 0;
@@ -114,7 +114,7 @@ fn listed(ranks: [u8; 64], n: usize, first: usize, k: usize) -> Proposal
 
 fn proposed(delays: &[u32], k: usize, room: u32) -> Proposal
     requires { (length delays.now ≤ 64) × (1 ≤ k) × (k ≤ length delays.now) }
-    ensures { result ≡ proposedPlan delays.now k room }
+    ensures { result ≡ proposed_plan delays.now k room }
 {
     let n = delays.len();
     let ranks = order::ranked(delays);

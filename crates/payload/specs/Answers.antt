@@ -13,18 +13,18 @@ number_of Length = 9
 
 -- 'Lent bytes change only under 0.'
 module _ {A : Type 0} where
-  abbrev pub underDone : (answer : Answer) (new old : A) → A
-  underDone Done new old = new
-  underDone Range new old = old
-  underDone Length new old = old
+  abbrev pub under_done : (answer : Answer) (new old : A) → A
+  under_done Done new old = new
+  under_done Range new old = old
+  under_done Length new old = old
 
 -- 4 is for 'X above 64, or P'.
 abbrev pub sized : ℕ → ℕ → Bool
 sized X P = X ≤? 64 && 1 ≤? P && P ≤? PAYLOAD-MOST
 
 -- The order of 01's numbers: first the sizes, then the lengths.
-abbrev pub answerBy : Bool → Bool → Answer
-answerBy sizes lengths = if sizes then (if lengths then Done else Length) else Range
+abbrev pub answer_by : Bool → Bool → Answer
+answer_by sizes lengths = if sizes then (if lengths then Done else Length) else Range
 
 -- what these bounds say of a group frame: at most 64 members, each with P bytes
 pub record Sizes (X P : ℕ) : Type 0 where

@@ -4,20 +4,20 @@ use Rattle.ground.specs.Plain.{◌==◌}
 use Rattle.ground.specs.Table.{tabulate}
 use Rattle.ground.specs.Types.{Bytes}
 use Rattle.payload.specs.declared.answer.Answer.{Answer}
-use Rattle.payload.specs.Answers.{sized, answerBy, underDone}
-use Rattle.payload.specs.Joining.{wholeAnswer}
-use Rattle.payload.specs.Order.{memberByte, memberFrame}
+use Rattle.payload.specs.Answers.{sized, answer_by, under_done}
+use Rattle.payload.specs.Joining.{whole_answer}
+use Rattle.payload.specs.Order.{member_byte, member_frame}
 
 -- all members one after the other, the one ranked r at r x P
-abbrev pub allMembers : (X P : ℕ) (frame : Bytes) → Bytes
-allMembers X P frame = tabulate (X * P) (λ k. memberByte X frame (k / P) (k % P))
+abbrev pub all_members : (X P : ℕ) (frame : Bytes) → Bytes
+all_members X P frame = tabulate (X * P) (λ k. member_byte X frame (k / P) (k % P))
 
-abbrev pub spreadAll : (X P : ℕ) (frame members : Bytes) → Bytes
-spreadAll X P frame members = underDone (wholeAnswer X P (length frame) (length members)) (allMembers X P frame) members
+abbrev pub spread_all : (X P : ℕ) (frame members : Bytes) → Bytes
+spread_all X P frame members = under_done (whole_answer X P (length frame) (length members)) (all_members X P frame) members
 
 -- One member: the group frame has exactly X x P bytes and the member P.
-abbrev pub oneAnswer : (X P frame member : ℕ) → Answer
-oneAnswer X P frame member = answerBy (sized X P) (frame == X * P && member == P)
+abbrev pub one_answer : (X P frame member : ℕ) → Answer
+one_answer X P frame member = answer_by (sized X P) (frame == X * P && member == P)
 
-abbrev pub spreadOne : (X P r : ℕ) (frame member : Bytes) → Bytes
-spreadOne X P r frame member = underDone (oneAnswer X P (length frame) (length member)) (memberFrame X P frame r) member
+abbrev pub spread_one : (X P r : ℕ) (frame member : Bytes) → Bytes
+spread_one X P r frame member = under_done (one_answer X P (length frame) (length member)) (member_frame X P frame r) member

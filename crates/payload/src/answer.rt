@@ -2,8 +2,8 @@
 ghost use Rattle.std.specs.Prelude.{◌≡◌, ◌+◌, ◌≤◌, length};
 ghost use Rattle.ground.specs.Plain.{if◌then◌else◌, ◌≤?◌};
 ghost use Rattle.payload.specs.Answers.{number_of, sized};
-ghost use Rattle.payload.specs.Joining.{wholeAnswer, fromAnswer, startsFit};
-ghost use Rattle.payload.specs.Spreading.{oneAnswer};
+ghost use Rattle.payload.specs.Joining.{whole_answer, from_answer, starts_fit};
+ghost use Rattle.payload.specs.Spreading.{one_answer};
 
 // The longest payload of a member frame.
 pub const PAYLOAD_MOST: usize = 2340;
@@ -42,7 +42,7 @@ fn by_lengths(right: bool) -> Answer
 
 // All members beside their group frame.
 pub(crate) fn whole(x: usize, p: usize, from: usize, to: usize) -> Answer
-    ensures { result ≡ wholeAnswer x p from to }
+    ensures { result ≡ whole_answer x p from to }
 {
     if is_sized(x, p) {
         let n = x * p;
@@ -54,7 +54,7 @@ pub(crate) fn whole(x: usize, p: usize, from: usize, to: usize) -> Answer
 
 // One member beside its group frame.
 pub(crate) fn one(x: usize, p: usize, frame: usize, member: usize) -> Answer
-    ensures { result ≡ oneAnswer x p frame member }
+    ensures { result ≡ one_answer x p frame member }
 {
     if is_sized(x, p) {
         let n = x * p;
@@ -73,7 +73,7 @@ fn ends_within(place: usize, n: usize, len: usize) -> bool
 
 fn starts_fit(x: usize, p: usize, starts: &[usize], store: usize) -> bool
     requires { x ≤ length starts.now }
-    ensures { result ≡ startsFit x p starts.now store }
+    ensures { result ≡ starts_fit x p starts.now store }
 {
     let mut fit = true;
     let mut r = 0;
@@ -94,7 +94,7 @@ pub(crate) fn from(
     out: usize,
 ) -> Answer
     requires { 64 ≤ length starts.now }
-    ensures { result ≡ fromAnswer x p starts.now store place out }
+    ensures { result ≡ from_answer x p starts.now store place out }
 {
     if is_sized(x, p) {
         let frame = ends_within(place, x * p, out);

@@ -1,12 +1,12 @@
 // Spreading and joining in blocks of eight by sixteen bytes and of sixteen by sixteen, for eight ranks and sixteen bytes or more. A block that would go beyond
 // the end starts so much earlier, and stores some bytes a second time.
 ghost use Rattle.std.specs.Prelude.{◌≡◌, ℕ, ◌+◌, ◌-◌, ◌*◌, ◌≤◌, ◌<◌, min, length, get_or};
-ghost use Rattle.ground.specs.Drawn.{drawn, fillAt};
+ghost use Rattle.ground.specs.Drawn.{drawn, fill_at};
 ghost use Rattle.ground.specs.Table.{tabulate};
 ghost use Rattle.payload.specs.Inner.Area.{area};
-ghost use Rattle.payload.specs.Inner.Block.{Rows, Sizes, lineByte, rowByte};
-ghost use Rattle.payload.specs.Joining.{rankedByte, startedByte};
-ghost use Rattle.payload.specs.Order.{groupByte, groupFrame};
+ghost use Rattle.payload.specs.Inner.Block.{Rows, Sizes, line_byte, row_byte};
+ghost use Rattle.payload.specs.Joining.{ranked_byte, started_byte};
+ghost use Rattle.payload.specs.Order.{group_byte, group_frame};
 
 use crate::{copy, shuffle};
 
@@ -28,7 +28,7 @@ pub(crate) fn read_ranked(
     q: &mut [u8],
 )
     requires { (1 ≤ p) × (h * w ≤ length q.old) × ((l : ℕ) → l < h → (r + l) * p + (j + w) ≤ length members.now) }
-    ensures { Rows h w (rankedByte p members.now) r j q.old q.new }
+    ensures { Rows h w (ranked_byte p members.now) r j q.old q.new }
 {
     let mut l = 0;
     while l < h {
@@ -63,7 +63,7 @@ pub(crate) fn read_started(
     q: &mut [u8],
 )
     requires { (h * w ≤ length q.old) × (r + h ≤ length starts.now) × ((l : ℕ) → l < h → get_or starts.now (r + l) 0 + (j + w) ≤ length store.now) }
-    ensures { Rows h w (startedByte starts.now store.now) r j q.old q.new }
+    ensures { Rows h w (started_byte starts.now store.now) r j q.old q.new }
 {
     let mut l = 0;
     while l < h {
@@ -85,7 +85,7 @@ pub(crate) fn write(
     out: &mut [u8],
 )
     requires { (1 ≤ h) × (r + h ≤ x) × (w * h ≤ length q.now) × (place + (j + w) * x ≤ length out.old) }
-    ensures { out.new ≡ drawn (area x place j w r h) (lineByte h x place j r q.now) out.old }
+    ensures { out.new ≡ drawn (area x place j w r h) (line_byte h x place j r q.now) out.old }
 {
     let mut i = 0;
     while i < w {
@@ -97,7 +97,7 @@ pub(crate) fn write(
 // Blocks in rows, into the frame.
 fn lay_eight(q: [u8; 128], x: usize, place: usize, j: usize, r: usize, out: &mut [u8])
     requires { (r + 8 ≤ x) × (place + (j + 16) * x ≤ length out.old) }
-    ensures { out.new ≡ drawn (area x place j 16 r 8) (rowByte 16 x place j r q) out.old }
+    ensures { out.new ≡ drawn (area x place j 16 r 8) (row_byte 16 x place j r q) out.old }
 {
     let t = shuffle::eight_rows(q);
     write(&t, 8, 16, x, place, j, r, out);
@@ -105,7 +105,7 @@ fn lay_eight(q: [u8; 128], x: usize, place: usize, j: usize, r: usize, out: &mut
 
 fn lay_sixteen(q: [u8; 128], x: usize, place: usize, j: usize, r: usize, out: &mut [u8])
     requires { (r + 16 ≤ x) × (place + (j + 8) * x ≤ length out.old) }
-    ensures { out.new ≡ drawn (area x place j 8 r 16) (rowByte 8 x place j r q) out.old }
+    ensures { out.new ≡ drawn (area x place j 8 r 16) (row_byte 8 x place j r q) out.old }
 {
     let t = shuffle::sixteen_rows(q);
     write(&t, 16, 8, x, place, j, r, out);
@@ -113,7 +113,7 @@ fn lay_sixteen(q: [u8; 128], x: usize, place: usize, j: usize, r: usize, out: &m
 
 fn lay_wide(q: [u8; 256], x: usize, place: usize, j: usize, r: usize, out: &mut [u8])
     requires { (r + 16 ≤ x) × (place + (j + 16) * x ≤ length out.old) }
-    ensures { out.new ≡ drawn (area x place j 16 r 16) (rowByte 16 x place j r q) out.old }
+    ensures { out.new ≡ drawn (area x place j 16 r 16) (row_byte 16 x place j r q) out.old }
 {
     let t = shuffle::sixteen_wide(q);
     write(&t, 16, 16, x, place, j, r, out);
@@ -131,7 +131,7 @@ fn block(
     frame: &mut [u8],
 )
     requires { Sizes h w × (r + h ≤ x) × (j + w ≤ p) × (length members.now ≡ x * p) × (length frame.old ≡ x * p) }
-    ensures { frame.new ≡ drawn (area x 0 j w r h) (λ k. groupByte x (rankedByte p members.now) (k - 0)) frame.old }
+    ensures { frame.new ≡ drawn (area x 0 j w r h) (λ k. group_byte x (ranked_byte p members.now) (k - 0)) frame.old }
 {
     if h == 8 {
         let mut q = [0; 128];
@@ -160,7 +160,7 @@ fn block_from(
     out: &mut [u8],
 )
     requires { Sizes h 16 × (r + h ≤ x) × (x ≤ length starts.now) × ((l : ℕ) → l < h → get_or starts.now (r + l) 0 + (j + 16) ≤ length store.now) × (place + (j + 16) * x ≤ length out.old) }
-    ensures { out.new ≡ drawn (area x place j 16 r h) (λ k. groupByte x (startedByte starts.now store.now) (k - place)) out.old }
+    ensures { out.new ≡ drawn (area x place j 16 r h) (λ k. group_byte x (started_byte starts.now store.now) (k - place)) out.old }
 {
     if h == 8 {
         let mut q = [0; 128];
@@ -186,7 +186,7 @@ fn columns(
     frame: &mut [u8],
 )
     requires { Sizes h w × (r + h ≤ x) × (from + w ≤ to) × (to ≤ p) × (length members.now ≡ x * p) × (length frame.old ≡ x * p) }
-    ensures { frame.new ≡ drawn (area x 0 from (to - from) r h) (λ k. groupByte x (rankedByte p members.now) (k - 0)) frame.old }
+    ensures { frame.new ≡ drawn (area x 0 from (to - from) r h) (λ k. group_byte x (ranked_byte p members.now) (k - 0)) frame.old }
 {
     let mut c = from;
     while c < to {
@@ -208,7 +208,7 @@ fn tile(
     frame: &mut [u8],
 )
     requires { Sizes h w × (h ≤ x) × (from + w ≤ to) × (to ≤ p) × (length members.now ≡ x * p) × (length frame.old ≡ x * p) }
-    ensures { frame.new ≡ drawn (area x 0 from (to - from) 0 x) (λ k. groupByte x (rankedByte p members.now) (k - 0)) frame.old }
+    ensures { frame.new ≡ drawn (area x 0 from (to - from) 0 x) (λ k. group_byte x (ranked_byte p members.now) (k - 0)) frame.old }
 {
     let mut c = 0;
     while c < x {
@@ -233,7 +233,7 @@ fn tile_end(from: usize, p: usize) -> usize
 // lines of h columns before the next h would bring each line of a long frame there anew for each h ranks.
 pub(crate) fn join(h: usize, w: usize, x: usize, p: usize, members: &[u8], frame: &mut [u8])
     requires { Sizes h w × (h ≤ x) × (w ≤ p) × (length members.now ≡ x * p) × (length frame.old ≡ x * p) }
-    ensures { frame.new ≡ groupFrame x p (rankedByte p members.now) }
+    ensures { frame.new ≡ group_frame x p (ranked_byte p members.now) }
 {
     let mut c = 0;
     while c < p {
@@ -256,7 +256,7 @@ fn columns_from(
     out: &mut [u8],
 )
     requires { Sizes h 16 × (r + h ≤ x) × (16 ≤ p) × (x ≤ length starts.now) × ((i : ℕ) → i < x → get_or starts.now i 0 + p ≤ length store.now) × (place + x * p ≤ length out.old) }
-    ensures { out.new ≡ drawn (area x place 0 p r h) (λ k. groupByte x (startedByte starts.now store.now) (k - place)) out.old }
+    ensures { out.new ≡ drawn (area x place 0 p r h) (λ k. group_byte x (started_byte starts.now store.now) (k - place)) out.old }
 {
     let mut c = 0;
     while c < p {
@@ -278,7 +278,7 @@ pub(crate) fn join_from(
     out: &mut [u8],
 )
     requires { Sizes h 16 × (h ≤ x) × (16 ≤ p) × (x ≤ length starts.now) × ((r : ℕ) → r < x → get_or starts.now r 0 + p ≤ length store.now) × (place + x * p ≤ length out.old) }
-    ensures { out.new ≡ fillAt place (x * p) (groupByte x (startedByte starts.now store.now)) out.old }
+    ensures { out.new ≡ fill_at place (x * p) (group_byte x (started_byte starts.now store.now)) out.old }
 {
     let mut c = 0;
     while c < x {

@@ -3,14 +3,14 @@
 // in the two loops, and makes a single call of the C library's copy of them, in which the array is gone. Of one loop over two slices, which
 // might overlap for all it knows, it makes none.
 ghost use Rattle.std.specs.Prelude.{◌≡◌, ◌+◌, ◌≤◌, length, get_or};
-ghost use Rattle.ground.specs.Drawn.{fillAt};
+ghost use Rattle.ground.specs.Drawn.{fill_at};
 ghost use Rattle.payload.specs.Answers.{PAYLOAD-MOST};
 
 use crate::answer::PAYLOAD_MOST;
 
 pub(crate) fn by_bytes(from: &[u8], at: usize, n: usize, place: usize, to: &mut [u8])
     requires { (at + n ≤ length from.now) × (place + n ≤ length to.old) }
-    ensures { to.new ≡ fillAt place n (λ j. get_or from.now (at + j) 0) to.old }
+    ensures { to.new ≡ fill_at place n (λ j. get_or from.now (at + j) 0) to.old }
 {
     let mut j = 0;
     while j < n {
@@ -28,7 +28,7 @@ fn blank() -> [u8; PAYLOAD_MOST]
 
 fn at_once(from: &[u8], at: usize, n: usize, place: usize, to: &mut [u8])
     requires { (n ≤ PAYLOAD-MOST) × (at + n ≤ length from.now) × (place + n ≤ length to.old) }
-    ensures { to.new ≡ fillAt place n (λ j. get_or from.now (at + j) 0) to.old }
+    ensures { to.new ≡ fill_at place n (λ j. get_or from.now (at + j) 0) to.old }
 {
     let mut run = blank();
     by_bytes(from, at, n, 0, &mut run);
@@ -38,7 +38,7 @@ fn at_once(from: &[u8], at: usize, n: usize, place: usize, to: &mut [u8])
 // The n bytes that lie from one place on, to another.
 pub(crate) fn run(from: &[u8], at: usize, n: usize, place: usize, to: &mut [u8])
     requires { (at + n ≤ length from.now) × (place + n ≤ length to.old) }
-    ensures { to.new ≡ fillAt place n (λ j. get_or from.now (at + j) 0) to.old }
+    ensures { to.new ≡ fill_at place n (λ j. get_or from.now (at + j) 0) to.old }
 {
     if n <= PAYLOAD_MOST {
         at_once(from, at, n, place, to);

@@ -11,16 +11,16 @@ mod shuffle;
 mod work;
 
 ghost use Rattle.std.specs.Prelude.{◌≡◌, length};
-ghost use Rattle.payload.specs.Joining.{wholeAnswer, joined, fromAnswer, joinedFrom};
+ghost use Rattle.payload.specs.Joining.{whole_answer, joined, from_answer, joined_from};
 ghost use Rattle.payload.specs.Laying.{laid};
-ghost use Rattle.payload.specs.Spreading.{spreadAll, oneAnswer, spreadOne};
+ghost use Rattle.payload.specs.Spreading.{spread_all, one_answer, spread_one};
 
 pub use answer::{Answer, PAYLOAD_MOST};
 
 // The frame spread over all members, which lie one after the other, rank r at r P.
 pub fn spread(x: usize, p: usize, frame: &[u8], members: &mut [u8]) -> Answer
-    ensures { (result ≡ wholeAnswer x p (length frame.now) (length members.old))
-        × (members.new ≡ spreadAll x p frame.now members.old) }
+    ensures { (result ≡ whole_answer x p (length frame.now) (length members.old))
+        × (members.new ≡ spread_all x p frame.now members.old) }
 {
     match answer::whole(x, p, frame.len(), members.len()) {
         Answer::Done => {
@@ -34,7 +34,7 @@ pub fn spread(x: usize, p: usize, frame: &[u8], members: &mut [u8]) -> Answer
 
 // All members, which lie one after the other, rank r at r P, joined into the frame.
 pub fn join(x: usize, p: usize, members: &[u8], frame: &mut [u8]) -> Answer
-    ensures { (result ≡ wholeAnswer x p (length members.now) (length frame.old))
+    ensures { (result ≡ whole_answer x p (length members.now) (length frame.old))
         × (frame.new ≡ joined x p members.now frame.old) }
 {
     match answer::whole(x, p, members.len(), frame.len()) {
@@ -49,8 +49,8 @@ pub fn join(x: usize, p: usize, members: &[u8], frame: &mut [u8]) -> Answer
 
 // The payload of the one member ranked r; of a member with no rank below X, zeros.
 pub fn spread_one(x: usize, p: usize, r: usize, frame: &[u8], member: &mut [u8]) -> Answer
-    ensures { (result ≡ oneAnswer x p (length frame.now) (length member.old))
-        × (member.new ≡ spreadOne x p r frame.now member.old) }
+    ensures { (result ≡ one_answer x p (length frame.now) (length member.old))
+        × (member.new ≡ spread_one x p r frame.now member.old) }
 {
     match answer::one(x, p, frame.len(), member.len()) {
         Answer::Done => {
@@ -71,8 +71,8 @@ pub fn join_from(
     place: usize,
     out: &mut [u8],
 ) -> Answer
-    ensures { (result ≡ fromAnswer x p starts.now (length store.now) place (length out.old))
-        × (out.new ≡ joinedFrom x p starts.now store.now place out.old) }
+    ensures { (result ≡ from_answer x p starts.now (length store.now) place (length out.old))
+        × (out.new ≡ joined_from x p starts.now store.now place out.old) }
 {
     match answer::from(x, p, starts, store.len(), place, out.len()) {
         Answer::Done => {
@@ -98,7 +98,7 @@ pub fn lay(from: &[u8], place: usize, to: &mut [u8])
 
 // What spread_one answers, from the lengths alone.
 pub fn one_answer(x: usize, p: usize, frame: usize, member: usize) -> Answer
-    ensures { result ≡ oneAnswer x p frame member }
+    ensures { result ≡ one_answer x p frame member }
 {
     answer::one(x, p, frame, member)
 }

@@ -1,11 +1,11 @@
 // Spreading and joining two, four and eight members: a block is all columns of some lines, 128 bytes that lie together in the frame.
 ghost use Rattle.std.specs.Prelude.{◌≡◌, ℕ, ◌+◌, ◌*◌, ◌≤◌, ◌<◌, length, get_or};
-ghost use Rattle.ground.specs.Drawn.{drawn, fillAt};
+ghost use Rattle.ground.specs.Drawn.{drawn, fill_at};
 ghost use Rattle.payload.specs.Inner.Area.{area};
-ghost use Rattle.payload.specs.Inner.Block.{Even, rowByte, turned};
-ghost use Rattle.payload.specs.Joining.{rankedByte, startedByte};
-ghost use Rattle.payload.specs.Order.{groupByte, groupFrame};
-ghost use Rattle.payload.specs.Spreading.{allMembers};
+ghost use Rattle.payload.specs.Inner.Block.{Even, row_byte, turned};
+ghost use Rattle.payload.specs.Joining.{ranked_byte, started_byte};
+ghost use Rattle.payload.specs.Order.{group_byte, group_frame};
+ghost use Rattle.payload.specs.Spreading.{all_members};
 
 use crate::{block, copy, shuffle};
 
@@ -25,7 +25,7 @@ fn lines_of(x: usize, w: usize, q: [u8; 128]) -> [u8; 128]
 // A block in rows, into the frame.
 fn lay(x: usize, w: usize, q: [u8; 128], place: usize, j: usize, out: &mut [u8])
     requires { Even x w × (place + (j + w) * x ≤ length out.old) }
-    ensures { out.new ≡ drawn (area x place j w 0 x) (rowByte w x place j 0 q) out.old }
+    ensures { out.new ≡ drawn (area x place j w 0 x) (row_byte w x place j 0 q) out.old }
 {
     let t = lines_of(x, w, q);
     copy::by_bytes(&t, 0, 128, place + j * x, out);
@@ -34,7 +34,7 @@ fn lay(x: usize, w: usize, q: [u8; 128], place: usize, j: usize, out: &mut [u8])
 // Members one after the other, into a frame.
 pub(crate) fn join(x: usize, w: usize, p: usize, members: &[u8], frame: &mut [u8])
     requires { Even x w × (w ≤ p) × (length members.now ≡ x * p) × (length frame.old ≡ x * p) }
-    ensures { frame.new ≡ groupFrame x p (rankedByte p members.now) }
+    ensures { frame.new ≡ group_frame x p (ranked_byte p members.now) }
 {
     let mut c = 0;
     while c < p {
@@ -57,7 +57,7 @@ pub(crate) fn join_from(
     out: &mut [u8],
 )
     requires { Even x w × (w ≤ p) × (x ≤ length starts.now) × ((r : ℕ) → r < x → get_or starts.now r 0 + p ≤ length store.now) × (place + x * p ≤ length out.old) }
-    ensures { out.new ≡ fillAt place (x * p) (groupByte x (startedByte starts.now store.now)) out.old }
+    ensures { out.new ≡ fill_at place (x * p) (group_byte x (started_byte starts.now store.now)) out.old }
 {
     let own = block::few_of(x, starts);
     let mut c = 0;
@@ -73,7 +73,7 @@ pub(crate) fn join_from(
 // Some lines of a frame, into the members that lie one after the other. The compiler is to know each size.
 fn lay_rows(x: usize, h: usize, q: [u8; 128], p: usize, r: usize, members: &mut [u8])
     requires { Even x h × (r + h ≤ p) × (length members.old ≡ x * p) }
-    ensures { members.new ≡ drawn (area p 0 0 x r h) (rowByte x p 0 0 r q) members.old }
+    ensures { members.new ≡ drawn (area p 0 0 x r h) (row_byte x p 0 0 r q) members.old }
 {
     if x == 2 {
         let t = shuffle::most_rows(q);
@@ -90,7 +90,7 @@ fn lay_rows(x: usize, h: usize, q: [u8; 128], p: usize, r: usize, members: &mut 
 // A frame, into members one after the other.
 pub(crate) fn spread(x: usize, h: usize, p: usize, frame: &[u8], members: &mut [u8])
     requires { Even x h × (h ≤ p) × (length frame.now ≡ x * p) × (length members.old ≡ x * p) }
-    ensures { members.new ≡ allMembers x p frame.now }
+    ensures { members.new ≡ all_members x p frame.now }
 {
     let mut c = 0;
     while c < p {

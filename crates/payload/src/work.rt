@@ -1,13 +1,13 @@
 // The work under 0: a copy where there is one member, by blocks where one fits, else by plain loops. A block of two members has 64 bytes of each, one of
 // four 32, others sixteen; of the first three the compiler is to know the sizes. Three, five, six and seven go by lines of eight bytes.
 ghost use Rattle.std.specs.Prelude.{◌≡◌, ℕ, ◌+◌, ◌*◌, ◌≤◌, ◌<◌, length, get_or};
-ghost use Rattle.ground.specs.Drawn.{fillAt};
+ghost use Rattle.ground.specs.Drawn.{fill_at};
 ghost use Rattle.ground.specs.Table.{tabulate};
 ghost use Rattle.payload.specs.Answers.{PAYLOAD-MOST};
 ghost use Rattle.payload.specs.Inner.Block.{Sizes};
-ghost use Rattle.payload.specs.Joining.{rankedByte, startedByte};
-ghost use Rattle.payload.specs.Order.{groupByte, groupFrame};
-ghost use Rattle.payload.specs.Spreading.{allMembers};
+ghost use Rattle.payload.specs.Joining.{ranked_byte, started_byte};
+ghost use Rattle.payload.specs.Order.{group_byte, group_frame};
+ghost use Rattle.payload.specs.Spreading.{all_members};
 
 use crate::{block, copy, narrow, over, plain};
 
@@ -36,7 +36,7 @@ fn all_starts(p: usize) -> [usize; 64]
 // The last choice is a call that a report's joining has too: so the compiler takes it into neither, and a report's code stays small.
 pub(crate) fn join(x: usize, p: usize, members: &[u8], frame: &mut [u8])
     requires { (x ≤ 64) × (p ≤ PAYLOAD-MOST) × (length members.now ≡ x * p) × (length frame.old ≡ x * p) }
-    ensures { frame.new ≡ groupFrame x p (rankedByte p members.now) }
+    ensures { frame.new ≡ group_frame x p (ranked_byte p members.now) }
 {
     if x == 1 {
         copy::run(members, 0, p, 0, frame);
@@ -59,7 +59,7 @@ pub(crate) fn join(x: usize, p: usize, members: &[u8], frame: &mut [u8])
 // By blocks, a frame is spread as its P lines of X bytes are joined.
 pub(crate) fn spread(x: usize, p: usize, frame: &[u8], members: &mut [u8])
     requires { (length frame.now ≡ x * p) × (length members.old ≡ x * p) }
-    ensures { members.new ≡ allMembers x p frame.now }
+    ensures { members.new ≡ all_members x p frame.now }
 {
     if x == 1 {
         copy::run(frame, 0, p, 0, members);
@@ -87,7 +87,7 @@ pub(crate) fn join_from(
     out: &mut [u8],
 )
     requires { (x ≤ length starts.now) × ((r : ℕ) → r < x → get_or starts.now r 0 + p ≤ length store.now) × (place + x * p ≤ length out.old) }
-    ensures { out.new ≡ fillAt place (x * p) (groupByte x (startedByte starts.now store.now)) out.old }
+    ensures { out.new ≡ fill_at place (x * p) (group_byte x (started_byte starts.now store.now)) out.old }
 {
     if x == 1 {
         let start = starts[0];

@@ -1,16 +1,16 @@
 -- All that this crate and those below it define, opened under one name for examples that are computed. A new definition is named here, and nowhere else.
 use Rattle.std.specs.Prelude.{ℕ}
-use Rattle.store.specs.Opened.{storeOpen}
-use Rattle.step.specs.Opened.{stepOpen}
-use Rattle.phases.specs.Beginning.{begins, foremost, further, latest, noTag, ready, inArc}
-use Rattle.phases.specs.Due.{brought, owesNothing, silent}
-use Rattle.phases.specs.Passing.{notedBy, passedGroup, passedOf, passedPort, passedPorts, passedStep, ruledBy}
-use Rattle.phases.specs.Settling.{beginBy, begunOf, clearedPort, clearedPorts, clearedStep, gatherBy, settled_of, stopBy, stoppedOf}
-use Rattle.phases.specs.Sizes.{portsIn, sized, startSized, storeFor}
-use Rattle.phases.specs.ByTable.{passedPortWith, passedPortsWith, passedWith}
+use Rattle.store.specs.Opened.{store_open}
+use Rattle.step.specs.Opened.{step_open}
+use Rattle.phases.specs.Beginning.{begins, foremost, further, latest, no_tag, ready, in_arc}
+use Rattle.phases.specs.Due.{brought, owes_nothing, silent}
+use Rattle.phases.specs.Passing.{noted_by, passed_group, passed_of, passed_port, passed_ports, passed_step, ruled_by}
+use Rattle.phases.specs.Settling.{begin_by, begun_of, cleared_port, cleared_ports, cleared_step, gather_by, settled_of, stop_by, stopped_of}
+use Rattle.phases.specs.Sizes.{ports_in, sized, start_sized, store_for}
+use Rattle.phases.specs.ByTable.{passed_port_with, passed_ports_with, passed_with}
 
-unfoldable pub phasesOpen : ℕ
-unfolding storeOpen stepOpen begins foremost further latest noTag ready inArc brought owesNothing silent notedBy passedGroup passedOf passedPort
-    passedPorts passedStep ruledBy beginBy begunOf clearedPort clearedPorts clearedStep gatherBy settled_of stopBy stoppedOf portsIn sized startSized
-    storeFor passedPortWith passedPortsWith passedWith
-phasesOpen = 0
+unfoldable pub phases_open : ℕ
+unfolding store_open step_open begins foremost further latest no_tag ready in_arc brought owes_nothing silent noted_by passed_group passed_of passed_port
+    passed_ports passed_step ruled_by begin_by begun_of cleared_port cleared_ports cleared_step gather_by settled_of stop_by stopped_of ports_in sized start_sized
+    store_for passed_port_with passed_ports_with passed_with
+phases_open = 0

@@ -2,26 +2,26 @@
 use Rattle.std.specs.Prelude.{Bool, List, ℕ, zero, suc, ◌-◌, set}
 use Rattle.ground.specs.Plain.{if◌then◌else◌}
 use Rattle.ground.specs.Types.{Bytes, Rows}
-use Rattle.packet.specs.Kinds.{epochAfter, frames}
+use Rattle.packet.specs.Kinds.{epoch_after, frames}
 use Rattle.packet.specs.declared.ruling.Ruling.{Ruling}
-use Rattle.step.specs.OwnCount.{ownRuling}
+use Rattle.step.specs.OwnCount.{own_ruling}
 use Rattle.rows.specs.declared.group.Group.{Group}
 use Rattle.rows.specs.declared.member.Member.{Member}
 use Rattle.rows.specs.declared.step.Step.{Step}
-use Rattle.rows.specs.Group.{putGroup}
-use Rattle.rows.specs.Member.{memberAt, putMember}
-use Rattle.rows.specs.Packets.{marksAt, packetsAt, putMarks, putPackets}
-use Rattle.rows.specs.Step.{putStep, stepAt}
-use Rattle.store.specs.Frames.{packetIn, ringOf}
-use Rattle.store.specs.Marks.{firstMark, passedMarks}
+use Rattle.rows.specs.Group.{put_group}
+use Rattle.rows.specs.Member.{member_at, put_member}
+use Rattle.rows.specs.Packets.{marks_at, packets_at, put_marks, put_packets}
+use Rattle.rows.specs.Step.{put_step, step_at}
+use Rattle.store.specs.Frames.{packet_in, ring_of}
+use Rattle.store.specs.Marks.{first_mark, passed_marks}
 
 -- 'Each port keeps sixteen nibbles of the packet being gathered beside those of the packet that rules': the second is the one that rules
-unfoldable pub ruledBy : (pair : List (List ℕ)) (whole : Bool) (nibbles : List ℕ) → List (List ℕ)
-ruledBy pair whole nibbles = if whole then set pair 1 nibbles else pair
+unfoldable pub ruled_by : (pair : List (List ℕ)) (whole : Bool) (nibbles : List ℕ) → List (List ℕ)
+ruled_by pair whole nibbles = if whole then set pair 1 nibbles else pair
 
 -- 'joined at a later epoch' comes nearer by one epoch
-unfoldable pub passedStep : Step → Bool → Step
-passedStep s whole =
+unfoldable pub passed_step : Step → Bool → Step
+passed_step s whole =
     record {
       spare = s.spare;
       heard = s.heard;
@@ -30,7 +30,7 @@ passedStep s whole =
       next = s.next;
       joined = s.joined;
       ever_since = s.ever_since;
-      joined_at = s.joined_at - 1;
+      joined_at_lem = s.joined_at_lem - 1;
       whole = if whole then 1 else 0;
       breaks = s.breaks;
       odd = s.odd;
@@ -38,8 +38,8 @@ passedStep s whole =
     }
 
 -- 'the good packets up to that epoch's own'
-unfoldable pub notedBy : (m : Member) (whole : Bool) (r : Ruling) → Member
-notedBy m whole r =
+unfoldable pub noted_by : (m : Member) (whole : Bool) (r : Ruling) → Member
+noted_by m whole r =
     record {
       spare = m.spare;
       word = if whole then (if r.good then r.word else m.word) else m.word;
@@ -54,24 +54,24 @@ notedBy m whole r =
     }
 
 -- a port whose packet of that epoch is read so
-abbrev pub passedPortBy : (read : Ruling) (g : Group) (store : Bytes) (port : ℕ) (s : Rows) → Rows
-passedPortBy read g store i s =
-    let whole = firstMark (marksAt s i) in
-    let nibbles = packetIn g i store in
-    let a = putMember s i (notedBy (memberAt s i) whole read) in
-    let b = putPackets a i (ruledBy (packetsAt s i) whole nibbles) in
-    let c = putStep b i (passedStep (stepAt s i) whole) in
-    putMarks c i (passedMarks (marksAt s i))
+abbrev pub passed_port_by : (read : Ruling) (g : Group) (store : Bytes) (port : ℕ) (s : Rows) → Rows
+passed_port_by read g store i s =
+    let whole = first_mark (marks_at s i) in
+    let nibbles = packet_in g i store in
+    let a = put_member s i (noted_by (member_at s i) whole read) in
+    let b = put_packets a i (ruled_by (packets_at s i) whole nibbles) in
+    let c = put_step b i (passed_step (step_at s i) whole) in
+    put_marks c i (passed_marks (marks_at s i))
 
-unfoldable pub passedPort : (g : Group) (store : Bytes) (port : ℕ) (s : Rows) → Rows
-passedPort g store i s = passedPortBy (ownRuling g.kind g.oldest (packetIn g i store)) g store i s
+unfoldable pub passed_port : (g : Group) (store : Bytes) (port : ℕ) (s : Rows) → Rows
+passed_port g store i s = passed_port_by (own_ruling g.kind g.oldest (packet_in g i store)) g store i s
 
-unfoldable pub passedPorts : (g : Group) (store : Bytes) (ports : ℕ) (s : Rows) → Rows
-passedPorts g store zero s = s
-passedPorts g store (suc n) s = passedPort g store n (passedPorts g store n s)
+unfoldable pub passed_ports : (g : Group) (store : Bytes) (ports : ℕ) (s : Rows) → Rows
+passed_ports g store zero s = s
+passed_ports g store (suc n) s = passed_port g store n (passed_ports g store n s)
 
-abbrev pub groupTo : (g : Group) (begun gathered oldest origin ack : ℕ) → Group
-groupTo g begun gathered oldest origin ack =
+abbrev pub group_to : (g : Group) (begun gathered oldest origin ack : ℕ) → Group
+group_to g begun gathered oldest origin ack =
     record {
       spare = g.spare;
       kind = g.kind;
@@ -86,8 +86,8 @@ groupTo g begun gathered oldest origin ack =
     }
 
 -- the window moves on by one epoch, and its first frame's place with it
-unfoldable pub passedGroup : Group → Group
-passedGroup g = groupTo g g.begun 1 (epochAfter g.kind g.oldest) (ringOf g.origin (frames g.kind) g.window) g.rs_ack
+unfoldable pub passed_group : Group → Group
+passed_group g = group_to g g.begun 1 (epoch_after g.kind g.oldest) (ring_of g.origin (frames g.kind) g.window) g.rs_ack
 
-unfoldable pub passedOf : (g : Group) (store : Bytes) (ports : ℕ) (s : Rows) → Rows
-passedOf g store n s = putGroup (passedPorts g store n s) (passedGroup g)
+unfoldable pub passed_of : (g : Group) (store : Bytes) (ports : ℕ) (s : Rows) → Rows
+passed_of g store n s = put_group (passed_ports g store n s) (passed_group g)

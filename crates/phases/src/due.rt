@@ -1,16 +1,16 @@
 // When an epoch is due, and when no port is readable any more.
 ghost use Rattle.std.specs.Prelude.{◌≡◌, not};
-ghost use Rattle.rows.specs.Packets.{marksAt};
-ghost use Rattle.rows.specs.Step.{stepAt};
+ghost use Rattle.rows.specs.Packets.{marks_at};
+ghost use Rattle.rows.specs.Step.{step_at};
 ghost use Rattle.step.specs.Arrival.{readable};
-ghost use Rattle.phases.specs.Due.{brought, owesNothing, silent};
+ghost use Rattle.phases.specs.Due.{brought, owes_nothing, silent};
 
 use crate::flags::is_set;
 use rows::{Group, Step, packets};
 use store::marks;
 
 fn owes_nothing(group: Group, step: Step, row: [u8; 16]) -> bool
-    ensures { result ≡ owesNothing group step row }
+    ensures { result ≡ owes_nothing group step row }
 {
     let readable = step::is_readable(group, step);
     let first = marks::first(row);
@@ -18,7 +18,7 @@ fn owes_nothing(group: Group, step: Step, row: [u8; 16]) -> bool
 }
 
 fn port_owes_nothing(group: Group, state: &[[u8; 16]], port: u8) -> bool
-    ensures { result ≡ owesNothing group (stepAt state.now port) (marksAt state.now port) }
+    ensures { result ≡ owes_nothing group (step_at state.now port) (marks_at state.now port) }
 {
     let step = rows::step::get(state, port);
     let row = packets::marks(state, port);
@@ -40,7 +40,7 @@ pub fn is_complete(group: Group, state: &[[u8; 16]], ports: u8) -> bool
 }
 
 fn is_unreadable(group: Group, state: &[[u8; 16]], port: u8) -> bool
-    ensures { result ≡ not (readable group (stepAt state.now port)) }
+    ensures { result ≡ not (readable group (step_at state.now port)) }
 {
     let step = rows::step::get(state, port);
     !step::is_readable(group, step)

@@ -1,9 +1,9 @@
 // The oldest epoch passed: gathered, or reported. Each port's packet of that epoch comes to rule, if it stands whole in the store.
 ghost use Rattle.std.specs.Prelude.{◌≡◌, ◌-◌};
 ghost use Rattle.ground.specs.Plain.{if◌then◌else◌};
-ghost use Rattle.store.specs.Frames.{ringOf};
-ghost use Rattle.phases.specs.ByTable.{passedPortWith, passedPortsWith, passedWith};
-ghost use Rattle.phases.specs.Passing.{groupTo, notedBy, passedGroup, passedOf, passedStep, ruledBy};
+ghost use Rattle.store.specs.Frames.{ring_of};
+ghost use Rattle.phases.specs.ByTable.{passed_port_with, passed_ports_with, passed_with};
+ghost use Rattle.phases.specs.Passing.{group_to, noted_by, passed_group, passed_of, passed_step, ruled_by};
 
 use crate::flags::flag_for;
 use packet::{Ruling, kinds};
@@ -12,7 +12,7 @@ use store::{frames, marks};
 
 // The two packets of a port, the second one of which rules.
 fn ruled_by(packets: [[u8; 16]; 2], whole: bool, nibbles: [u8; 16]) -> [[u8; 16]; 2]
-    ensures { result ≡ ruledBy packets whole nibbles }
+    ensures { result ≡ ruled_by packets whole nibbles }
 {
     let mut pair = packets;
     if whole {
@@ -28,7 +28,7 @@ fn one_less(later: u8) -> u8
 }
 
 fn passed_step(s: Step, whole: bool) -> Step
-    ensures { result ≡ passedStep s whole }
+    ensures { result ≡ passed_step s whole }
 {
     let spare = s.spare;
     Step {
@@ -55,7 +55,7 @@ fn good_byte(whole: bool, good: bool, new: u8, old: u8) -> u8
 }
 
 fn noted_by(m: Member, whole: bool, r: Ruling) -> Member
-    ensures { result ≡ notedBy m whole r }
+    ensures { result ≡ noted_by m whole r }
 {
     let spare = m.spare;
     Member {
@@ -73,7 +73,7 @@ fn noted_by(m: Member, whole: bool, r: Ruling) -> Member
 }
 
 fn pass_port(table: &[[u8; 256]; 7], group: Group, store: &[u8], port: u8, state: &mut [[u8; 16]])
-    ensures { state.new ≡ passedPortWith table.now group store.now port state.old }
+    ensures { state.new ≡ passed_port_with table.now group store.now port state.old }
 {
     let row = rows::packets::marks(state, port);
     let whole = marks::first(row);
@@ -93,7 +93,7 @@ fn pass_port(table: &[[u8; 256]; 7], group: Group, store: &[u8], port: u8, state
 }
 
 fn pass_ports(table: &[[u8; 256]; 7], group: Group, store: &[u8], ports: u8, state: &mut [[u8; 16]])
-    ensures { state.new ≡ passedPortsWith table.now group store.now ports state.old }
+    ensures { state.new ≡ passed_ports_with table.now group store.now ports state.old }
 {
     let mut i = 0;
     while i < ports {
@@ -103,7 +103,7 @@ fn pass_ports(table: &[[u8; 256]; 7], group: Group, store: &[u8], ports: u8, sta
 }
 
 pub(crate) fn group_to(g: Group, begun: u8, gathered: u8, oldest: u8, origin: u16, ack: u8) -> Group
-    ensures { result ≡ groupTo g begun gathered oldest origin ack }
+    ensures { result ≡ group_to g begun gathered oldest origin ack }
 {
     let spare = g.spare;
     Group {
@@ -121,7 +121,7 @@ pub(crate) fn group_to(g: Group, begun: u8, gathered: u8, oldest: u8, origin: u1
 }
 
 fn moved(origin: u16, by: u8, window: u16) -> u16
-    ensures { result ≡ ringOf origin by window }
+    ensures { result ≡ ring_of origin by window }
 {
     if window == 0 {
         return 0;
@@ -130,7 +130,7 @@ fn moved(origin: u16, by: u8, window: u16) -> u16
 }
 
 fn passed_group(g: Group) -> Group
-    ensures { result ≡ passedGroup g }
+    ensures { result ≡ passed_group g }
 {
     let next = kinds::next_epoch(g.kind, g.oldest);
     let frames = kinds::epoch_frames(g.kind);
@@ -146,7 +146,7 @@ pub fn pass_with(
     ports: u8,
     state: &mut [[u8; 16]],
 )
-    ensures { state.new ≡ passedWith table.now group store.now ports state.old }
+    ensures { state.new ≡ passed_with table.now group store.now ports state.old }
 {
     let next = passed_group(group);
     pass_ports(table, group, store, ports, state);
@@ -154,7 +154,7 @@ pub fn pass_with(
 }
 
 pub fn pass(group: Group, store: &[u8], ports: u8, state: &mut [[u8; 16]])
-    ensures { state.new ≡ passedOf group store.now ports state.old }
+    ensures { state.new ≡ passed_of group store.now ports state.old }
 {
     let table = packet::share_table();
     pass_with(&table, group, store, ports, state);

@@ -1,6 +1,6 @@
 // What follows from a frame for all ports (01, 'Beginning'): stopping comes first, then the beginning, then gathering.
 ghost use Rattle.std.specs.Prelude.{◌≡◌};
-ghost use Rattle.phases.specs.Settling.{beginBy, begunOf, clearedPort, clearedPorts, clearedStep, gatherBy, settled_of, stopBy, stoppedOf};
+ghost use Rattle.phases.specs.Settling.{begin_by, begun_of, cleared_port, cleared_ports, cleared_step, gather_by, settled_of, stop_by, stopped_of};
 
 use crate::flags::{flag_for, is_set};
 use crate::{due, passing, starting};
@@ -8,7 +8,7 @@ use packet::kinds;
 use rows::{Group, Step};
 
 fn cleared_step(s: Step, since: bool) -> Step
-    ensures { result ≡ clearedStep s since }
+    ensures { result ≡ cleared_step s since }
 {
     let spare = s.spare;
     Step {
@@ -28,7 +28,7 @@ fn cleared_step(s: Step, since: bool) -> Step
 }
 
 fn clear_port(group: Group, beginning: bool, port: u8, state: &mut [[u8; 16]])
-    ensures { state.new ≡ clearedPort group beginning port state.old }
+    ensures { state.new ≡ cleared_port group beginning port state.old }
 {
     let step = rows::step::get(state, port);
     let in_step = step::in_step(group, step);
@@ -38,7 +38,7 @@ fn clear_port(group: Group, beginning: bool, port: u8, state: &mut [[u8; 16]])
 }
 
 fn clear_ports(group: Group, beginning: bool, ports: u8, state: &mut [[u8; 16]])
-    ensures { state.new ≡ clearedPorts group beginning ports state.old }
+    ensures { state.new ≡ cleared_ports group beginning ports state.old }
 {
     let mut i = 0;
     while i < ports {
@@ -48,7 +48,7 @@ fn clear_ports(group: Group, beginning: bool, ports: u8, state: &mut [[u8; 16]])
 }
 
 fn stop(group: Group, ports: u8, state: &mut [[u8; 16]])
-    ensures { state.new ≡ stoppedOf group ports state.old }
+    ensures { state.new ≡ stopped_of group ports state.old }
 {
     let stopped = passing::group_to(group, 0, 0, 0, group.origin, group.rs_ack);
     clear_ports(group, false, ports, state);
@@ -56,7 +56,7 @@ fn stop(group: Group, ports: u8, state: &mut [[u8; 16]])
 }
 
 fn stop_by(group: Group, ports: u8, state: &mut [[u8; 16]])
-    ensures { state.new ≡ stopBy group ports state.old }
+    ensures { state.new ≡ stop_by group ports state.old }
 {
     if is_set(group.begun) {
         if due::is_silent(group, state, ports) {
@@ -66,7 +66,7 @@ fn stop_by(group: Group, ports: u8, state: &mut [[u8; 16]])
 }
 
 fn begin(group: Group, ports: u8, state: &mut [[u8; 16]])
-    ensures { state.new ≡ begunOf group ports state.old }
+    ensures { state.new ≡ begun_of group ports state.old }
 {
     let fore = starting::foremost(group, state, ports);
     let epoch = kinds::epoch_of(group.kind, fore);
@@ -77,7 +77,7 @@ fn begin(group: Group, ports: u8, state: &mut [[u8; 16]])
 }
 
 fn begin_by(group: Group, ports: u8, state: &mut [[u8; 16]])
-    ensures { state.new ≡ beginBy group ports state.old }
+    ensures { state.new ≡ begin_by group ports state.old }
 {
     if !is_set(group.begun) {
         if starting::is_begun_by(group, state, ports) {
@@ -87,7 +87,7 @@ fn begin_by(group: Group, ports: u8, state: &mut [[u8; 16]])
 }
 
 fn gather_by(group: Group, store: &[u8], ports: u8, state: &mut [[u8; 16]])
-    ensures { state.new ≡ gatherBy group store.now ports state.old }
+    ensures { state.new ≡ gather_by group store.now ports state.old }
 {
     if is_set(group.begun) & !is_set(group.gathered) {
         if due::is_complete(group, state, ports) {

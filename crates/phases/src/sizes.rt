@@ -1,13 +1,13 @@
 // How large a group may be (01, 'Numbers that bound the work').
 ghost use Rattle.std.specs.Prelude.{◌≡◌};
-ghost use Rattle.phases.specs.Sizes.{portsIn, sized, sizedAs, startSized, storeFor};
+ghost use Rattle.phases.specs.Sizes.{ports_in, sized, sized_as, start_sized, store_for};
 
 use packet::kinds;
 use payload::PAYLOAD_MOST;
 use rows::Group;
 
 fn is_sized_as(known: bool, kind: u8, count: u32, payload: u32, window: u32) -> bool
-    ensures { result ≡ sizedAs known kind count payload window }
+    ensures { result ≡ sized_as known kind count payload window }
 {
     let frames = kinds::epoch_frames(kind);
     let tags = kinds::tag_count(kind);
@@ -33,14 +33,14 @@ fn is_sized(kind: u8, count: u32, payload: u32, window: u32) -> bool
 
 // Whether a start takes such a group.
 pub fn is_startable(kind: u8, count: u32, payload: u32, window: u32) -> bool
-    ensures { result ≡ startSized kind count payload window }
+    ensures { result ≡ start_sized kind count payload window }
 {
     is_sized(kind, count, payload, window) & kinds::is_payload(kind, payload)
 }
 
 // How many ports a group has; a group out of range, or of no kind that is known, is an empty one.
 pub fn ports_in(group: Group) -> u8
-    ensures { result ≡ portsIn group }
+    ensures { result ≡ ports_in group }
 {
     if is_sized(
         group.kind,
@@ -55,7 +55,7 @@ pub fn ports_in(group: Group) -> u8
 
 // How many bytes the store of a group has.
 pub fn store_for(group: Group, ports: u8) -> usize
-    ensures { result ≡ storeFor group ports }
+    ensures { result ≡ store_for group ports }
 {
     ports as usize * group.window as usize * (group.payload as usize + 1)
 }

@@ -3,9 +3,9 @@ ghost use Rattle.std.specs.Prelude.{◌≡◌, ◌&&◌, ◌||◌, ◌/◌};
 ghost use Rattle.ground.specs.Plain.{◌==◌, ◌<?◌};
 ghost use Rattle.ground.specs.Counting.Words.{every};
 ghost use Rattle.packet.specs.Kinds.{distance_of, tags};
-ghost use Rattle.rows.specs.Step.{stepAt};
-ghost use Rattle.step.specs.Arrival.{inStep};
-ghost use Rattle.phases.specs.Beginning.{begins, foremost, further, latest, noTag, ready, inArc};
+ghost use Rattle.rows.specs.Step.{step_at};
+ghost use Rattle.step.specs.Arrival.{in_step};
+ghost use Rattle.phases.specs.Beginning.{begins, foremost, further, latest, no_tag, ready, in_arc};
 
 use crate::flags::is_set;
 use packet::kinds;
@@ -26,13 +26,13 @@ pub fn latest(group: Group, step: Step) -> u16
 
 // What stands for no tag.
 fn no_tag(group: Group) -> u16
-    ensures { result ≡ noTag group }
+    ensures { result ≡ no_tag group }
 {
     kinds::tag_count(group.kind)
 }
 
 fn leads(group: Group, fore: u16, step: Step) -> bool
-    ensures { result ≡ (inStep group step && (fore == noTag group || distance_of group.kind (latest group step) fore <? tags group.kind / 2)) }
+    ensures { result ≡ (in_step group step && (fore == no_tag group || distance_of group.kind (latest group step) fore <? tags group.kind / 2)) }
 {
     let in_step = step::in_step(group, step);
     let tag = latest(group, step);
@@ -64,7 +64,7 @@ pub fn foremost(group: Group, state: &[[u8; 16]], ports: u8) -> u16
 }
 
 fn is_in_arc(group: Group, fore: u16, step: Step) -> bool
-    ensures { result ≡ inArc group fore step }
+    ensures { result ≡ in_arc group fore step }
 {
     let in_step = step::in_step(group, step);
     let tag = latest(group, step);
@@ -75,7 +75,7 @@ fn is_in_arc(group: Group, fore: u16, step: Step) -> bool
 
 // Ends at the first port that is not ready.
 fn all_ready(group: Group, state: &[[u8; 16]], ports: u8) -> bool
-    ensures { result ≡ every ports (λ i. ready group (stepAt state.now i)) }
+    ensures { result ≡ every ports (λ i. ready group (step_at state.now i)) }
 {
     let mut i = 0;
     while i < ports {
@@ -89,7 +89,7 @@ fn all_ready(group: Group, state: &[[u8; 16]], ports: u8) -> bool
 }
 
 fn all_in_arc(group: Group, fore: u16, state: &[[u8; 16]], ports: u8) -> bool
-    ensures { result ≡ every ports (λ i. inArc group fore (stepAt state.now i)) }
+    ensures { result ≡ every ports (λ i. in_arc group fore (step_at state.now i)) }
 {
     let mut i = 0;
     while i < ports {

@@ -8,180 +8,180 @@ use lib.Dec.{eqb, ltb}
 use lib.ListN.{get_or, length, replicate, set}
 use lib.Seq.{set-get_or}
 use borrow.Author.Tests.{eq-eqb, ltb-true, ne_eqb}
-use Rattle.packet.specs.Kinds.{endsEpoch, epochsIn, place_of, tagAfter, vc12Kind}
-use Rattle.packet.specs.Laws.Distances.{place-back}
-use Rattle.packet.specs.Symbols.{entry_at, entryWith}
-use Rattle.packet.specs.Theorems.Symbols.{with-parts}
-use Rattle.phases.specs.Sizes.{portsIn}
-use Rattle.receiver.specs.Frame.{decidedFrame, frame_of, frameRefusal, gatheredBy, marksBy, ownTag, portRows, refusalBy, settledBy, steadyRows, storeBy, takenFrame}
-use Rattle.receiver.specs.Laws.Outcomes.{step-answer}
-use Rattle.receiver.specs.Lengths.{frameFits}
+use Rattle.packet.specs.Kinds.{ends_epoch, epochs_in, place_of, tag_after, vc12_kind}
+use Rattle.packet.specs.Laws.Distances.{place_back}
+use Rattle.packet.specs.Symbols.{entry_at, entry_with}
+use Rattle.packet.specs.Theorems.Symbols.{with_parts}
+use Rattle.phases.specs.Sizes.{ports_in}
+use Rattle.receiver.specs.Frame.{decided_frame, frame_of, frame_refusal, gathered_by, marks_by, own_tag, port_rows, refusal_by, settled_by, steady_rows, store_by, taken_frame}
+use Rattle.receiver.specs.Laws.Outcomes.{step_answer}
+use Rattle.receiver.specs.Lengths.{frame_fits}
 use Rattle.rows.specs.declared.group.Group.{Group}
 use Rattle.rows.specs.declared.step.Step.{Step}
-use Rattle.rows.specs.Group.{groupAt}
-use Rattle.rows.specs.Laws.Port.{port-put-part}
-use Rattle.rows.specs.Packets.{marksAt, packetsAt, putMarks, putPackets, entryIn, withEntry}
+use Rattle.rows.specs.Group.{group_at}
+use Rattle.rows.specs.Laws.Port.{port_put_part}
+use Rattle.rows.specs.Packets.{marks_at, packets_at, put_marks, put_packets, entry_in, with_entry}
 use Rattle.rows.specs.Part.{ThePackets, TheStep}
-use Rattle.rows.specs.Port.{Port, portAt}
-use Rattle.rows.specs.Rows.{putRow, row_in}
-use Rattle.rows.specs.Step.{putStep, stepAt, with_next}
-use Rattle.step.specs.Theorems.Steady.{mid-epoch-goes-on, mid-even, steady-taken}
+use Rattle.rows.specs.Port.{Port, port_at}
+use Rattle.rows.specs.Rows.{put_row, row_in}
+use Rattle.rows.specs.Step.{put_step, step_at, with_next}
+use Rattle.step.specs.Theorems.Steady.{mid_epoch_goes_on, mid_even, steady_taken_lem}
 use Rattle.step.specs.declared.arrival.Taken.{Taken}
-use Rattle.step.specs.Arrival.{distanceIn, flagged, taken_of}
-use Rattle.step.specs.OwnCount.{endsOdd}
-use Rattle.step.specs.Steady.{midEpoch, steady, steadyTaken}
+use Rattle.step.specs.Arrival.{distance_in, flagged, taken_of}
+use Rattle.step.specs.OwnCount.{ends_odd}
+use Rattle.step.specs.Steady.{mid_epoch, steady, steady_taken}
 use Rattle.store.specs.Frames.{place_in, stored_at}
-use Rattle.store.specs.Marks.{cutFrom, markedAt}
+use Rattle.store.specs.Marks.{cut_from, marked_at}
 
-pub taken-frame : (g : Group) (n : ℕ) (s : List (List ℕ)) (i : ℕ) (t : Taken) (h : ℕ) (payload store : List ℕ) (ported settled : List (List ℕ)) (kept : List ℕ)
-    → (t.answer ≡ 11 → ⊥) → ported ≡ portRows g.kind s i t h → kept ≡ storeBy g i t h payload store → settled ≡ settledBy t.settles n kept ported
-    → (settled ≡ (takenFrame g n s i t h payload store).rows) × (kept ≡ (takenFrame g n s i t h payload store).store)
-unfolding takenFrame
-taken-frame g n s i t h payload store ported settled kept ne ep ek es = rw (ne_eqb t.answer 11 ne, ← ep, ← ek) (es, refl)
+pub taken_frame_lem : (g : Group) (n : ℕ) (s : List (List ℕ)) (i : ℕ) (t : Taken) (h : ℕ) (payload store : List ℕ) (ported settled : List (List ℕ)) (kept : List ℕ)
+    → (t.answer ≡ 11 → ⊥) → ported ≡ port_rows g.kind s i t h → kept ≡ store_by g i t h payload store → settled ≡ settled_by t.settles n kept ported
+    → (settled ≡ (taken_frame g n s i t h payload store).rows) × (kept ≡ (taken_frame g n s i t h payload store).store)
+unfolding taken_frame
+taken_frame_lem g n s i t h payload store ported settled kept ne ep ek es = rw (ne_eqb t.answer 11 ne, ← ep, ← ek) (es, refl)
 
 -- a frame that is not refused comes from a port of the group
-pub refused-below : (g : Group) (n i rows payload store : ℕ) → refusalBy g n i rows payload store ≡ 0 → i < n
-unfolding refusalBy
-refused-below g n i rows payload store e = go (ltb i n) refl e
+pub refused_below : (g : Group) (n i rows payload store : ℕ) → refusal_by g n i rows payload store ≡ 0 → i < n
+unfolding refusal_by
+refused_below g n i rows payload store e = go (ltb i n) refl e
   where
-    go : (b : Bool) → ltb i n ≡ b → ◌≡◌ {A = ℕ} (cond b (cond (frameFits g n rows payload store) 0 9) 1) 0 → i < n
+    go : (b : Bool) → ltb i n ≡ b → ◌≡◌ {A = ℕ} (cond b (cond (frame_fits g n rows payload store) 0 9) 1) 0 → i < n
     go true t z = ltb-true i n t
     go false t z = absurd (omega arith)
 
 module _ (s : List (List ℕ)) (i : ℕ) (failed : Bool) (h : ℕ) (payload store : List ℕ) (g : Group) (n r : ℕ) where
-  same-refusal : g ≡ groupAt s → n ≡ portsIn g → r ≡ refusalBy g n i (length s) (length payload) (length store)
-      → r ≡ frameRefusal s i (length payload) (length store)
-  same-refusal eg en er = er ∙ rw (en, eg) refl
+  same_refusal : g ≡ group_at s → n ≡ ports_in g → r ≡ refusal_by g n i (length s) (length payload) (length store)
+      → r ≡ frame_refusal s i (length payload) (length store)
+  same_refusal eg en er = er ∙ rw (en, eg) refl
 
-  pub frame_refused : g ≡ groupAt s → n ≡ portsIn g → r ≡ refusalBy g n i (length s) (length payload) (length store) → (r ≡ 0 → ⊥)
+  pub frame_refused : g ≡ group_at s → n ≡ ports_in g → r ≡ refusal_by g n i (length s) (length payload) (length store) → (r ≡ 0 → ⊥)
       → (r ≡ (frame_of s i failed h payload store).answer) × (s ≡ (frame_of s i failed h payload store).rows) × (store ≡ (frame_of s i failed h payload store).store)
   unfolding frame_of
-  frame_refused eg en er ne = rw (← same-refusal eg en er, ne_eqb r 0 ne) (refl, refl, refl)
+  frame_refused eg en er ne = rw (← same_refusal eg en er, ne_eqb r 0 ne) (refl, refl, refl)
 
-  pub frame-decided : (a : ℕ) (rows : List (List ℕ)) (kept : List ℕ)
-      → g ≡ groupAt s → n ≡ portsIn g → r ≡ refusalBy g n i (length s) (length payload) (length store) → r ≡ 0
-      → a ≡ (decidedFrame s i failed h payload store).answer → rows ≡ (decidedFrame s i failed h payload store).rows → kept ≡ (decidedFrame s i failed h payload store).store
+  pub frame_decided : (a : ℕ) (rows : List (List ℕ)) (kept : List ℕ)
+      → g ≡ group_at s → n ≡ ports_in g → r ≡ refusal_by g n i (length s) (length payload) (length store) → r ≡ 0
+      → a ≡ (decided_frame s i failed h payload store).answer → rows ≡ (decided_frame s i failed h payload store).rows → kept ≡ (decided_frame s i failed h payload store).store
       → (a ≡ (frame_of s i failed h payload store).answer) × (rows ≡ (frame_of s i failed h payload store).rows) × (kept ≡ (frame_of s i failed h payload store).store)
   unfolding frame_of
-  frame-decided a rows kept eg en er z ea erows ek = rw (← same-refusal eg en er, eq-eqb r 0 z) (ea, erows, ek)
+  frame_decided a rows kept eg en er z ea erows ek = rw (← same_refusal eg en er, eq-eqb r 0 z) (ea, erows, ek)
 
-module _ (s : List (List ℕ)) (i : ℕ) (failed : Bool) (h : ℕ) (payload store : List ℕ) (g : Group) (step : Step) (eg : g ≡ groupAt s) (es : step ≡ stepAt s i) where
-  pub decided-by : (n : ℕ) (packets : List (List ℕ)) (odd : Bool) (t : Taken) (rows : List (List ℕ)) (kept : List ℕ) → n ≡ portsIn g → packets ≡ packetsAt s i
-      → odd ≡ endsOdd g.kind (get_or packets 0 []) step.next h → t ≡ taken_of g step failed odd h
-      → rows ≡ (takenFrame g n s i t h payload store).rows → kept ≡ (takenFrame g n s i t h payload store).store
-      → (t.answer ≡ (decidedFrame s i failed h payload store).answer)
-      × (rows ≡ (decidedFrame s i failed h payload store).rows)
-      × (kept ≡ (decidedFrame s i failed h payload store).store)
-  decided-by n packets odd t rows kept en ep eo et erows ek = rw (← eg, ← en, ← es, ← ep, ← eo, ← et) (sym (step-answer g n s i t h payload store), erows, ek)
+module _ (s : List (List ℕ)) (i : ℕ) (failed : Bool) (h : ℕ) (payload store : List ℕ) (g : Group) (step : Step) (eg : g ≡ group_at s) (es : step ≡ step_at s i) where
+  pub decided_by : (n : ℕ) (packets : List (List ℕ)) (odd : Bool) (t : Taken) (rows : List (List ℕ)) (kept : List ℕ) → n ≡ ports_in g → packets ≡ packets_at s i
+      → odd ≡ ends_odd g.kind (get_or packets 0 []) step.next h → t ≡ taken_of g step failed odd h
+      → rows ≡ (taken_frame g n s i t h payload store).rows → kept ≡ (taken_frame g n s i t h payload store).store
+      → (t.answer ≡ (decided_frame s i failed h payload store).answer)
+      × (rows ≡ (decided_frame s i failed h payload store).rows)
+      × (kept ≡ (decided_frame s i failed h payload store).store)
+  decided_by n packets odd t rows kept en ep eo et erows ek = rw (← eg, ← en, ← es, ← ep, ← eo, ← et) (sym (step_answer g n s i t h payload store), erows, ek)
 
 module _ (s : List (List ℕ)) (i : ℕ) where
-  pub packets-after-step : (q : Step) → packetsAt (putStep s i q) i ≡ packetsAt s i
-  unfolding portAt packetsAt
-  packets-after-step q = ap (λ (p : Port). p.gathering ∷ p.ruling ∷ []) (port-put-part s i (TheStep q))
+  pub packets_after_step : (q : Step) → packets_at (put_step s i q) i ≡ packets_at s i
+  unfolding port_at packets_at
+  packets_after_step q = ap (λ (p : Port). p.gathering ∷ p.ruling ∷ []) (port_put_part s i (TheStep q))
 
-  marks-after-step : (q : Step) → marksAt (putStep s i q) i ≡ marksAt s i
-  unfolding portAt
-  marks-after-step q = ap (λ (p : Port). p.marks) (port-put-part s i (TheStep q))
+  marks_after_step : (q : Step) → marks_at (put_step s i q) i ≡ marks_at s i
+  unfolding port_at
+  marks_after_step q = ap (λ (p : Port). p.marks) (port_put_part s i (TheStep q))
 
-  marks-after-packets : (pair : List (List ℕ)) → marksAt (putPackets s i pair) i ≡ marksAt s i
-  unfolding portAt
-  marks-after-packets pair = ap (λ (p : Port). p.marks) (port-put-part s i (ThePackets pair))
+  marks_after_packets : (pair : List (List ℕ)) → marks_at (put_packets s i pair) i ≡ marks_at s i
+  unfolding port_at
+  marks_after_packets pair = ap (λ (p : Port). p.marks) (port_put_part s i (ThePackets pair))
 
 -- What is put back as it was changes nothing.
 module _ (s : List (List ℕ)) (i : ℕ) where
-  pub same-marks : (rows : List (List ℕ)) → marksAt rows i ≡ marksAt s i → putMarks rows i (marksAt s i) ≡ rows
-  unfolding putMarks putRow marksAt row_in
-  same-marks rows e = rw (← e) (set-get_or rows (i * 5 + 5) (replicate 16 0))
+  pub same_marks : (rows : List (List ℕ)) → marks_at rows i ≡ marks_at s i → put_marks rows i (marks_at s i) ≡ rows
+  unfolding put_marks put_row marks_at row_in
+  same_marks rows e = rw (← e) (set-get_or rows (i * 5 + 5) (replicate 16 0))
 
-  pub same-packets : s ≡ putPackets s i (packetsAt s i)
-  unfolding putPackets putRow packetsAt row_in
-  same-packets = sym (rw (set-get_or s (i * 5 + 3) (replicate 16 0)) (set-get_or s (i * 5 + 4) (replicate 16 0)))
+  pub same_packets : s ≡ put_packets s i (packets_at s i)
+  unfolding put_packets put_row packets_at row_in
+  same_packets = sym (rw (set-get_or s (i * 5 + 3) (replicate 16 0)) (set-get_or s (i * 5 + 4) (replicate 16 0)))
 
 -- Gathering: a symbol put by its entry; a frame that is not counted leaves the packets.
-pub symbol-put : (kind : ℕ) (s : List (List ℕ)) (i tag h place at old entry : ℕ) (rows : List (List ℕ)) → place ≡ place_of kind tag → at ≡ entry_at kind place
-    → old ≡ entryIn (packetsAt s i) at → entry ≡ entryWith kind old place h → rows ≡ putPackets s i (withEntry (packetsAt s i) at entry)
-    → rows ≡ putPackets s i (gatheredBy kind (packetsAt s i) true tag h)
-unfolding gatheredBy withEntry entryIn
-symbol-put kind s i tag h place at old entry rows ep ea eo en er =
-    er ∙ ap (λ (row : List ℕ). putPackets s i (set (packetsAt s i) 0 row)) (with-parts kind (get_or (packetsAt s i) 0 []) place h at old entry ea eo en) ∙ rw ep refl
+pub symbol_put : (kind : ℕ) (s : List (List ℕ)) (i tag h place at old entry : ℕ) (rows : List (List ℕ)) → place ≡ place_of kind tag → at ≡ entry_at kind place
+    → old ≡ entry_in (packets_at s i) at → entry ≡ entry_with kind old place h → rows ≡ put_packets s i (with_entry (packets_at s i) at entry)
+    → rows ≡ put_packets s i (gathered_by kind (packets_at s i) true tag h)
+unfolding gathered_by with_entry entry_in
+symbol_put kind s i tag h place at old entry rows ep ea eo en er =
+    er ∙ ap (λ (row : List ℕ). put_packets s i (set (packets_at s i) 0 row)) (with_parts kind (get_or (packets_at s i) 0 []) place h at old entry ea eo en) ∙ rw ep refl
 
-pub gather-counted : (kind : ℕ) (s : List (List ℕ)) (i : ℕ) (counted : Bool) (tag h : ℕ) (rows : List (List ℕ)) → counted ≡ true
-    → rows ≡ putPackets s i (gatheredBy kind (packetsAt s i) true tag h) → rows ≡ putPackets s i (gatheredBy kind (packetsAt s i) counted tag h)
-gather-counted kind s i counted tag h rows e er = rw e er
+pub gather_counted : (kind : ℕ) (s : List (List ℕ)) (i : ℕ) (counted : Bool) (tag h : ℕ) (rows : List (List ℕ)) → counted ≡ true
+    → rows ≡ put_packets s i (gathered_by kind (packets_at s i) true tag h) → rows ≡ put_packets s i (gathered_by kind (packets_at s i) counted tag h)
+gather_counted kind s i counted tag h rows e er = rw e er
 
-pub gather_none : (kind : ℕ) (s : List (List ℕ)) (i : ℕ) (counted : Bool) (tag h : ℕ) → counted ≡ false → s ≡ putPackets s i (gatheredBy kind (packetsAt s i) counted tag h)
-unfolding gatheredBy
-gather_none kind s i counted tag h e = rw e (same-packets s i)
+pub gather_none : (kind : ℕ) (s : List (List ℕ)) (i : ℕ) (counted : Bool) (tag h : ℕ) → counted ≡ false → s ≡ put_packets s i (gathered_by kind (packets_at s i) counted tag h)
+unfolding gathered_by
+gather_none kind s i counted tag h e = rw e (same_packets s i)
 
 -- Marking: a frame that neither joins nor ends an epoch leaves the marks.
-marks_stay : (kind : ℕ) (row : List ℕ) (t : Taken) → (t.joins || t.kept && endsEpoch kind t.at) ≡ false → marksBy kind row t ≡ row
-unfolding marksBy
-marks_stay kind row t e = go t.joins t.kept (endsEpoch kind t.at) e
+marks_stay : (kind : ℕ) (row : List ℕ) (t : Taken) → (t.joins || t.kept && ends_epoch kind t.at) ≡ false → marks_by kind row t ≡ row
+unfolding marks_by
+marks_stay kind row t e = go t.joins t.kept (ends_epoch kind t.at) e
   where
-    go : (a b c : Bool) → (a || b && c) ≡ false → cond a (cutFrom row t.step.joined_at) (cond b (cond c (markedAt row (epochsIn kind t.at)) row) row) ≡ row
+    go : (a b c : Bool) → (a || b && c) ≡ false → cond a (cut_from row t.step.joined_at_lem) (cond b (cond c (marked_at row (epochs_in kind t.at)) row) row) ≡ row
     go true b c e = absurd (true≢false e)
     go false true true e = absurd (true≢false e)
     go false true false e = refl
     go false false c e = refl
 
-pub mark-none : (kind : ℕ) (s : List (List ℕ)) (i : ℕ) (t : Taken) (ends : Bool) → ends ≡ endsEpoch kind t.at → (t.joins || t.kept && ends) ≡ false
-    → s ≡ putMarks s i (marksBy kind (marksAt s i) t)
-mark-none kind s i t ends ee e = rw (marks_stay kind (marksAt s i) t (rw (← ee) e)) (sym (same-marks s i s refl))
+pub mark_none : (kind : ℕ) (s : List (List ℕ)) (i : ℕ) (t : Taken) (ends : Bool) → ends ≡ ends_epoch kind t.at → (t.joins || t.kept && ends) ≡ false
+    → s ≡ put_marks s i (marks_by kind (marks_at s i) t)
+mark_none kind s i t ends ee e = rw (marks_stay kind (marks_at s i) t (rw (← ee) e)) (sym (same_marks s i s refl))
 
-pub port-rows : (kind : ℕ) (s : List (List ℕ)) (i : ℕ) (t : Taken) (h : ℕ) (tag : ℕ) (stepped gathered marked : List (List ℕ)) → tag ≡ ownTag kind t
-    → stepped ≡ putStep s i t.step → gathered ≡ putPackets stepped i (gatheredBy kind (packetsAt stepped i) t.counted tag h)
-    → marked ≡ putMarks gathered i (marksBy kind (marksAt gathered i) t) → marked ≡ portRows kind s i t h
-unfolding portRows
-port-rows kind s i t h tag stepped gathered marked e0 e1 e2 e3 =
-    let p : packetsAt stepped i ≡ packetsAt s i = rw e1 (packets-after-step s i t.step) in
-    let same : marksAt stepped i ≡ marksAt s i = rw e1 (marks-after-step s i t.step) in
-    let m : marksAt gathered i ≡ marksAt s i = rw e2 (marks-after-packets stepped i (gatheredBy kind (packetsAt stepped i) t.counted tag h) ∙ same) in
+pub port_rows_lem : (kind : ℕ) (s : List (List ℕ)) (i : ℕ) (t : Taken) (h : ℕ) (tag : ℕ) (stepped gathered marked : List (List ℕ)) → tag ≡ own_tag kind t
+    → stepped ≡ put_step s i t.step → gathered ≡ put_packets stepped i (gathered_by kind (packets_at stepped i) t.counted tag h)
+    → marked ≡ put_marks gathered i (marks_by kind (marks_at gathered i) t) → marked ≡ port_rows kind s i t h
+unfolding port_rows
+port_rows_lem kind s i t h tag stepped gathered marked e0 e1 e2 e3 =
+    let p : packets_at stepped i ≡ packets_at s i = rw e1 (packets_after_step s i t.step) in
+    let same : marks_at stepped i ≡ marks_at s i = rw e1 (marks_after_step s i t.step) in
+    let m : marks_at gathered i ≡ marks_at s i = rw e2 (marks_after_packets stepped i (gathered_by kind (packets_at stepped i) t.counted tag h) ∙ same) in
     e3 ∙ rw (m, e2, p, e1, e0) refl
 
 -- A flagged frame: packets and marks are put back as they were.
-pub flagged-step : (kind : ℕ) (s : List (List ℕ)) (i : ℕ) (g : Group) (q : Step) → portRows kind s i (taken_of g q true false 0) 0 ≡ putStep s i (taken_of g q true false 0).step
-unfolding portRows taken_of flagged gatheredBy marksBy
-flagged-step kind s i g q =
+pub flagged_step_lem : (kind : ℕ) (s : List (List ℕ)) (i : ℕ) (g : Group) (q : Step) → port_rows kind s i (taken_of g q true false 0) 0 ≡ put_step s i (taken_of g q true false 0).step
+unfolding port_rows taken_of flagged gathered_by marks_by
+flagged_step_lem kind s i g q =
     let now : Step = (taken_of g q true false 0).step in
-    let stepped : List (List ℕ) = putStep s i now in
-    same-marks s i (putPackets stepped i (packetsAt s i)) (marks-after-packets stepped i (packetsAt s i) ∙ marks-after-step s i now)
-    ∙ ap (λ (pair : List (List ℕ)). putPackets stepped i pair) (sym (packets-after-step s i now))
-    ∙ sym (same-packets stepped i)
+    let stepped : List (List ℕ) = put_step s i now in
+    same_marks s i (put_packets stepped i (packets_at s i)) (marks_after_packets stepped i (packets_at s i) ∙ marks_after_step s i now)
+    ∙ ap (λ (pair : List (List ℕ)). put_packets stepped i pair) (sym (packets_after_step s i now))
+    ∙ sym (same_packets stepped i)
 
 -- A steady frame in mid-epoch: the marks are put back as they were.
 module _ (s : List (List ℕ)) (i h : ℕ) (g : Group) where
-  steady-marks : marksAt (steadyRows g.kind (stepAt s i).next h i s) i ≡ marksAt s i
-  unfolding steadyRows
-  steady-marks =
-      let low : List (List ℕ) = putStep s i (with_next (stepAt s i) (tagAfter g.kind (stepAt s i).next)) in
-      marks-after-packets low i (gatheredBy g.kind (packetsAt s i) true (stepAt s i).next h)
-      ∙ marks-after-step s i (with_next (stepAt s i) (tagAfter g.kind (stepAt s i).next))
+  steady_marks : marks_at (steady_rows g.kind (step_at s i).next h i s) i ≡ marks_at s i
+  unfolding steady_rows
+  steady_marks =
+      let low : List (List ℕ) = put_step s i (with_next (step_at s i) (tag_after g.kind (step_at s i).next)) in
+      marks_after_packets low i (gathered_by g.kind (packets_at s i) true (step_at s i).next h)
+      ∙ marks_after_step s i (with_next (step_at s i) (tag_after g.kind (step_at s i).next))
 
-  steady-parts : endsEpoch g.kind (distanceIn g (stepAt s i).next) ≡ false
-      → portRows g.kind s i (steadyTaken g (stepAt s i)) h ≡ putMarks (steadyRows g.kind (stepAt s i).next h i s) i (marksAt s i)
-  unfolding portRows steadyTaken marksBy gatheredBy with_next steadyRows
-  steady-parts e = rw (e, place-back g.kind (stepAt s i).next) refl
+  steady_parts : ends_epoch g.kind (distance_in g (step_at s i).next) ≡ false
+      → port_rows g.kind s i (steady_taken g (step_at s i)) h ≡ put_marks (steady_rows g.kind (step_at s i).next h i s) i (marks_at s i)
+  unfolding port_rows steady_taken marks_by gathered_by with_next steady_rows
+  steady_parts e = rw (e, place_back g.kind (step_at s i).next) refl
 
-  pub steady-rows : midEpoch g (distanceIn g (stepAt s i).next) ≡ true → portRows g.kind s i (steadyTaken g (stepAt s i)) h ≡ steadyRows g.kind (stepAt s i).next h i s
-  steady-rows w = steady-parts (mid-epoch-goes-on g (distanceIn g (stepAt s i).next) w) ∙ same-marks s i (steadyRows g.kind (stepAt s i).next h i s) steady-marks
+  pub steady_rows_lem : mid_epoch g (distance_in g (step_at s i).next) ≡ true → port_rows g.kind s i (steady_taken g (step_at s i)) h ≡ steady_rows g.kind (step_at s i).next h i s
+  steady_rows_lem w = steady_parts (mid_epoch_goes_on g (distance_in g (step_at s i).next) w) ∙ same_marks s i (steady_rows g.kind (step_at s i).next h i s) steady_marks
 
-module _ (s : List (List ℕ)) (i : ℕ) (failed : Bool) (h : ℕ) (payload store : List ℕ) (g : Group) (eg : g ≡ groupAt s) where
-  steady-arrives : (rows : List (List ℕ)) (kept : List ℕ) → eqb g.kind vc12Kind ≡ false → steady g (stepAt s i) failed h ≡ true → midEpoch g (distanceIn g (stepAt s i).next) ≡ true
-      → rows ≡ steadyRows g.kind (stepAt s i).next h i s → kept ≡ stored_at store (place_in g i (distanceIn g (stepAt s i).next)) payload h
-      → (0 ≡ (decidedFrame s i failed h payload store).answer)
-      × (rows ≡ (decidedFrame s i failed h payload store).rows)
-      × (kept ≡ (decidedFrame s i failed h payload store).store)
-  unfolding takenFrame storeBy settledBy steadyTaken
-  steady-arrives rows kept clock st w er ek =
-      rw (← eg, steady-taken g (stepAt s i) failed (endsOdd g.kind (get_or (packetsAt s i) 0 []) (stepAt s i).next h) h clock st w (mid-even g (stepAt s i) (get_or (packetsAt s i) 0 []) h w))
-      (refl, er ∙ sym (steady-rows s i h g w), ek)
+module _ (s : List (List ℕ)) (i : ℕ) (failed : Bool) (h : ℕ) (payload store : List ℕ) (g : Group) (eg : g ≡ group_at s) where
+  steady_arrives : (rows : List (List ℕ)) (kept : List ℕ) → eqb g.kind vc12_kind ≡ false → steady g (step_at s i) failed h ≡ true → mid_epoch g (distance_in g (step_at s i).next) ≡ true
+      → rows ≡ steady_rows g.kind (step_at s i).next h i s → kept ≡ stored_at store (place_in g i (distance_in g (step_at s i).next)) payload h
+      → (0 ≡ (decided_frame s i failed h payload store).answer)
+      × (rows ≡ (decided_frame s i failed h payload store).rows)
+      × (kept ≡ (decided_frame s i failed h payload store).store)
+  unfolding taken_frame store_by settled_by steady_taken
+  steady_arrives rows kept clock st w er ek =
+      rw (← eg, steady_taken_lem g (step_at s i) failed (ends_odd g.kind (get_or (packets_at s i) 0 []) (step_at s i).next h) h clock st w (mid_even g (step_at s i) (get_or (packets_at s i) 0 []) h w))
+      (refl, er ∙ sym (steady_rows_lem s i h g w), ek)
 
-  pub arrive-steady : (step : Step) (at : ℕ) (rows : List (List ℕ)) (kept : List ℕ) → eqb g.kind vc12Kind ≡ false → step ≡ stepAt s i → steady g step failed h ≡ true → at ≡ distanceIn g step.next → midEpoch g at ≡ true
-      → rows ≡ steadyRows g.kind step.next h i s → kept ≡ stored_at store (place_in g i at) payload h
-      → (0 ≡ (decidedFrame s i failed h payload store).answer)
-      × (rows ≡ (decidedFrame s i failed h payload store).rows)
-      × (kept ≡ (decidedFrame s i failed h payload store).store)
-  arrive-steady step at rows kept clock es st ea w er ek =
-      steady-arrives rows kept clock (subst (λ q. steady g q failed h ≡ true) es st) (subst (λ q. midEpoch g (distanceIn g q.next) ≡ true) es (subst (λ d. midEpoch g d ≡ true) ea w))
-      (subst (λ q. rows ≡ steadyRows g.kind q.next h i s) es er)
-      (subst (λ q. kept ≡ stored_at store (place_in g i (distanceIn g q.next)) payload h) es (subst (λ d. kept ≡ stored_at store (place_in g i d) payload h) ea ek))
+  pub arrive_steady : (step : Step) (at : ℕ) (rows : List (List ℕ)) (kept : List ℕ) → eqb g.kind vc12_kind ≡ false → step ≡ step_at s i → steady g step failed h ≡ true → at ≡ distance_in g step.next → mid_epoch g at ≡ true
+      → rows ≡ steady_rows g.kind step.next h i s → kept ≡ stored_at store (place_in g i at) payload h
+      → (0 ≡ (decided_frame s i failed h payload store).answer)
+      × (rows ≡ (decided_frame s i failed h payload store).rows)
+      × (kept ≡ (decided_frame s i failed h payload store).store)
+  arrive_steady step at rows kept clock es st ea w er ek =
+      steady_arrives rows kept clock (subst (λ q. steady g q failed h ≡ true) es st) (subst (λ q. mid_epoch g (distance_in g q.next) ≡ true) es (subst (λ d. mid_epoch g d ≡ true) ea w))
+      (subst (λ q. rows ≡ steady_rows g.kind q.next h i s) es er)
+      (subst (λ q. kept ≡ stored_at store (place_in g i (distance_in g q.next)) payload h) es (subst (λ d. kept ≡ stored_at store (place_in g i d) payload h) ea ek))

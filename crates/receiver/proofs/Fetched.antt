@@ -6,54 +6,54 @@ use Prim.Native.Nat.{ℕ}
 use lib.ListN.{length}
 use Rattle.judge.specs.declared.order.Order.{Order}
 use Rattle.judge.specs.declared.seen.Seen.{Seen}
-use Rattle.judge.specs.Cause.{causeOf, mark_of}
+use Rattle.judge.specs.Cause.{cause_of, mark_of}
 use Rattle.judge.specs.Order.{order_of}
 use Rattle.judge.specs.Seen.{size_of}
-use Rattle.judge.specs.Theorems.Cause.{mark-by-cause}
-use Rattle.judge.specs.Verdict.{judgeOf}
-use Rattle.phases.specs.Sizes.{portsIn}
+use Rattle.judge.specs.Theorems.Cause.{mark_by_cause}
+use Rattle.judge.specs.Verdict.{judge_of}
+use Rattle.phases.specs.Sizes.{ports_in}
 use Rattle.receiver.specs.declared.report.Report.{Report}
-use Rattle.receiver.specs.Fetch.{dueIn, fetchOf, lentFits, outIfDue, reportIfDue, rowsIfDue, noneDue, recordOf}
-use Rattle.receiver.specs.Lengths.{fetchFits}
-use Rattle.receiver.specs.Report.{outputBy, outputOf, reportBy, epochReport, reportedOf, seenAll}
+use Rattle.receiver.specs.Fetch.{due_in, fetch_of, lent_fits, out_if_due, report_if_due, rows_if_due, none_due, record_of}
+use Rattle.receiver.specs.Lengths.{fetch_fits}
+use Rattle.receiver.specs.Report.{output_by, output_of, report_by, epoch_report, reported_of, seen_all}
 use Rattle.rows.specs.declared.group.Group.{Group}
-use Rattle.rows.specs.Group.{groupAt}
+use Rattle.rows.specs.Group.{group_at}
 
 module _ (g : Group) (n : ℕ) (s : List (List ℕ)) (store out : List ℕ) where
   pub given_is : (seen : List Seen) (cause mark : ℕ) (order : Order) (left : List ℕ) (rows : List (List ℕ)) (report : Report)
-      → seen ≡ seenAll g s n → cause ≡ causeOf g.kind seen (size_of n) → mark ≡ mark_of g.kind cause → order ≡ order_of seen (size_of n) → left ≡ outputBy g mark order store out
-      → rows ≡ reportedOf g store n s → report ≡ reportBy g mark cause order
-      → (report ≡ epochReport g (seenAll g s n) n) × (rows ≡ reportedOf g store n s) × (left ≡ outputOf g (seenAll g s n) n store out)
-  unfolding epochReport outputOf
+      → seen ≡ seen_all g s n → cause ≡ cause_of g.kind seen (size_of n) → mark ≡ mark_of g.kind cause → order ≡ order_of seen (size_of n) → left ≡ output_by g mark order store out
+      → rows ≡ reported_of g store n s → report ≡ report_by g mark cause order
+      → (report ≡ epoch_report g (seen_all g s n) n) × (rows ≡ reported_of g store n s) × (left ≡ output_of g (seen_all g s n) n store out)
+  unfolding epoch_report output_of
   given_is seen cause mark order left rows report es ec em eo el er ep =
-      let e : mark ≡ judgeOf g.kind seen (size_of n) = em ∙ rw ec (sym (mark-by-cause g.kind seen (size_of n))) in
+      let e : mark ≡ judge_of g.kind seen (size_of n) = em ∙ rw ec (sym (mark_by_cause g.kind seen (size_of n))) in
       rw (← es, ← e, ← ec, ← eo) (ep, er, el)
 
-  module _ (due : Bool) (ed : due ≡ dueIn g n s) where
-    pub given-due : (report : Report) (rows : List (List ℕ)) (left : List ℕ) → due ≡ true
-        → (report ≡ epochReport g (seenAll g s n) n) × (rows ≡ reportedOf g store n s) × (left ≡ outputOf g (seenAll g s n) n store out)
-        → (report ≡ reportIfDue g n s) × (rows ≡ rowsIfDue g n s store) × (left ≡ outIfDue g n s store out)
-    unfolding reportIfDue rowsIfDue outIfDue
-    given-due report rows left e h = rw (← ed, e) h
+  module _ (due : Bool) (ed : due ≡ due_in g n s) where
+    pub given_due : (report : Report) (rows : List (List ℕ)) (left : List ℕ) → due ≡ true
+        → (report ≡ epoch_report g (seen_all g s n) n) × (rows ≡ reported_of g store n s) × (left ≡ output_of g (seen_all g s n) n store out)
+        → (report ≡ report_if_due g n s) × (rows ≡ rows_if_due g n s store) × (left ≡ out_if_due g n s store out)
+    unfolding report_if_due rows_if_due out_if_due
+    given_due report rows left e h = rw (← ed, e) h
 
-    pub given-none : (report : Report) → due ≡ false → report ≡ noneDue
-        → (report ≡ reportIfDue g n s) × (s ≡ rowsIfDue g n s store) × (out ≡ outIfDue g n s store out)
-    unfolding reportIfDue rowsIfDue outIfDue
-    given-none report e h = rw (← ed, e) (h, refl, refl)
+    pub given_none : (report : Report) → due ≡ false → report ≡ none_due
+        → (report ≡ report_if_due g n s) × (s ≡ rows_if_due g n s store) × (out ≡ out_if_due g n s store out)
+    unfolding report_if_due rows_if_due out_if_due
+    given_none report e h = rw (← ed, e) (h, refl, refl)
 
-module _ (s : List (List ℕ)) (store out lent : List ℕ) (g : Group) (n : ℕ) (fit : Bool) (eg : g ≡ groupAt s) (en : n ≡ portsIn g)
-    (ef : fit ≡ fetchFits g n (length s) (length store) (length out) (length lent)) where
-  same-fits : fit ≡ lentFits s store out lent
-  unfolding lentFits
-  same-fits = ef ∙ rw (en, eg) refl
+module _ (s : List (List ℕ)) (store out lent : List ℕ) (g : Group) (n : ℕ) (fit : Bool) (eg : g ≡ group_at s) (en : n ≡ ports_in g)
+    (ef : fit ≡ fetch_fits g n (length s) (length store) (length out) (length lent)) where
+  same_fits : fit ≡ lent_fits s store out lent
+  unfolding lent_fits
+  same_fits = ef ∙ rw (en, eg) refl
 
-  pub fetch-unfit : fit ≡ false
-      → (9 ≡ (fetchOf s store out lent).answer) × (s ≡ (fetchOf s store out lent).rows) × (out ≡ (fetchOf s store out lent).out) × (lent ≡ (fetchOf s store out lent).report)
-  unfolding fetchOf
-  fetch-unfit e = rw (← same-fits, e) (refl, refl, refl, refl)
+  pub fetch_unfit : fit ≡ false
+      → (9 ≡ (fetch_of s store out lent).answer) × (s ≡ (fetch_of s store out lent).rows) × (out ≡ (fetch_of s store out lent).out) × (lent ≡ (fetch_of s store out lent).report)
+  unfolding fetch_of
+  fetch_unfit e = rw (← same_fits, e) (refl, refl, refl, refl)
 
-  pub fetch-fit : (report : Report) (rows : List (List ℕ)) (left told : List ℕ) → fit ≡ true
-      → report ≡ reportIfDue g n s → rows ≡ rowsIfDue g n s store → left ≡ outIfDue g n s store out → told ≡ recordOf report
-      → (0 ≡ (fetchOf s store out lent).answer) × (rows ≡ (fetchOf s store out lent).rows) × (left ≡ (fetchOf s store out lent).out) × (told ≡ (fetchOf s store out lent).report)
-  unfolding fetchOf
-  fetch-fit report rows left told e er es el et = rw (← same-fits, e, ← eg, ← en, ← er) (refl, es, el, et)
+  pub fetch_fit : (report : Report) (rows : List (List ℕ)) (left told : List ℕ) → fit ≡ true
+      → report ≡ report_if_due g n s → rows ≡ rows_if_due g n s store → left ≡ out_if_due g n s store out → told ≡ record_of report
+      → (0 ≡ (fetch_of s store out lent).answer) × (rows ≡ (fetch_of s store out lent).rows) × (left ≡ (fetch_of s store out lent).out) × (told ≡ (fetch_of s store out lent).report)
+  unfolding fetch_of
+  fetch_fit report rows left told e er es el et = rw (← same_fits, e, ← eg, ← en, ← er) (refl, es, el, et)

@@ -6,25 +6,25 @@ use native.Mathlib.Omega.{arith}
 use lib.Dec.{eqb, leb}
 use borrow.Author.Tests.{eqb-true}
 use Rattle.ground.specs.Truth.{and_right}
-use Rattle.packet.specs.Laws.Epochs.{half-fits}
-use Rattle.phases.specs.Sizes.{storeFor}
+use Rattle.packet.specs.Laws.Epochs.{half_fits}
+use Rattle.phases.specs.Sizes.{store_for}
 use Rattle.receiver.specs.Laws.Sizes.{Sizes}
-use Rattle.receiver.specs.Lengths.{fetchFits, outputFor, rowsFit}
-use Rattle.receiver.specs.Shown.{replyFit, shownFit}
+use Rattle.receiver.specs.Lengths.{fetch_fits, output_for, rows_fit}
+use Rattle.receiver.specs.Shown.{reply_fit, shown_fit}
 use Rattle.rows.specs.declared.group.Group.{Group}
 
-pub window-most : (kind count P W : ℕ) → Sizes kind count P W → W ≤ 2048
-window-most kind count P W z = let narrow = z.narrow in let half = half-fits kind in omega arith
+pub window_most : (kind count P W : ℕ) → Sizes kind count P W → W ≤ 2048
+window_most kind count P W z = let narrow = z.narrow in let half = half_fits kind in omega arith
 
-pub shown-length : (n rows out : ℕ) → shownFit n rows out ≡ true → out ≡ n
-unfolding shownFit
-shown-length n rows out t = eqb-true out n (and_right (rowsFit n rows) (eqb out n) t)
+pub shown_length_lem : (n rows out : ℕ) → shown_fit n rows out ≡ true → out ≡ n
+unfolding shown_fit
+shown_length_lem n rows out t = eqb-true out n (and_right (rows_fit n rows) (eqb out n) t)
 
-pub reply-length : (n rows out : ℕ) → replyFit n rows out ≡ true → out ≡ 2
-unfolding replyFit
-reply-length n rows out t = eqb-true out 2 (and_right (rowsFit n rows) (eqb out 2) t)
+pub reply_length : (n rows out : ℕ) → reply_fit n rows out ≡ true → out ≡ 2
+unfolding reply_fit
+reply_length n rows out t = eqb-true out 2 (and_right (rows_fit n rows) (eqb out 2) t)
 
-pub record-length : (g : Group) (n rows store out report : ℕ) → fetchFits g n rows store out report ≡ true → report ≡ 8
-unfolding fetchFits
-record-length g n rows store out report t =
-    eqb-true report 8 (and_right (rowsFit n rows && eqb store (storeFor g n) && leb (outputFor g n) out) (eqb report 8) t)
+pub record_length : (g : Group) (n rows store out report : ℕ) → fetch_fits g n rows store out report ≡ true → report ≡ 8
+unfolding fetch_fits
+record_length g n rows store out report t =
+    eqb-true report 8 (and_right (rows_fit n rows && eqb store (store_for g n) && leb (output_for g n) out) (eqb report 8) t)

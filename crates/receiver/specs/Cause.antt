@@ -2,23 +2,23 @@
 use Rattle.std.specs.Prelude.{Bool, ◌&&◌, [], ◌∷◌, ℕ, length}
 use Rattle.ground.specs.Plain.{if◌then◌else◌, ◌==◌}
 use Rattle.ground.specs.Types.{Bytes, Rows}
-use Rattle.judge.specs.Cause.{blamedOf, causeOf}
+use Rattle.judge.specs.Cause.{blamed_of, cause_of}
 use Rattle.judge.specs.Seen.{size_of}
-use Rattle.phases.specs.Sizes.{portsIn}
-use Rattle.receiver.specs.Lengths.{rowsFit}
-use Rattle.receiver.specs.Report.{seenAll}
+use Rattle.phases.specs.Sizes.{ports_in}
+use Rattle.receiver.specs.Lengths.{rows_fit}
+use Rattle.receiver.specs.Report.{seen_all}
 use Rattle.rows.specs.declared.group.Group.{Group}
-use Rattle.rows.specs.Group.{groupAt}
+use Rattle.rows.specs.Group.{group_at}
 
 -- two bytes: the cause by what is seen now, and the lowest port to which its clause applies
-unfoldable pub causeIn : (g : Group) (s : Rows) (ports : ℕ) → Bytes
-causeIn g s n = causeOf g.kind (seenAll g s n) (size_of n) ∷ blamedOf g.kind (seenAll g s n) (size_of n) ∷ []
+unfoldable pub cause_in : (g : Group) (s : Rows) (ports : ℕ) → Bytes
+cause_in g s n = cause_of g.kind (seen_all g s n) (size_of n) ∷ blamed_of g.kind (seen_all g s n) (size_of n) ∷ []
 
-unfoldable pub causeFit : (ports rows out : ℕ) → Bool
-causeFit n rows out = rowsFit n rows && out == 2
+unfoldable pub cause_fit : (ports rows out : ℕ) → Bool
+cause_fit n rows out = rows_fit n rows && out == 2
 
-unfoldable pub causeAnswer : (s : Rows) (out : ℕ) → ℕ
-causeAnswer s out = if causeFit (portsIn (groupAt s)) (length s) out then 0 else 9
+unfoldable pub cause_answer : (s : Rows) (out : ℕ) → ℕ
+cause_answer s out = if cause_fit (ports_in (group_at s)) (length s) out then 0 else 9
 
-unfoldable pub causeOut : (s : Rows) (out : Bytes) → Bytes
-causeOut s out = if causeFit (portsIn (groupAt s)) (length s) (length out) then causeIn (groupAt s) s (portsIn (groupAt s)) else out
+unfoldable pub cause_out : (s : Rows) (out : Bytes) → Bytes
+cause_out s out = if cause_fit (ports_in (group_at s)) (length s) (length out) then cause_in (group_at s) s (ports_in (group_at s)) else out

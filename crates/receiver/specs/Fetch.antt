@@ -3,24 +3,24 @@ use Rattle.std.specs.Prelude.{Bool, ◌&&◌, List, [], ◌∷◌, ℕ, ◌/◌,
 use Rattle.ground.specs.Plain.{if◌then◌else◌, ◌<?◌}
 use Rattle.ground.specs.Types.{Bytes, Rows}
 use Rattle.phases.specs.Due.{brought}
-use Rattle.phases.specs.Sizes.{portsIn}
+use Rattle.phases.specs.Sizes.{ports_in}
 use Rattle.receiver.specs.declared.report.Report.{Report}
-use Rattle.receiver.specs.Lengths.{fetchFits}
-use Rattle.receiver.specs.Report.{outputOf, epochReport, reportedOf, seenAll}
+use Rattle.receiver.specs.Lengths.{fetch_fits}
+use Rattle.receiver.specs.Report.{output_of, epoch_report, reported_of, seen_all}
 use Rattle.rows.specs.declared.group.Group.{Group}
-use Rattle.rows.specs.Group.{groupAt}
-use Rattle.step.specs.Arrival.{flagOf}
+use Rattle.rows.specs.Group.{group_at}
+use Rattle.step.specs.Arrival.{flag_of}
 
 -- a report is due
-unfoldable pub dueIn : (g : Group) (ports : ℕ) (s : Rows) → Bool
-dueIn g n s = 0 <? n && flagOf g.begun && flagOf g.gathered && brought g s n
+unfoldable pub due_in : (g : Group) (ports : ℕ) (s : Rows) → Bool
+due_in g n s = 0 <? n && flag_of g.begun && flag_of g.gathered && brought g s n
 
-abbrev pub noneDue : Report
-noneDue = record { mark = 0; epoch = 0; x = 0; cause = 0; bytes = 0 }
+abbrev pub none_due : Report
+none_due = record { mark = 0; epoch = 0; x = 0; cause = 0; bytes = 0 }
 
 -- the record's eight bytes: mark, epoch, X, the cause of the mark, and the byte count, highest byte first
-unfoldable pub recordOf : Report → Bytes
-recordOf r =
+unfoldable pub record_of : Report → Bytes
+record_of r =
     r.mark
     ∷ r.epoch
     ∷ r.x
@@ -33,14 +33,14 @@ recordOf r =
 
 -- 'A fetch with none due answers 0, says so, and changes nothing.'
 
-unfoldable pub reportIfDue : (g : Group) (ports : ℕ) (s : Rows) → Report
-reportIfDue g n s = if dueIn g n s then epochReport g (seenAll g s n) n else noneDue
+unfoldable pub report_if_due : (g : Group) (ports : ℕ) (s : Rows) → Report
+report_if_due g n s = if due_in g n s then epoch_report g (seen_all g s n) n else none_due
 
-unfoldable pub rowsIfDue : (g : Group) (ports : ℕ) (s : Rows) (store : Bytes) → Rows
-rowsIfDue g n s store = if dueIn g n s then reportedOf g store n s else s
+unfoldable pub rows_if_due : (g : Group) (ports : ℕ) (s : Rows) (store : Bytes) → Rows
+rows_if_due g n s store = if due_in g n s then reported_of g store n s else s
 
-unfoldable pub outIfDue : (g : Group) (ports : ℕ) (s : Rows) (store out : Bytes) → Bytes
-outIfDue g n s store out = if dueIn g n s then outputOf g (seenAll g s n) n store out else out
+unfoldable pub out_if_due : (g : Group) (ports : ℕ) (s : Rows) (store out : Bytes) → Bytes
+out_if_due g n s store out = if due_in g n s then output_of g (seen_all g s n) n store out else out
 
 -- what a fetch leaves
 pub record FetchOutcome : Type 0 where
@@ -50,16 +50,16 @@ pub record FetchOutcome : Type 0 where
   pub report : Bytes
 
 module _ (s : List (List ℕ)) (store out report : List ℕ) where
-  unfoldable pub lentFits : Bool
-  lentFits = fetchFits (groupAt s) (portsIn (groupAt s)) (length s) (length store) (length out) (length report)
+  unfoldable pub lent_fits : Bool
+  lent_fits = fetch_fits (group_at s) (ports_in (group_at s)) (length s) (length store) (length out) (length report)
 
-  unfoldable pub fetchOf : FetchOutcome
-  fetchOf =
-      if lentFits
+  unfoldable pub fetch_of : FetchOutcome
+  fetch_of =
+      if lent_fits
       then (record {
         answer = 0;
-        rows = rowsIfDue (groupAt s) (portsIn (groupAt s)) s store;
-        out = outIfDue (groupAt s) (portsIn (groupAt s)) s store out;
-        report = recordOf (reportIfDue (groupAt s) (portsIn (groupAt s)) s);
+        rows = rows_if_due (group_at s) (ports_in (group_at s)) s store;
+        out = out_if_due (group_at s) (ports_in (group_at s)) s store out;
+        report = record_of (report_if_due (group_at s) (ports_in (group_at s)) s);
       })
       else (record { answer = 9; rows = s; out = out; report = report })

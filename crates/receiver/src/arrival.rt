@@ -1,9 +1,9 @@
 // A frame's arrival (01, 'The receiver'; 'For frames: 1, 9, 10, 12, 11').
 ghost use Rattle.std.specs.Prelude.{◌≡◌, true};
-ghost use Rattle.receiver.specs.Frame.{decidedFrame, frame_of, gatheredBy, marksBy, portRows, refusalBy, settledBy, steadyRows, storeBy, takenFrame};
-ghost use Rattle.phases.specs.Sizes.{portsIn};
-ghost use Rattle.rows.specs.Group.{groupAt};
-ghost use Rattle.rows.specs.Packets.{marksAt, packetsAt, putMarks, putPackets};
+ghost use Rattle.receiver.specs.Frame.{decided_frame, frame_of, gathered_by, marks_by, port_rows, refusal_by, settled_by, steady_rows, store_by, taken_frame};
+ghost use Rattle.phases.specs.Sizes.{ports_in};
+ghost use Rattle.rows.specs.Group.{group_at};
+ghost use Rattle.rows.specs.Packets.{marks_at, packets_at, put_marks, put_packets};
 ghost use Rattle.store.specs.Frames.{place_in, stored_at};
 
 use crate::lengths;
@@ -14,7 +14,7 @@ use store::{frames, marks};
 
 // A frame's symbol into the packet being gathered, at the place of its tag.
 fn put_symbol(kind: u8, state: &mut [[u8; 16]], port: u8, tag: u16, h4: u8)
-    ensures { state.new ≡ putPackets state.old port (gatheredBy kind (packetsAt state.old port) true tag h4) }
+    ensures { state.new ≡ put_packets state.old port (gathered_by kind (packets_at state.old port) true tag h4) }
 {
     let place = kinds::place_of(kind, tag);
     let at = symbols::entry_at(kind, place);
@@ -25,7 +25,7 @@ fn put_symbol(kind: u8, state: &mut [[u8; 16]], port: u8, tag: u16, h4: u8)
 
 // Of a counted frame alone.
 fn gather(kind: u8, state: &mut [[u8; 16]], port: u8, counted: bool, tag: u16, h4: u8)
-    ensures { state.new ≡ putPackets state.old port (gatheredBy kind (packetsAt state.old port) counted tag h4) }
+    ensures { state.new ≡ put_packets state.old port (gathered_by kind (packets_at state.old port) counted tag h4) }
 {
     if counted {
         put_symbol(kind, state, port, tag, h4);
@@ -33,7 +33,7 @@ fn gather(kind: u8, state: &mut [[u8; 16]], port: u8, counted: bool, tag: u16, h
 }
 
 fn marks_by(kind: u8, row: [u8; 16], taken: Taken) -> [u8; 16]
-    ensures { result ≡ marksBy kind row taken }
+    ensures { result ≡ marks_by kind row taken }
 {
     if taken.joins {
         let step = taken.step;
@@ -50,7 +50,7 @@ fn marks_by(kind: u8, row: [u8; 16], taken: Taken) -> [u8; 16]
 
 // The marks, written only where they change.
 fn mark(kind: u8, state: &mut [[u8; 16]], port: u8, taken: Taken)
-    ensures { state.new ≡ putMarks state.old port (marksBy kind (marksAt state.old port) taken) }
+    ensures { state.new ≡ put_marks state.old port (marks_by kind (marks_at state.old port) taken) }
 {
     let ends = kinds::ends_epoch(kind, taken.at);
     if taken.joins | taken.kept & ends {
@@ -61,7 +61,7 @@ fn mark(kind: u8, state: &mut [[u8; 16]], port: u8, taken: Taken)
 }
 
 fn put_port(kind: u8, state: &mut [[u8; 16]], port: u8, taken: Taken, h4: u8)
-    ensures { state.new ≡ portRows kind state.old port taken h4 }
+    ensures { state.new ≡ port_rows kind state.old port taken h4 }
 {
     let step = taken.step;
     let tag = kinds::previous_tag(kind, step.next);
@@ -79,7 +79,7 @@ fn keep(group: Group, port: u8, at: u16, h4: u8, payload: &[u8], store: &mut [u8
 }
 
 fn put_frame(group: Group, port: u8, taken: Taken, h4: u8, payload: &[u8], store: &mut [u8])
-    ensures { store.new ≡ storeBy group port taken h4 payload.now store.old }
+    ensures { store.new ≡ store_by group port taken h4 payload.now store.old }
 {
     if taken.kept {
         keep(group, port, taken.at, h4, payload, store);
@@ -88,7 +88,7 @@ fn put_frame(group: Group, port: u8, taken: Taken, h4: u8, payload: &[u8], store
 
 // The ports are counted where something follows for them, which few frames bring.
 fn settle_by(settles: bool, group: Group, store: &[u8], state: &mut [[u8; 16]])
-    ensures { state.new ≡ settledBy settles (portsIn group) store.now state.old }
+    ensures { state.new ≡ settled_by settles (ports_in group) store.now state.old }
 {
     if settles {
         let ports = phases::ports_in(group);
@@ -106,8 +106,8 @@ fn take(
     payload: &[u8],
     store: &mut [u8],
 )
-    ensures { (state.new ≡ (takenFrame group (portsIn group) state.old port taken h4 payload.now store.old).rows)
-        × (store.new ≡ (takenFrame group (portsIn group) state.old port taken h4 payload.now store.old).store) }
+    ensures { (state.new ≡ (taken_frame group (ports_in group) state.old port taken h4 payload.now store.old).rows)
+        × (store.new ≡ (taken_frame group (ports_in group) state.old port taken h4 payload.now store.old).store) }
 {
     if taken.answer != answers::OUTSIDE {
         put_port(group.kind, state, port, taken, h4);
@@ -125,9 +125,9 @@ fn decided(
     payload: &[u8],
     store: &mut [u8],
 ) -> u8
-    ensures { (result ≡ (decidedFrame state.old port failed h4 payload.now store.old).answer)
-        × (state.new ≡ (decidedFrame state.old port failed h4 payload.now store.old).rows)
-        × (store.new ≡ (decidedFrame state.old port failed h4 payload.now store.old).store) }
+    ensures { (result ≡ (decided_frame state.old port failed h4 payload.now store.old).answer)
+        × (state.new ≡ (decided_frame state.old port failed h4 payload.now store.old).rows)
+        × (store.new ≡ (decided_frame state.old port failed h4 payload.now store.old).store) }
 {
     let group = rows::group::get(state);
     let step = rows::step::get(state, port);
@@ -141,7 +141,7 @@ fn decided(
 
 // The rows after a steady frame in mid-epoch.
 fn go_on(kind: u8, next: u16, h4: u8, port: u8, state: &mut [[u8; 16]])
-    ensures { state.new ≡ steadyRows kind next h4 port state.old }
+    ensures { state.new ≡ steady_rows kind next h4 port state.old }
 {
     let after = kinds::next_tag(kind, next);
     rows::step::put_next(state, port, after);
@@ -159,10 +159,10 @@ fn arrive(
     payload: &[u8],
     store: &mut [u8],
 ) -> u8
-    requires { group ≡ groupAt state.old }
-    ensures { (result ≡ (decidedFrame state.old port failed h4 payload.now store.old).answer)
-        × (state.new ≡ (decidedFrame state.old port failed h4 payload.now store.old).rows)
-        × (store.new ≡ (decidedFrame state.old port failed h4 payload.now store.old).store) }
+    requires { group ≡ group_at state.old }
+    ensures { (result ≡ (decided_frame state.old port failed h4 payload.now store.old).answer)
+        × (state.new ≡ (decided_frame state.old port failed h4 payload.now store.old).rows)
+        × (store.new ≡ (decided_frame state.old port failed h4 payload.now store.old).store) }
 {
     if group.kind == kinds::VC12 {
         return decided(state, port, failed, h4, payload, store);
@@ -181,7 +181,7 @@ fn arrive(
 }
 
 fn refusal(group: Group, ports: u8, port: u32, rows: usize, payload: usize, store: usize) -> u8
-    ensures { result ≡ refusalBy group ports port rows payload store }
+    ensures { result ≡ refusal_by group ports port rows payload store }
 {
     if ports as u32 <= port {
         return answers::NO_PORT;

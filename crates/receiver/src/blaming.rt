@@ -1,13 +1,13 @@
 // Why the oldest epoch not yet reported would be held or doubtful, and the port: read before a fetch.
 ghost use Rattle.std.specs.Prelude.{◌≡◌, length};
-ghost use Rattle.receiver.specs.Cause.{causeAnswer, causeFit, causeIn, causeOut};
+ghost use Rattle.receiver.specs.Cause.{cause_answer, cause_fit, cause_in, cause_out};
 
 use crate::{lengths, report};
 use rows::Group;
 use step::answers;
 
 fn cause_of(group: Group, state: &[[u8; 16]], ports: u8) -> [u8; 2]
-    ensures { result ≡ causeIn group state.now ports }
+    ensures { result ≡ cause_in group state.now ports }
 {
     let table = packet::share_table();
     let seen = report::seen_all(&table, group, state, ports);
@@ -17,7 +17,7 @@ fn cause_of(group: Group, state: &[[u8; 16]], ports: u8) -> [u8; 2]
 }
 
 fn is_fit(count: u8, rows: usize, out: usize) -> bool
-    ensures { result ≡ causeFit count rows out }
+    ensures { result ≡ cause_fit count rows out }
 {
     let fit = lengths::is_rows(count, rows);
     fit & (out == 2)
@@ -25,7 +25,7 @@ fn is_fit(count: u8, rows: usize, out: usize) -> bool
 
 fn put_cause(group: Group, state: &[[u8; 16]], ports: u8, out: &mut [u8])
     requires { length out.old ≡ 2 }
-    ensures { out.new ≡ causeIn group state.now ports }
+    ensures { out.new ≡ cause_in group state.now ports }
 {
     let found = cause_of(group, state, ports);
     bytes::copy(&found, out);
@@ -33,8 +33,8 @@ fn put_cause(group: Group, state: &[[u8; 16]], ports: u8, out: &mut [u8])
 
 // Two bytes: the cause, and the lowest port to which its clause applies, 255 none.
 pub fn cause(state: &[[u8; 16]], out: &mut [u8]) -> u8
-    ensures { (result ≡ causeAnswer state.now (length out.old))
-        × (out.new ≡ causeOut state.now out.old) }
+    ensures { (result ≡ cause_answer state.now (length out.old))
+        × (out.new ≡ cause_out state.now out.old) }
 {
     let group = rows::group::get(state);
     let ports = phases::ports_in(group);

@@ -1,7 +1,7 @@
 // A report fetched (01, 'Report of an epoch'; 'For fetching: 9 first').
 ghost use Rattle.std.specs.Prelude.{◌≡◌, length};
-ghost use Rattle.receiver.specs.Fetch.{dueIn, fetchOf, outIfDue, reportIfDue, rowsIfDue, noneDue, recordOf};
-ghost use Rattle.receiver.specs.Report.{outputOf, epochReport, reportedOf, seenAll};
+ghost use Rattle.receiver.specs.Fetch.{due_in, fetch_of, out_if_due, report_if_due, rows_if_due, none_due, record_of};
+ghost use Rattle.receiver.specs.Report.{output_of, epoch_report, reported_of, seen_all};
 
 use crate::report::Report;
 use crate::{flags, joining, lengths, report, states};
@@ -11,7 +11,7 @@ use step::answers;
 
 // A host fetches after every frame: the two flags come first, and the ports end at the first one that still owes a frame.
 fn is_due(group: Group, ports: u8, state: &[[u8; 16]]) -> bool
-    ensures { result ≡ dueIn group ports state.now }
+    ensures { result ≡ due_in group ports state.now }
 {
     if (0 < ports) & flags::is_set(group.begun) & flags::is_set(group.gathered) {
         return phases::is_complete(group, state, ports);
@@ -20,7 +20,7 @@ fn is_due(group: Group, ports: u8, state: &[[u8; 16]]) -> bool
 }
 
 fn none_due() -> Report
-    ensures { result ≡ noneDue }
+    ensures { result ≡ none_due }
 {
     Report {
         mark: 0,
@@ -33,8 +33,8 @@ fn none_due() -> Report
 
 // What is seen of the ports, and then the epoch passed: both by one use of the table. Joining is not beside it, since the compiler then makes more of that.
 fn see_and_pass(group: Group, ports: u8, state: &mut [[u8; 16]], store: &[u8]) -> [Seen; 64]
-    ensures { (result ≡ seenAll group state.old ports)
-        × (state.new ≡ reportedOf group store.now ports state.old) }
+    ensures { (result ≡ seen_all group state.old ports)
+        × (state.new ≡ reported_of group store.now ports state.old) }
 {
     let table = packet::share_table();
     let seen = report::seen_all(&table, group, state, ports);
@@ -50,9 +50,9 @@ fn report_oldest(
     store: &[u8],
     out: &mut [u8],
 ) -> Report
-    ensures { (result ≡ epochReport group (seenAll group state.old ports) ports)
-        × (state.new ≡ reportedOf group store.now ports state.old)
-        × (out.new ≡ outputOf group (seenAll group state.old ports) ports store.now out.old) }
+    ensures { (result ≡ epoch_report group (seen_all group state.old ports) ports)
+        × (state.new ≡ reported_of group store.now ports state.old)
+        × (out.new ≡ output_of group (seen_all group state.old ports) ports store.now out.old) }
 {
     let seen = see_and_pass(group, ports, state, store);
     let cause = judge::cause(group.kind, seen, ports);
@@ -69,9 +69,9 @@ fn report_if_due(
     store: &[u8],
     out: &mut [u8],
 ) -> Report
-    ensures { (result ≡ reportIfDue group ports state.old)
-        × (state.new ≡ rowsIfDue group ports state.old store.now)
-        × (out.new ≡ outIfDue group ports state.old store.now out.old) }
+    ensures { (result ≡ report_if_due group ports state.old)
+        × (state.new ≡ rows_if_due group ports state.old store.now)
+        × (out.new ≡ out_if_due group ports state.old store.now out.old) }
 {
     if is_due(group, ports, state) {
         return report_oldest(group, ports, state, store, out);
@@ -80,7 +80,7 @@ fn report_if_due(
 }
 
 fn record_of(r: Report) -> [u8; 8]
-    ensures { result ≡ recordOf r }
+    ensures { result ≡ record_of r }
 {
     [
         r.mark,
@@ -96,7 +96,7 @@ fn record_of(r: Report) -> [u8; 8]
 
 fn put_record(given: Report, to: &mut [u8])
     requires { length to.old ≡ 8 }
-    ensures { to.new ≡ recordOf given }
+    ensures { to.new ≡ record_of given }
 {
     let bytes = record_of(given);
     bytes::copy(&bytes, to);
@@ -104,10 +104,10 @@ fn put_record(given: Report, to: &mut [u8])
 
 // The report of the oldest epoch not yet reported, if it is due: its frames into the output, and what it says into the record.
 pub fn fetch(state: &mut [[u8; 16]], store: &[u8], out: &mut [u8], report: &mut [u8]) -> u8
-    ensures { (result ≡ (fetchOf state.old store.now out.old report.old).answer)
-        × (state.new ≡ (fetchOf state.old store.now out.old report.old).rows)
-        × (out.new ≡ (fetchOf state.old store.now out.old report.old).out)
-        × (report.new ≡ (fetchOf state.old store.now out.old report.old).report) }
+    ensures { (result ≡ (fetch_of state.old store.now out.old report.old).answer)
+        × (state.new ≡ (fetch_of state.old store.now out.old report.old).rows)
+        × (out.new ≡ (fetch_of state.old store.now out.old report.old).out)
+        × (report.new ≡ (fetch_of state.old store.now out.old report.old).report) }
 {
     let group = rows::group::get(state);
     let ports = phases::ports_in(group);

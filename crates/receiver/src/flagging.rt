@@ -1,7 +1,7 @@
 // Receiving begun anew: one flagged frame on every port, in port order.
 ghost use Rattle.std.specs.Prelude.{◌≡◌, length};
-ghost use Rattle.receiver.specs.Anew.{anewAnswer, anewFits, anewRows};
-ghost use Rattle.receiver.specs.Laws.Anew.{flaggedPort, flaggedPorts};
+ghost use Rattle.receiver.specs.Anew.{anew_answer, anew_fits, anew_rows};
+ghost use Rattle.receiver.specs.Laws.Anew.{flagged_port, flagged_ports};
 
 use crate::lengths;
 use rows::Group;
@@ -10,7 +10,7 @@ use step::answers;
 // The rows after a flagged frame, of which nothing is stored: of the port its step alone changes. A frame's own functions (arrival) are not called, since
 // the compiler would then no longer take them into the call that every frame makes.
 fn flag_port(port: u8, store: &[u8], state: &mut [[u8; 16]])
-    ensures { state.new ≡ flaggedPort store.now port state.old }
+    ensures { state.new ≡ flagged_port store.now port state.old }
 {
     let group = rows::group::get(state);
     let step = rows::step::get(state, port);
@@ -24,7 +24,7 @@ fn flag_port(port: u8, store: &[u8], state: &mut [[u8; 16]])
 }
 
 fn flag_ports(ports: u8, store: &[u8], state: &mut [[u8; 16]])
-    ensures { state.new ≡ flaggedPorts store.now ports state.old }
+    ensures { state.new ≡ flagged_ports store.now ports state.old }
 {
     let mut i = 0;
     while i < ports {
@@ -34,7 +34,7 @@ fn flag_ports(ports: u8, store: &[u8], state: &mut [[u8; 16]])
 }
 
 fn is_anew(group: Group, ports: u8, rows: usize, store: usize) -> bool
-    ensures { result ≡ anewFits group ports rows store }
+    ensures { result ≡ anew_fits group ports rows store }
 {
     let fit = lengths::is_rows(ports, rows);
     let whole = phases::store_for(group, ports);
@@ -43,8 +43,8 @@ fn is_anew(group: Group, ports: u8, rows: usize, store: usize) -> bool
 
 // The store is read where the first epoch is gathered in between.
 pub fn anew(state: &mut [[u8; 16]], store: &[u8]) -> u8
-    ensures { (result ≡ anewAnswer state.old (length store.now))
-        × (state.new ≡ anewRows state.old store.now) }
+    ensures { (result ≡ anew_answer state.old (length store.now))
+        × (state.new ≡ anew_rows state.old store.now) }
 {
     let group = rows::group::get(state);
     let ports = phases::ports_in(group);

@@ -1,14 +1,14 @@
 // The way back: what the far end says in the epoch just reported.
 ghost use Rattle.std.specs.Prelude.{◌≡◌, length};
 ghost use Rattle.packet.specs.Shares.{shares_of};
-ghost use Rattle.receiver.specs.Heard.{heardAnswer, heardFit, heardOf, heardOut, saidAt};
+ghost use Rattle.receiver.specs.Heard.{heard_answer, heard_fit, heard_of, heard_out, said_at};
 
 use crate::{lengths, report, seeing};
 use rows::Group;
 use step::answers;
 
 fn said_at(group: Group, state: &[[u8; 16]], port: u8) -> [u8; 4]
-    ensures { result ≡ saidAt group state.now port }
+    ensures { result ≡ said_at group state.now port }
 {
     let carried = seeing::carried_at(group, state, port);
     [1, carried.epoch, carried.mst, carried.rs_ack]
@@ -17,7 +17,7 @@ fn said_at(group: Group, state: &[[u8; 16]], port: u8) -> [u8; 4]
 // Ends at the lowest port whose packet is whole and good.
 fn heard_of(table: &[[u8; 256]; 7], group: Group, state: &[[u8; 16]], ports: u8) -> [u8; 4]
     requires { table.now ≡ shares_of }
-    ensures { result ≡ heardOf group state.now ports }
+    ensures { result ≡ heard_of group state.now ports }
 {
     let mut i = 0;
     while i < ports {
@@ -31,7 +31,7 @@ fn heard_of(table: &[[u8; 256]; 7], group: Group, state: &[[u8; 16]], ports: u8)
 }
 
 fn is_heard(count: u8, rows: usize, out: usize) -> bool
-    ensures { result ≡ heardFit count rows out }
+    ensures { result ≡ heard_fit count rows out }
 {
     let fit = lengths::is_rows(count, rows);
     fit & (out == 4)
@@ -39,7 +39,7 @@ fn is_heard(count: u8, rows: usize, out: usize) -> bool
 
 fn put_heard(group: Group, state: &[[u8; 16]], ports: u8, out: &mut [u8])
     requires { length out.old ≡ 4 }
-    ensures { out.new ≡ heardOf group state.now ports }
+    ensures { out.new ≡ heard_of group state.now ports }
 {
     let table = packet::share_table();
     let said = heard_of(&table, group, state, ports);
@@ -48,8 +48,8 @@ fn put_heard(group: Group, state: &[[u8; 16]], ports: u8, out: &mut [u8])
 
 // Four bytes: 1, epoch, MST and RS-Ack; or four zeros.
 pub fn heard(state: &[[u8; 16]], out: &mut [u8]) -> u8
-    ensures { (result ≡ heardAnswer state.now (length out.old))
-        × (out.new ≡ heardOut state.now out.old) }
+    ensures { (result ≡ heard_answer state.now (length out.old))
+        × (out.new ≡ heard_out state.now out.old) }
 {
     let group = rows::group::get(state);
     let ports = phases::ports_in(group);

@@ -2,8 +2,8 @@
 ghost use Rattle.std.specs.Prelude.{◌≡◌, ◌+◌, ◌*◌, get_or};
 ghost use Rattle.ground.specs.Plain.{if◌then◌else◌, ◌==◌};
 ghost use Rattle.judge.specs.Verdict.{HELD};
-ghost use Rattle.receiver.specs.Laws.Rings.{ringsOf};
-ghost use Rattle.receiver.specs.Report.{frameInto, framesInto, outputBy, reportBy};
+ghost use Rattle.receiver.specs.Laws.Rings.{rings_of};
+ghost use Rattle.receiver.specs.Report.{frame_into, frames_into, output_by, report_by};
 
 use crate::report::Report;
 use judge::Order;
@@ -19,7 +19,7 @@ fn ring_at(group: Group, port: u8) -> usize
 }
 
 fn rings_of(group: Group, ports: [u8; 64], x: u8) -> [usize; 64]
-    ensures { result ≡ ringsOf group ports x }
+    ensures { result ≡ rings_of group ports x }
 {
     let n = ground::size_byte(x);
     let mut rings = [0; 64];
@@ -34,8 +34,8 @@ fn rings_of(group: Group, ports: [u8; 64], x: u8) -> [usize; 64]
 
 // A group frame out of the rings: the store is taken from where the frame lies in a ring that begins at the store's start.
 fn frame_into(group: Group, order: Order, rings: &[usize; 64], store: &[u8], k: u8, out: &mut [u8])
-    requires { rings.now ≡ ringsOf group order.ports order.x }
-    ensures { out.new ≡ frameInto group order store.now k out.old }
+    requires { rings.now ≡ rings_of group order.ports order.x }
+    ensures { out.new ≡ frame_into group order store.now k out.old }
 {
     let shift = frames::place(group, 0, k as u16);
     let x = order.x as usize;
@@ -46,7 +46,7 @@ fn frame_into(group: Group, order: Order, rings: &[usize; 64], store: &[u8], k: 
 }
 
 fn frames_joined(group: Group, order: Order, store: &[u8], count: u8, out: &mut [u8])
-    ensures { out.new ≡ framesInto group order store.now count out.old }
+    ensures { out.new ≡ frames_into group order store.now count out.old }
 {
     let ports = order.ports;
     let rings = rings_of(group, ports, order.x);
@@ -60,7 +60,7 @@ fn frames_joined(group: Group, order: Order, store: &[u8], count: u8, out: &mut 
 // The frame of a member alone is a run of the store, and needs no table of starts.
 fn alone_into(group: Group, order: Order, port: u8, store: &[u8], k: u8, out: &mut [u8])
     requires { (order.x ≡ 1) × (port ≡ get_or order.ports 0 0) }
-    ensures { out.new ≡ frameInto group order store.now k out.old }
+    ensures { out.new ≡ frame_into group order store.now k out.old }
 {
     let start = frames::place(group, port, k as u16);
     let p = group.payload as usize;
@@ -71,7 +71,7 @@ fn alone_into(group: Group, order: Order, port: u8, store: &[u8], k: u8, out: &m
 
 fn frames_alone(group: Group, order: Order, store: &[u8], count: u8, out: &mut [u8])
     requires { order.x ≡ 1 }
-    ensures { out.new ≡ framesInto group order store.now count out.old }
+    ensures { out.new ≡ frames_into group order store.now count out.old }
 {
     let ports = order.ports;
     let port = ports[0];
@@ -83,7 +83,7 @@ fn frames_alone(group: Group, order: Order, store: &[u8], count: u8, out: &mut [
 }
 
 fn frames_into(group: Group, order: Order, store: &[u8], count: u8, out: &mut [u8])
-    ensures { out.new ≡ framesInto group order store.now count out.old }
+    ensures { out.new ≡ frames_into group order store.now count out.old }
 {
     if order.x == 1 {
         frames_alone(group, order, store, count, out);
@@ -100,7 +100,7 @@ fn is_held(mark: u8) -> bool
 
 // The group frames of an epoch that is not held.
 pub(crate) fn output_by(group: Group, mark: u8, order: Order, store: &[u8], out: &mut [u8])
-    ensures { out.new ≡ outputBy group mark order store.now out.old }
+    ensures { out.new ≡ output_by group mark order store.now out.old }
 {
     if !is_held(mark) {
         let count = kinds::epoch_frames(group.kind);
@@ -121,7 +121,7 @@ fn byte_count(x: u8, frames: u8, payload: u16) -> u32
 }
 
 pub(crate) fn report_by(group: Group, mark: u8, cause: u8, order: Order) -> Report
-    ensures { result ≡ reportBy group mark cause order }
+    ensures { result ≡ report_by group mark cause order }
 {
     let x = joined_members(mark, order.x);
     let count = kinds::epoch_frames(group.kind);

@@ -1,8 +1,8 @@
 // How far each port lies behind the foremost.
 ghost use Rattle.std.specs.Prelude.{◌≡◌, ◌≤◌, length};
 ghost use Rattle.ground.specs.Counting.Each.{each};
-ghost use Rattle.receiver.specs.Behind.{behindAnswer, behindBy, behindOut};
-ghost use Rattle.rows.specs.Step.{stepAt};
+ghost use Rattle.receiver.specs.Behind.{behind_answer, behind_by, behind_out};
+ghost use Rattle.rows.specs.Step.{step_at};
 
 use crate::shown;
 use packet::kinds;
@@ -13,7 +13,7 @@ use step::answers;
 const NO_STEP: u32 = 65535;
 
 fn behind_by(group: Group, fore: u16, step: Step) -> u32
-    ensures { result ≡ behindBy group fore step }
+    ensures { result ≡ behind_by group fore step }
 {
     if step::in_step(group, step) {
         let tag = phases::latest(group, step);
@@ -23,7 +23,7 @@ fn behind_by(group: Group, fore: u16, step: Step) -> u32
 }
 
 fn behind_at(group: Group, fore: u16, state: &[[u8; 16]], port: u8) -> u32
-    ensures { result ≡ behindBy group fore (stepAt state.now port) }
+    ensures { result ≡ behind_by group fore (step_at state.now port) }
 {
     let step = rows::step::get(state, port);
     behind_by(group, fore, step)
@@ -31,7 +31,7 @@ fn behind_at(group: Group, fore: u16, state: &[[u8; 16]], port: u8) -> u32
 
 fn show_behind(group: Group, fore: u16, count: u8, state: &[[u8; 16]], out: &mut [u32])
     requires { count ≤ length out.old }
-    ensures { out.new ≡ each count (λ i. behindBy group fore (stepAt state.now i)) out.old }
+    ensures { out.new ≡ each count (λ i. behind_by group fore (step_at state.now i)) out.old }
 {
     let mut i = 0;
     while i < count {
@@ -43,8 +43,8 @@ fn show_behind(group: Group, fore: u16, count: u8, state: &[[u8; 16]], out: &mut
 
 // A number for each port.
 pub fn behind(state: &[[u8; 16]], out: &mut [u32]) -> u8
-    ensures { (result ≡ behindAnswer state.now (length out.old))
-        × (out.new ≡ behindOut state.now out.old) }
+    ensures { (result ≡ behind_answer state.now (length out.old))
+        × (out.new ≡ behind_out state.now out.old) }
 {
     let group = rows::group::get(state);
     let count = phases::ports_in(group);

@@ -1,8 +1,8 @@
 // The report of an epoch (01, 'Report of an epoch').
 ghost use Rattle.std.specs.Prelude.{◌≡◌};
 ghost use Rattle.packet.specs.Shares.{shares_of};
-ghost use Rattle.step.specs.OwnCount.{ownRuling};
-ghost use Rattle.receiver.specs.Report.{noSeen, rulingEpoch, seenAll, seenOf};
+ghost use Rattle.step.specs.OwnCount.{own_ruling};
+ghost use Rattle.receiver.specs.Report.{no_seen, ruling_epoch, seen_all, seen_of};
 
 use crate::flags;
 use judge::Seen;
@@ -24,7 +24,7 @@ pub struct Report {
 }
 
 pub(crate) fn ruling_epoch(group: Group) -> u8
-    ensures { result ≡ rulingEpoch group }
+    ensures { result ≡ ruling_epoch group }
 {
     let first = kinds::first_tag(group.kind, group.oldest);
     let before = kinds::previous_tag(group.kind, first);
@@ -33,14 +33,14 @@ pub(crate) fn ruling_epoch(group: Group) -> u8
 
 fn ruling_of(table: &[[u8; 256]; 7], kind: u8, epoch: u8, nibbles: [u8; 16]) -> Ruling
     requires { table.now ≡ shares_of }
-    ensures { result ≡ ownRuling kind epoch nibbles }
+    ensures { result ≡ own_ruling kind epoch nibbles }
 {
     step::ruling_of(table, kind, epoch, nibbles)
 }
 
 pub(crate) fn seen_of(table: &[[u8; 256]; 7], group: Group, state: &[[u8; 16]], port: u8) -> Seen
     requires { table.now ≡ shares_of }
-    ensures { result ≡ seenOf group state.now port }
+    ensures { result ≡ seen_of group state.now port }
 {
     let packets = rows::packets::get(state, port);
     let step = rows::step::get(state, port);
@@ -59,7 +59,7 @@ pub(crate) fn seen_of(table: &[[u8; 256]; 7], group: Group, state: &[[u8; 16]], 
 }
 
 fn no_seen() -> Seen
-    ensures { result ≡ noSeen }
+    ensures { result ≡ no_seen }
 {
     Seen {
         whole: false,
@@ -78,7 +78,7 @@ pub(crate) fn seen_all(
     ports: u8,
 ) -> [Seen; 64]
     requires { table.now ≡ shares_of }
-    ensures { result ≡ seenAll group state.now ports }
+    ensures { result ≡ seen_all group state.now ports }
 {
     let none = no_seen();
     let mut seen = [none; 64];

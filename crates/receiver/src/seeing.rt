@@ -1,10 +1,10 @@
 // What the receiver saw: of each port the packet that rules the oldest epoch not yet reported.
 ghost use Rattle.std.specs.Prelude.{◌≡◌, [], ◌≤◌, get_or, length};
 ghost use Rattle.ground.specs.Counting.Each.{each};
-ghost use Rattle.receiver.specs.Report.{rulingEpoch};
-ghost use Rattle.receiver.specs.Seen.{carriedAt, carriedBy, nothingCarried, seenAnswer, seenIn, seenOut, seen_row};
-ghost use Rattle.rows.specs.Packets.{packetsAt};
-ghost use Rattle.step.specs.Carried.{otherNumber};
+ghost use Rattle.receiver.specs.Report.{ruling_epoch};
+ghost use Rattle.receiver.specs.Seen.{carried_at, carried_by, nothing_carried, seen_answer, seen_in, seen_out, seen_row};
+ghost use Rattle.rows.specs.Packets.{packets_at};
+ghost use Rattle.step.specs.Carried.{other_number};
 
 use crate::{flags, report, shown};
 use packet::Reading;
@@ -25,7 +25,7 @@ pub struct Carried {
 }
 
 fn nothing_carried(answer: u8) -> Carried
-    ensures { result ≡ nothingCarried answer }
+    ensures { result ≡ nothing_carried answer }
 {
     Carried {
         answer,
@@ -39,7 +39,7 @@ fn nothing_carried(answer: u8) -> Carried
 }
 
 fn carried_by(reading: Reading) -> Carried
-    ensures { result ≡ carriedBy reading }
+    ensures { result ≡ carried_by reading }
 {
     match reading {
         Reading::Packet(fields) => {
@@ -62,7 +62,7 @@ fn carried_by(reading: Reading) -> Carried
 }
 
 pub(crate) fn carried_at(group: Group, state: &[[u8; 16]], port: u8) -> Carried
-    ensures { result ≡ carriedAt group state.now port }
+    ensures { result ≡ carried_at group state.now port }
 {
     let packets = rows::packets::get(state, port);
     let row = packets[1];
@@ -71,7 +71,7 @@ pub(crate) fn carried_at(group: Group, state: &[[u8; 16]], port: u8) -> Carried
 }
 
 fn is_other_at(group: Group, state: &[[u8; 16]], port: u8) -> bool
-    ensures { result ≡ otherNumber group.kind (rulingEpoch group) (get_or (packetsAt state.now port) 1 []) }
+    ensures { result ≡ other_number group.kind (ruling_epoch group) (get_or (packets_at state.now port) 1 []) }
 {
     let packets = rows::packets::get(state, port);
     let row = packets[1];
@@ -102,7 +102,7 @@ fn seen_row(whole: bool, other: bool, carried: Carried, here: bool) -> [u8; 10]
 }
 
 fn seen_in(group: Group, state: &[[u8; 16]], port: u8) -> [u8; 10]
-    ensures { result ≡ seenIn group state.now port }
+    ensures { result ≡ seen_in group state.now port }
 {
     let step = rows::step::get(state, port);
     let row = rows::packets::marks(state, port);
@@ -115,7 +115,7 @@ fn seen_in(group: Group, state: &[[u8; 16]], port: u8) -> [u8; 10]
 
 fn show_seen(group: Group, count: u8, state: &[[u8; 16]], out: &mut [[u8; 10]])
     requires { count ≤ length out.old }
-    ensures { out.new ≡ each count (seenIn group state.now) out.old }
+    ensures { out.new ≡ each count (seen_in group state.now) out.old }
 {
     let mut i = 0;
     while i < count {
@@ -127,8 +127,8 @@ fn show_seen(group: Group, count: u8, state: &[[u8; 16]], out: &mut [[u8; 10]])
 
 // Ten bytes a port.
 pub fn seen(state: &[[u8; 16]], out: &mut [[u8; 10]]) -> u8
-    ensures { (result ≡ seenAnswer state.now (length out.old))
-        × (out.new ≡ seenOut state.now out.old) }
+    ensures { (result ≡ seen_answer state.now (length out.old))
+        × (out.new ≡ seen_out state.now out.old) }
 {
     let group = rows::group::get(state);
     let count = phases::ports_in(group);

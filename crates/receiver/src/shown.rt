@@ -1,7 +1,7 @@
 // What the host reads out: the ports, and the reply (01, 'Member states and reply').
 ghost use Rattle.std.specs.Prelude.{◌≡◌, [], ◌∷◌, ◌≤◌, length};
 ghost use Rattle.ground.specs.Counting.Each.{each};
-ghost use Rattle.receiver.specs.Shown.{portIn, portShown, portsAnswer, portsOut, replyAnswer, replyByte, replyFit, replyOut, shownFit, shownNumber, waitingByte};
+ghost use Rattle.receiver.specs.Shown.{port_in, port_shown, ports_answer, ports_out, reply_answer, reply_byte, reply_fit, reply_out, shown_fit, shown_number, waiting_byte};
 
 use crate::{flags, lengths, states};
 use packet::kinds;
@@ -10,7 +10,7 @@ use rows::{Group, Member, Step};
 use step::answers;
 
 fn shown_number(kind: u8, member: Member) -> u8
-    ensures { result ≡ shownNumber kind member }
+    ensures { result ≡ shown_number kind member }
 {
     if member.state == Port::IDLE {
         return kinds::idle_number(kind);
@@ -20,7 +20,7 @@ fn shown_number(kind: u8, member: Member) -> u8
 
 // Which timer runs.
 fn waiting_byte(member: Member) -> u8
-    ensures { result ≡ waitingByte member }
+    ensures { result ≡ waiting_byte member }
 {
     if member.elapsed == 0 {
         return 0;
@@ -32,7 +32,7 @@ fn waiting_byte(member: Member) -> u8
 }
 
 fn port_shown(group: Group, step: Step, member: Member) -> [u8; 8]
-    ensures { result ≡ portShown group step member }
+    ensures { result ≡ port_shown group step member }
 {
     let in_step = step::in_step(group, step);
     let readable = step::is_readable(group, step);
@@ -49,7 +49,7 @@ fn port_shown(group: Group, step: Step, member: Member) -> [u8; 8]
 }
 
 fn port_in(group: Group, state: &[[u8; 16]], port: u8) -> [u8; 8]
-    ensures { result ≡ portIn group state.now port }
+    ensures { result ≡ port_in group state.now port }
 {
     let step = rows::step::get(state, port);
     let member = rows::member::get(state, port);
@@ -58,7 +58,7 @@ fn port_in(group: Group, state: &[[u8; 16]], port: u8) -> [u8; 8]
 
 fn show_ports(group: Group, count: u8, state: &[[u8; 16]], out: &mut [[u8; 8]])
     requires { count ≤ length out.old }
-    ensures { out.new ≡ each count (portIn group state.now) out.old }
+    ensures { out.new ≡ each count (port_in group state.now) out.old }
 {
     let mut i = 0;
     while i < count {
@@ -69,7 +69,7 @@ fn show_ports(group: Group, count: u8, state: &[[u8; 16]], out: &mut [[u8; 8]])
 }
 
 pub(crate) fn is_shown(count: u8, rows: usize, out: usize) -> bool
-    ensures { result ≡ shownFit count rows out }
+    ensures { result ≡ shown_fit count rows out }
 {
     let fit = lengths::is_rows(count, rows);
     fit & (out == count as usize)
@@ -77,8 +77,8 @@ pub(crate) fn is_shown(count: u8, rows: usize, out: usize) -> bool
 
 // Eight bytes a port.
 pub fn ports(state: &[[u8; 16]], out: &mut [[u8; 8]]) -> u8
-    ensures { (result ≡ portsAnswer state.now (length out.old))
-        × (out.new ≡ portsOut state.now out.old) }
+    ensures { (result ≡ ports_answer state.now (length out.old))
+        × (out.new ≡ ports_out state.now out.old) }
 {
     let group = rows::group::get(state);
     let count = phases::ports_in(group);
@@ -90,7 +90,7 @@ pub fn ports(state: &[[u8; 16]], out: &mut [[u8; 8]]) -> u8
 }
 
 fn is_reply(count: u8, rows: usize, out: usize) -> bool
-    ensures { result ≡ replyFit count rows out }
+    ensures { result ≡ reply_fit count rows out }
 {
     let fit = lengths::is_rows(count, rows);
     fit & (out == 2)
@@ -106,15 +106,15 @@ fn put_reply(mst: u8, ack: u8, out: &mut [u8])
 
 // Nothing is told to the far end of a fixed group: what is read is what an end without LCAS sends back.
 fn reply_byte(kind: u8, byte: u8) -> u8
-    ensures { result ≡ replyByte kind byte }
+    ensures { result ≡ reply_byte kind byte }
 {
     if kind == kinds::FIXED { 0 } else { byte }
 }
 
 // The reply of an epoch: its MST byte, then RS-Ack.
 pub fn reply(state: &[[u8; 16]], epoch: u8, out: &mut [u8]) -> u8
-    ensures { (result ≡ replyAnswer state.now (length out.old))
-        × (out.new ≡ replyOut state.now epoch out.old) }
+    ensures { (result ≡ reply_answer state.now (length out.old))
+        × (out.new ≡ reply_out state.now epoch out.old) }
 {
     let group = rows::group::get(state);
     let count = phases::ports_in(group);

@@ -1,7 +1,7 @@
 // A receiver's start (01, 'Answer numbers': 'At starting, 4 comes before 9').
 ghost use Rattle.std.specs.Prelude.{◌≡◌, ◌||◌, length};
 ghost use Rattle.ground.specs.Plain.{if◌then◌else◌, ◌==◌, ◌<?◌};
-ghost use Rattle.receiver.specs.Starting.{freshMember, freshPort, freshPorts, freshStep, groupWith, sizedAnswer, sizedRows, startAnswer, startAsAnswer, startAsRows, startFits, startRight, startRows, timeOf, timerMost, timesWithin};
+ghost use Rattle.receiver.specs.Starting.{fresh_member, fresh_port, fresh_ports, fresh_step, group_with, sized_answer, sized_rows, start_answer, start_as_answer, start_as_rows, start_fits, start_right, start_rows, time_of, timer_most, times_within};
 
 use packet::kinds;
 use reply::Port;
@@ -12,7 +12,7 @@ use step::answers;
 const TIMER_MOST: u32 = 5000;
 
 fn group_with(kind: u8, count: u8, payload: u16, window: u16) -> Group
-    ensures { result ≡ groupWith kind count payload window }
+    ensures { result ≡ group_with kind count payload window }
 {
     Group {
         spare: [0; 4],
@@ -29,7 +29,7 @@ fn group_with(kind: u8, count: u8, payload: u16, window: u16) -> Group
 }
 
 fn fresh_step() -> Step
-    ensures { result ≡ freshStep }
+    ensures { result ≡ fresh_step }
 {
     Step {
         spare: [0; 4],
@@ -48,7 +48,7 @@ fn fresh_step() -> Step
 }
 
 fn fresh_member(kind: u8, hold_off: u16, restore: u16) -> Member
-    ensures { result ≡ freshMember kind hold_off restore }
+    ensures { result ≡ fresh_member kind hold_off restore }
 {
     let none = kinds::idle_number(kind);
     Member {
@@ -66,7 +66,7 @@ fn fresh_member(kind: u8, hold_off: u16, restore: u16) -> Member
 }
 
 fn capped(count: u32) -> u16
-    ensures { result ≡ (if count <? timerMost then count else timerMost) }
+    ensures { result ≡ (if count <? timer_most then count else timer_most) }
 {
     if count < TIMER_MOST {
         count as u16
@@ -77,7 +77,7 @@ fn capped(count: u32) -> u16
 
 // The count of a port; an empty list is zero for every port.
 fn time_of(counts: &[u32], port: u8) -> u16
-    ensures { result ≡ timeOf counts.now port }
+    ensures { result ≡ time_of counts.now port }
 {
     let i = port as usize;
     if i < counts.len() {
@@ -88,7 +88,7 @@ fn time_of(counts: &[u32], port: u8) -> u16
 }
 
 fn put_port(kind: u8, hold_off: &[u32], restore: &[u32], port: u8, state: &mut [[u8; 16]])
-    ensures { state.new ≡ freshPort kind hold_off.now restore.now port state.old }
+    ensures { state.new ≡ fresh_port kind hold_off.now restore.now port state.old }
 {
     let step = fresh_step();
     let member = fresh_member(kind, time_of(hold_off, port), time_of(restore, port));
@@ -99,7 +99,7 @@ fn put_port(kind: u8, hold_off: &[u32], restore: &[u32], port: u8, state: &mut [
 }
 
 fn put_ports(kind: u8, hold_off: &[u32], restore: &[u32], ports: u8, state: &mut [[u8; 16]])
-    ensures { state.new ≡ freshPorts kind hold_off.now restore.now ports state.old }
+    ensures { state.new ≡ fresh_ports kind hold_off.now restore.now ports state.old }
 {
     let mut i = 0;
     while i < ports {
@@ -109,7 +109,7 @@ fn put_ports(kind: u8, hold_off: &[u32], restore: &[u32], ports: u8, state: &mut
 }
 
 pub fn times_within(counts: &[u32]) -> bool
-    ensures { result ≡ timesWithin counts.now }
+    ensures { result ≡ times_within counts.now }
 {
     let mut all = true;
     let mut i = 0;
@@ -127,7 +127,7 @@ fn is_list(counts: usize, ports: u8) -> bool
 }
 
 fn is_fitting(count: u8, payload: u16, window: u16, store: usize, rows: usize) -> bool
-    ensures { result ≡ startFits count payload window store rows }
+    ensures { result ≡ start_fits count payload window store rows }
 {
     let all = rows::group::rows_for(count);
     let whole = count as usize * window as usize * (payload as usize + 1);
@@ -145,8 +145,8 @@ fn start_sized(
     restore: &[u32],
     state: &mut [[u8; 16]],
 ) -> u8
-    ensures { (result ≡ sizedAnswer count payload window store hold_off.now restore.now (length state.old))
-        × (state.new ≡ sizedRows kind count payload window store hold_off.now restore.now state.old) }
+    ensures { (result ≡ sized_answer count payload window store hold_off.now restore.now (length state.old))
+        × (state.new ≡ sized_rows kind count payload window store hold_off.now restore.now state.old) }
 {
     let lists = is_list(hold_off.len(), count) & is_list(restore.len(), count);
     if !(lists & is_fitting(count, payload, window, store, state.len())) {
@@ -166,7 +166,7 @@ fn is_right(
     hold_off: &[u32],
     restore: &[u32],
 ) -> bool
-    ensures { result ≡ startRight kind count payload window hold_off.now restore.now }
+    ensures { result ≡ start_right kind count payload window hold_off.now restore.now }
 {
     times_within(hold_off)
         & times_within(restore)
@@ -185,8 +185,8 @@ pub fn start_as(
     restore: &[u32],
     state: &mut [[u8; 16]],
 ) -> u8
-    ensures { (result ≡ startAsAnswer kind count payload window store hold_off.now restore.now (length state.old))
-        × (state.new ≡ startAsRows kind count payload window store hold_off.now restore.now state.old) }
+    ensures { (result ≡ start_as_answer kind count payload window store hold_off.now restore.now (length state.old))
+        × (state.new ≡ start_as_rows kind count payload window store hold_off.now restore.now state.old) }
 {
     if is_right(kind, count, payload, window, hold_off, restore) {
         return start_sized(
@@ -214,8 +214,8 @@ pub fn start(
     store: usize,
     state: &mut [[u8; 16]],
 ) -> u8
-    ensures { (result ≡ startAnswer kind count payload window store (length state.old))
-        × (state.new ≡ startRows kind count payload window store state.old) }
+    ensures { (result ≡ start_answer kind count payload window store (length state.old))
+        × (state.new ≡ start_rows kind count payload window store state.old) }
 {
     let hold_off = [0u32; 1];
     let restore = [0u32; 1];

@@ -1,16 +1,16 @@
 // Member states and RS-Ack worked out at a report (01, 'Member states and reply').
 ghost use Rattle.std.specs.Prelude.{◌≡◌, get_or};
 ghost use Rattle.packet.specs.Shares.{shares_of};
-ghost use Rattle.reply.specs.Waiting.{noStanding};
-ghost use Rattle.phases.specs.Passing.{groupTo};
-ghost use Rattle.rows.specs.Member.{memberAt, putMember};
-ghost use Rattle.receiver.specs.Report.{noPort, replyPort, replyPorts, reportedOf, withState, statesWorkedOut, statePut, statesPut};
+ghost use Rattle.reply.specs.Waiting.{no_standing};
+ghost use Rattle.phases.specs.Passing.{group_to};
+ghost use Rattle.rows.specs.Member.{member_at, put_member};
+ghost use Rattle.receiver.specs.Report.{no_port, reply_port, reply_ports, reported_of, with_state, states_worked_out, state_put, states_put};
 
 use reply::{Port, Standing};
 use rows::{Group, Member};
 
 fn reply_port(group: Group, state: &[[u8; 16]], port: u8) -> Port
-    ensures { result ≡ replyPort group state.now port }
+    ensures { result ≡ reply_port group state.now port }
 {
     let member = rows::member::get(state, port);
     let step = rows::step::get(state, port);
@@ -30,7 +30,7 @@ fn reply_port(group: Group, state: &[[u8; 16]], port: u8) -> Port
 }
 
 fn no_port() -> Port
-    ensures { result ≡ noPort }
+    ensures { result ≡ no_port }
 {
     Port {
         word: 0,
@@ -47,7 +47,7 @@ fn no_port() -> Port
 }
 
 pub(crate) fn reply_ports(group: Group, state: &[[u8; 16]], ports: u8) -> [Port; 64]
-    ensures { result ≡ replyPorts group state.now ports }
+    ensures { result ≡ reply_ports group state.now ports }
 {
     let none = no_port();
     let mut all = [none; 64];
@@ -62,7 +62,7 @@ pub(crate) fn reply_ports(group: Group, state: &[[u8; 16]], ports: u8) -> [Port;
 }
 
 fn standing_at(states: [Standing; 64], port: u8) -> Standing
-    ensures { result ≡ get_or states port noStanding }
+    ensures { result ≡ get_or states port no_standing }
 {
     if port < 64 {
         let one = states[port as usize];
@@ -76,7 +76,7 @@ fn standing_at(states: [Standing; 64], port: u8) -> Standing
 }
 
 fn with_state(m: Member, left: Standing) -> Member
-    ensures { result ≡ withState m left }
+    ensures { result ≡ with_state m left }
 {
     let spare = m.spare;
     Member {
@@ -94,7 +94,7 @@ fn with_state(m: Member, left: Standing) -> Member
 }
 
 fn put_standing(left: Standing, port: u8, state: &mut [[u8; 16]])
-    ensures { state.new ≡ putMember state.old port (withState (memberAt state.old port) left) }
+    ensures { state.new ≡ put_member state.old port (with_state (member_at state.old port) left) }
 {
     let member = rows::member::get(state, port);
     let told = with_state(member, left);
@@ -102,14 +102,14 @@ fn put_standing(left: Standing, port: u8, state: &mut [[u8; 16]])
 }
 
 fn put_state(states: [Standing; 64], port: u8, state: &mut [[u8; 16]])
-    ensures { state.new ≡ statePut states port state.old }
+    ensures { state.new ≡ state_put states port state.old }
 {
     let new = standing_at(states, port);
     put_standing(new, port, state);
 }
 
 fn put_states(states: [Standing; 64], ports: u8, state: &mut [[u8; 16]])
-    ensures { state.new ≡ statesPut states ports state.old }
+    ensures { state.new ≡ states_put states ports state.old }
 {
     let mut i = 0;
     while i < ports {
@@ -119,7 +119,7 @@ fn put_states(states: [Standing; 64], ports: u8, state: &mut [[u8; 16]])
 }
 
 fn with_ack(g: Group, ack: u8) -> Group
-    ensures { result ≡ groupTo g g.begun g.gathered g.oldest g.origin ack }
+    ensures { result ≡ group_to g g.begun g.gathered g.oldest g.origin ack }
 {
     let spare = g.spare;
     Group {
@@ -138,7 +138,7 @@ fn with_ack(g: Group, ack: u8) -> Group
 
 // A port alone needs no tables of 64.
 fn work_out_alone(group: Group, state: &mut [[u8; 16]])
-    ensures { state.new ≡ statesWorkedOut group 1 state.old }
+    ensures { state.new ≡ states_worked_out group 1 state.old }
 {
     let port = reply_port(group, state, 0);
     let left = reply::standing_alone(port);
@@ -149,7 +149,7 @@ fn work_out_alone(group: Group, state: &mut [[u8; 16]])
 }
 
 fn work_out_all(group: Group, ports: u8, state: &mut [[u8; 16]])
-    ensures { state.new ≡ statesWorkedOut group ports state.old }
+    ensures { state.new ≡ states_worked_out group ports state.old }
 {
     let all = reply_ports(group, state, ports);
     let states = reply::standings(all, ports);
@@ -160,7 +160,7 @@ fn work_out_all(group: Group, ports: u8, state: &mut [[u8; 16]])
 }
 
 fn work_out_states(group: Group, ports: u8, state: &mut [[u8; 16]])
-    ensures { state.new ≡ statesWorkedOut group ports state.old }
+    ensures { state.new ≡ states_worked_out group ports state.old }
 {
     if ports == 1 {
         work_out_alone(group, state);
@@ -178,7 +178,7 @@ pub(crate) fn pass(
     state: &mut [[u8; 16]],
 )
     requires { table.now ≡ shares_of }
-    ensures { state.new ≡ reportedOf group store.now ports state.old }
+    ensures { state.new ≡ reported_of group store.now ports state.old }
 {
     phases::pass_with(table, group, store, ports, state);
     let passed = rows::group::get(state);

@@ -9,61 +9,61 @@ use Rattle.ground.specs.Truth.{and_left, and_right}
 use Rattle.recording.specs.Opening.{Opening as O}
 use Rattle.recording.specs.declared.pairs.Pairs.{Pairs}
 use Rattle.recording.specs.declared.record.Record.TheVariants as R
-use Rattle.recording.specs.Opening.{opened, settingsBy}
-use Rattle.recording.specs.Pairs.{firstPairs, pairsFrom}
-use Rattle.recording.specs.Record.{flagIn, frameBy}
+use Rattle.recording.specs.Opening.{opened, settings_by}
+use Rattle.recording.specs.Pairs.{first_pairs, pairs_from}
+use Rattle.recording.specs.Record.{flag_in, frame_by}
 use Rattle.text.specs.declared.fields.Number.{Number}
 use Rattle.text.specs.declared.fields.Number.TheVariants.{Value, Unreadable}
 use Rattle.text.specs.Ascii.{ascii}
-use Rattle.text.specs.Fields.{sameBytes}
+use Rattle.text.specs.Fields.{same_bytes}
 
-pub flag-none : (f : List ℕ) → sameBytes f (ascii "0") ≡ true → 0 ≡ flagIn f
-unfolding flagIn
-flag-none f t = rw t
+pub flag_none : (f : List ℕ) → same_bytes f (ascii "0") ≡ true → 0 ≡ flag_in f
+unfolding flag_in
+flag_none f t = rw t
 
-module _ (f : List ℕ) (t : sameBytes f (ascii "0") ≡ false) where
-  pub flag-set : sameBytes f (ascii "1") ≡ true → 1 ≡ flagIn f
-  unfolding flagIn
-  flag-set u = rw (t, u)
+module _ (f : List ℕ) (t : same_bytes f (ascii "0") ≡ false) where
+  pub flag_set : same_bytes f (ascii "1") ≡ true → 1 ≡ flag_in f
+  unfolding flag_in
+  flag_set u = rw (t, u)
 
-  pub flag-other : sameBytes f (ascii "1") ≡ false → 2 ≡ flagIn f
-  unfolding flagIn
-  flag-other u = rw (t, u)
+  pub flag_other : same_bytes f (ascii "1") ≡ false → 2 ≡ flag_in f
+  unfolding flag_in
+  flag_other u = rw (t, u)
 
 module _ (ports : ℕ) (p h : Number) (flag : ℕ) (payload : Bool) (place next : ℕ) where
-  pub no-port : p ≡ Unreadable → R.Malformed next ≡ frameBy ports p h flag payload place next
-  unfolding frameBy
-  no-port e = rw e
+  pub no_port_lem : p ≡ Unreadable → R.Malformed next ≡ frame_by ports p h flag payload place next
+  unfolding frame_by
+  no_port_lem e = rw e
 
-  pub no-h4 : (x : ℕ) → p ≡ Value x → h ≡ Unreadable → R.Malformed next ≡ frameBy ports p h flag payload place next
-  unfolding frameBy
-  no-h4 x e k = rw (e, k)
+  pub no_h4 : (x : ℕ) → p ≡ Value x → h ≡ Unreadable → R.Malformed next ≡ frame_by ports p h flag payload place next
+  unfolding frame_by
+  no_h4 x e k = rw (e, k)
 
-  pub a-frame : (x y : ℕ) → p ≡ Value x → h ≡ Value y → (ltb x ports && ltb y 256 && ltb flag 2 && payload) ≡ true → R.Frame x y flag place next ≡ frameBy ports p h flag payload place next
-  unfolding frameBy
-  a-frame x y e k t = rw (e, k, t)
+  pub a_frame : (x y : ℕ) → p ≡ Value x → h ≡ Value y → (ltb x ports && ltb y 256 && ltb flag 2 && payload) ≡ true → R.Frame x y flag place next ≡ frame_by ports p h flag payload place next
+  unfolding frame_by
+  a_frame x y e k t = rw (e, k, t)
 
-  pub no-frame : (x y : ℕ) → p ≡ Value x → h ≡ Value y → (ltb x ports && ltb y 256 && ltb flag 2 && payload) ≡ false → R.Malformed next ≡ frameBy ports p h flag payload place next
-  unfolding frameBy
-  no-frame x y e k t = rw (e, k, t)
+  pub no_frame : (x y : ℕ) → p ≡ Value x → h ≡ Value y → (ltb x ports && ltb y 256 && ltb flag 2 && payload) ≡ false → R.Malformed next ≡ frame_by ports p h flag payload place next
+  unfolding frame_by
+  no_frame x y e k t = rw (e, k, t)
 
-pub h4-below : (x y ports flag : ℕ) (payload : Bool) → (ltb x ports && ltb y 256 && ltb flag 2 && payload) ≡ true → y < 256
-h4-below x y ports flag payload t =
+pub h4_below : (x y ports flag : ℕ) (payload : Bool) → (ltb x ports && ltb y 256 && ltb flag 2 && payload) ≡ true → y < 256
+h4_below x y ports flag payload t =
     ltb-true y 256 (and_right (ltb x ports) (ltb y 256) (and_left (ltb x ports && ltb y 256) (ltb flag 2) (and_left (ltb x ports && ltb y 256 && ltb flag 2) payload t)))
 
 module _ (a b c : Number) (pairs : List (List ℕ)) (next : ℕ) where
-  pub no-count : a ≡ Unreadable → O.Malformed ≡ settingsBy a b c pairs next
-  unfolding settingsBy
-  no-count e = rw e
+  pub no_count : a ≡ Unreadable → O.Malformed ≡ settings_by a b c pairs next
+  unfolding settings_by
+  no_count e = rw e
 
-  pub no_size : (x : ℕ) → a ≡ Value x → b ≡ Unreadable → O.Malformed ≡ settingsBy a b c pairs next
-  unfolding settingsBy
+  pub no_size : (x : ℕ) → a ≡ Value x → b ≡ Unreadable → O.Malformed ≡ settings_by a b c pairs next
+  unfolding settings_by
   no_size x e k = rw (e, k)
 
-  pub no-window : (x y : ℕ) → a ≡ Value x → b ≡ Value y → c ≡ Unreadable → O.Malformed ≡ settingsBy a b c pairs next
-  unfolding settingsBy
-  no-window x y e k m = rw (e, k, m)
+  pub no_window : (x y : ℕ) → a ≡ Value x → b ≡ Value y → c ≡ Unreadable → O.Malformed ≡ settings_by a b c pairs next
+  unfolding settings_by
+  no_window x y e k m = rw (e, k, m)
 
-  pub all_set : (x y z : ℕ) → a ≡ Value x → b ≡ Value y → c ≡ Value z → (p q : Pairs) → p ≡ firstPairs x y z → q ≡ pairsFrom p pairs → opened q next ≡ settingsBy a b c pairs next
-  unfolding settingsBy
+  pub all_set : (x y z : ℕ) → a ≡ Value x → b ≡ Value y → c ≡ Value z → (p q : Pairs) → p ≡ first_pairs x y z → q ≡ pairs_from p pairs → opened q next ≡ settings_by a b c pairs next
+  unfolding settings_by
   all_set x y z e k m p q f g = rw (e, k, m, g, f)

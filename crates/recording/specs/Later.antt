@@ -12,8 +12,8 @@ later at Long = Long
 later at Unfinished = Unfinished
 later at End = End
 
-abbrev pub opensLater : ℕ → Opening → Opening
-opensLater at (O.Settings settings next) = O.Settings settings (at + next)
-opensLater at O.Malformed = O.Malformed
-opensLater at O.Unfinished = O.Unfinished
-opensLater at O.End = O.End
+abbrev pub opens_later : ℕ → Opening → Opening
+opens_later at (O.Settings settings next) = O.Settings settings (at + next)
+opens_later at O.Malformed = O.Malformed
+opens_later at O.Unfinished = O.Unfinished
+opens_later at O.End = O.End

@@ -11,17 +11,17 @@ use Rattle.text.specs.Text.{LINE-END}
 abbrev pub MOST : ℕ
 MOST = 8192
 
-abbrev pub hasEnd : Bytes → Bool
-hasEnd rest = index_of LINE-END rest <? length rest
+abbrev pub has_end : Bytes → Bool
+has_end rest = index_of LINE-END rest <? length rest
 
 -- the first line of a text, without its end
-abbrev pub firstLine : Bytes → Bytes
-firstLine rest = take (index_of LINE-END rest) rest
+abbrev pub first_line : Bytes → Bytes
+first_line rest = take (index_of LINE-END rest) rest
 
 -- of what is left of a text from a place on
-unfoldable pub foundOf : ℕ → Bytes → Found
-foundOf at rest =
+unfoldable pub found_of : ℕ → Bytes → Found
+found_of at rest =
     if length rest == 0 then Nothing
-    else if hasEnd rest then Ends (at + index_of LINE-END rest)
+    else if has_end rest then Ends (at + index_of LINE-END rest)
     else if MOST <? length rest then TooLong
     else Open

@@ -1,12 +1,12 @@
 -- All that this crate and those below it define, opened under one name for examples that are computed. A new definition is named here, and nowhere else.
 use Rattle.std.specs.Prelude.{ℕ}
-use Rattle.text.specs.Opened.{textOpen}
-use Rattle.recording.specs.Line.{foundOf}
-use Rattle.recording.specs.Opening.{lineOpening, opened, openingIn, settingsBy}
-use Rattle.recording.specs.Pairs.{fieldIn, kindRead, named, timeRead}
-use Rattle.recording.specs.Record.{flagIn, frameBy, lastRecord, lineRecord, recordIn}
+use Rattle.text.specs.Opened.{text_open}
+use Rattle.recording.specs.Line.{found_of}
+use Rattle.recording.specs.Opening.{line_opening, opened, opening_in, settings_by}
+use Rattle.recording.specs.Pairs.{field_in, kind_read, named, time_read}
+use Rattle.recording.specs.Record.{flag_in, frame_by, last_record, line_record, record_in}
 
-unfoldable pub recordingOpen : ℕ
-unfolding textOpen foundOf lineOpening opened openingIn settingsBy fieldIn kindRead named timeRead flagIn frameBy lastRecord lineRecord
-    recordIn
-recordingOpen = 0
+unfoldable pub recording_open : ℕ
+unfolding text_open found_of line_opening opened opening_in settings_by field_in kind_read named time_read flag_in frame_by last_record line_record
+    record_in
+recording_open = 0

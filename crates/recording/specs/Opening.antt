@@ -12,8 +12,8 @@ use Rattle.recording.specs.declared.pairs.Awaited.TheVariants.{Name, Kind, Time}
 use Rattle.recording.specs.declared.pairs.Awaited.TheVariants as A
 use Rattle.recording.specs.declared.pairs.Pairs.{Pairs}
 use Rattle.recording.specs.declared.pairs.Settings as S
-use Rattle.recording.specs.Line.{MOST, firstLine, foundOf}
-use Rattle.recording.specs.Pairs.{firstPairs, pairsFrom, plainSettings}
+use Rattle.recording.specs.Line.{MOST, first_line, found_of}
+use Rattle.recording.specs.Pairs.{first_pairs, pairs_from, plain_settings}
 use Rattle.text.specs.declared.fields.Number.{Number}
 use Rattle.text.specs.declared.fields.Number.TheVariants.{Value, Unreadable}
 use Rattle.text.specs.Fields.{number_of}
@@ -27,47 +27,47 @@ pub data Opening : Type 0 where
   End : Opening
 
 -- as it is handed over
-abbrev pub noSettings : FirstLine → First
-noSettings line = record { settings = plainSettings 0 0 0; next = 0; line = line }
+abbrev pub no_settings : FirstLine → First
+no_settings line = record { settings = plain_settings 0 0 0; next = 0; line = line }
 
 abbrev pub handed : Opening → First
 handed (Settings s next) = record { settings = s; next = next; line = F.Settings }
-handed Malformed = noSettings F.Malformed
-handed Unfinished = noSettings F.Unfinished
-handed End = noSettings F.End
+handed Malformed = no_settings F.Malformed
+handed Unfinished = no_settings F.Unfinished
+handed End = no_settings F.End
 
 -- the pairs are whole where a name might follow
-abbrev pub openedBy : (awaited : Awaited) (s : S.Settings) (next : ℕ) → Opening
-openedBy Name s next = Settings s next
-openedBy Kind s next = Malformed
-openedBy (Time t i) s next = Malformed
-openedBy A.Nothing s next = Malformed
+abbrev pub opened_by : (awaited : Awaited) (s : S.Settings) (next : ℕ) → Opening
+opened_by Name s next = Settings s next
+opened_by Kind s next = Malformed
+opened_by (Time t i) s next = Malformed
+opened_by A.Nothing s next = Malformed
 
 unfoldable pub opened : Pairs → ℕ → Opening
-opened p next = openedBy p.awaited p.settings next
+opened p next = opened_by p.awaited p.settings next
 
-unfoldable pub settingsBy : (ports size window : Number) (pairs : List (List ℕ)) (next : ℕ) → Opening
-settingsBy (Value ports) (Value size) (Value window) pairs next = opened (pairsFrom (firstPairs ports size window) pairs) next
-settingsBy (Value ports) (Value size) Unreadable pairs next = Malformed
-settingsBy (Value ports) Unreadable window pairs next = Malformed
-settingsBy Unreadable size window pairs next = Malformed
+unfoldable pub settings_by : (ports size window : Number) (pairs : List (List ℕ)) (next : ℕ) → Opening
+settings_by (Value ports) (Value size) (Value window) pairs next = opened (pairs_from (first_pairs ports size window) pairs) next
+settings_by (Value ports) (Value size) Unreadable pairs next = Malformed
+settings_by (Value ports) Unreadable window pairs next = Malformed
+settings_by Unreadable size window pairs next = Malformed
 
 -- ports, P and W in decimal, and the pairs
-abbrev pub openingBy : ℕ → List (List ℕ) → Opening
-openingBy next [] = Malformed
-openingBy next (a ∷ []) = Malformed
-openingBy next (a ∷ b ∷ []) = Malformed
-openingBy next (ports ∷ size ∷ window ∷ pairs) = settingsBy (number_of 9 ports) (number_of 9 size) (number_of 9 window) pairs next
+abbrev pub opening_by : ℕ → List (List ℕ) → Opening
+opening_by next [] = Malformed
+opening_by next (a ∷ []) = Malformed
+opening_by next (a ∷ b ∷ []) = Malformed
+opening_by next (ports ∷ size ∷ window ∷ pairs) = settings_by (number_of 9 ports) (number_of 9 size) (number_of 9 window) pairs next
 
-unfoldable pub lineOpening : ℕ → Bytes → Opening
-lineOpening next line = if length line ≤? MOST then openingBy next (fields_of line) else Malformed
+unfoldable pub line_opening : ℕ → Bytes → Opening
+line_opening next line = if length line ≤? MOST then opening_by next (fields_of line) else Malformed
 
 -- what is left of a text from a place on; its last line may lack its end
-abbrev pub openingFound : (at : ℕ) (last : Bool) (rest : Bytes) (found : Found) → Opening
-openingFound at last rest Nothing = End
-openingFound at last rest Open = if last then lineOpening (at + length rest) rest else Unfinished
-openingFound at last rest TooLong = Malformed
-openingFound at last rest (Ends end) = lineOpening (end + 1) (firstLine rest)
+abbrev pub opening_found : (at : ℕ) (last : Bool) (rest : Bytes) (found : Found) → Opening
+opening_found at last rest Nothing = End
+opening_found at last rest Open = if last then line_opening (at + length rest) rest else Unfinished
+opening_found at last rest TooLong = Malformed
+opening_found at last rest (Ends end) = line_opening (end + 1) (first_line rest)
 
-unfoldable pub openingIn : (at : ℕ) (last : Bool) (rest : Bytes) → Opening
-openingIn at last rest = openingFound at last rest (foundOf at rest)
+unfoldable pub opening_in : (at : ℕ) (last : Bool) (rest : Bytes) → Opening
+opening_in at last rest = opening_found at last rest (found_of at rest)

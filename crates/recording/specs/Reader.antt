@@ -3,5 +3,5 @@ use Rattle.std.specs.Prelude.{List, ℕ}
 use Rattle.std.specs.Borrow.{Bor}
 use Rattle.recording.specs.declared.reader.Reader.{Reader}
 
-abbrev pub readerAt : Bor (List ℕ) → ℕ → Reader
-readerAt text at = record { text = text; at = at }
+abbrev pub reader_at : Bor (List ℕ) → ℕ → Reader
+reader_at text at = record { text = text; at = at }

@@ -6,59 +6,59 @@ use Rattle.recording.specs.declared.record.Record.{Record}
 use Rattle.recording.specs.declared.record.Record.TheVariants.{Frame, Malformed, Long, Unfinished, End}
 use Rattle.recording.specs.declared.line.Found.{Found}
 use Rattle.recording.specs.declared.line.Found.TheVariants.{Nothing, Open, TooLong, Ends}
-use Rattle.recording.specs.Line.{MOST, firstLine, foundOf}
+use Rattle.recording.specs.Line.{MOST, first_line, found_of}
 use Rattle.text.specs.declared.fields.Number.{Number}
 use Rattle.text.specs.declared.fields.Number.TheVariants.{Value, Unreadable}
 use Rattle.text.specs.Ascii.{ascii}
-use Rattle.text.specs.Fields.{hexOf, isHex, number_of, sameBytes}
+use Rattle.text.specs.Fields.{hex_of, is_hex, number_of, same_bytes}
 use Rattle.text.specs.Text.{fields_of}
 
 -- the flag is 0 or 1 and nothing else
-unfoldable pub flagIn : Bytes → ℕ
-flagIn field = if sameBytes field (ascii "0") then 0 else if sameBytes field (ascii "1") then 1 else 2
+unfoldable pub flag_in : Bytes → ℕ
+flag_in field = if same_bytes field (ascii "0") then 0 else if same_bytes field (ascii "1") then 1 else 2
 
 -- a port below the count, an H4 byte, a flag and the payload of P bytes
-unfoldable pub frameBy : (ports : ℕ) (port h4 : Number) (flag : ℕ) (payload : Bool) (place next : ℕ) → Record
-frameBy ports (Value port) (Value h4) flag payload place next =
+unfoldable pub frame_by : (ports : ℕ) (port h4 : Number) (flag : ℕ) (payload : Bool) (place next : ℕ) → Record
+frame_by ports (Value port) (Value h4) flag payload place next =
     if port <? ports && h4 <? 256 && flag <? 2 && payload then Frame port h4 flag place next else Malformed next
-frameBy ports (Value port) Unreadable flag payload place next = Malformed next
-frameBy ports Unreadable h4 flag payload place next = Malformed next
+frame_by ports (Value port) Unreadable flag payload place next = Malformed next
+frame_by ports Unreadable h4 flag payload place next = Malformed next
 
 -- four fields, the last of which ends at a place
-abbrev pub recordBy : (ports size end next : ℕ) (fields : List (List ℕ)) → Record
-recordBy ports size end next [] = Malformed next
-recordBy ports size end next (a ∷ []) = Malformed next
-recordBy ports size end next (a ∷ b ∷ []) = Malformed next
-recordBy ports size end next (a ∷ b ∷ c ∷ []) = Malformed next
-recordBy ports size end next (port ∷ h4 ∷ flag ∷ payload ∷ []) =
-    frameBy ports (number_of 9 port) (hexOf 2 h4) (flagIn flag) (isHex (size + size) payload) (end - length payload) next
-recordBy ports size end next (a ∷ b ∷ c ∷ d ∷ e ∷ rest) = Malformed next
+abbrev pub record_by : (ports size end next : ℕ) (fields : List (List ℕ)) → Record
+record_by ports size end next [] = Malformed next
+record_by ports size end next (a ∷ []) = Malformed next
+record_by ports size end next (a ∷ b ∷ []) = Malformed next
+record_by ports size end next (a ∷ b ∷ c ∷ []) = Malformed next
+record_by ports size end next (port ∷ h4 ∷ flag ∷ payload ∷ []) =
+    frame_by ports (number_of 9 port) (hex_of 2 h4) (flag_in flag) (is_hex (size + size) payload) (end - length payload) next
+record_by ports size end next (a ∷ b ∷ c ∷ d ∷ e ∷ rest) = Malformed next
 
 -- a line that begins at a place, and the place of the next one
-unfoldable pub lineRecord : (ports size at next : ℕ) (line : Bytes) → Record
-lineRecord ports size at next line = if length line ≤? MOST then recordBy ports size (at + length line) next (fields_of line) else Malformed next
+unfoldable pub line_record : (ports size at next : ℕ) (line : Bytes) → Record
+line_record ports size at next line = if length line ≤? MOST then record_by ports size (at + length line) next (fields_of line) else Malformed next
 
 -- what is left of a text from a place on, by its first line's end
-abbrev pub recordFound : (ports size at : ℕ) (rest : Bytes) (found : Found) → Record
-recordFound ports size at rest Nothing = End
-recordFound ports size at rest Open = Unfinished
-recordFound ports size at rest TooLong = Long
-recordFound ports size at rest (Ends end) = lineRecord ports size at (end + 1) (firstLine rest)
+abbrev pub record_found : (ports size at : ℕ) (rest : Bytes) (found : Found) → Record
+record_found ports size at rest Nothing = End
+record_found ports size at rest Open = Unfinished
+record_found ports size at rest TooLong = Long
+record_found ports size at rest (Ends end) = line_record ports size at (end + 1) (first_line rest)
 
-unfoldable pub recordIn : (ports size at : ℕ) (rest : Bytes) → Record
-recordIn ports size at rest = recordFound ports size at rest (foundOf at rest)
+unfoldable pub record_in : (ports size at : ℕ) (rest : Bytes) → Record
+record_in ports size at rest = record_found ports size at rest (found_of at rest)
 
 -- a last line that lacks its end
-unfoldable pub lastRecord : (ports size at : ℕ) (rest : Bytes) → Record
-lastRecord ports size at rest = if length rest == 0 then End else lineRecord ports size at (at + length rest) rest
+unfoldable pub last_record : (ports size at : ℕ) (rest : Bytes) → Record
+last_record ports size at rest = if length rest == 0 then End else line_record ports size at (at + length rest) rest
 
 -- a frame's line
-abbrev pub isFrame : Record → Bool
-isFrame (Frame port h4 flag place next) = true
-isFrame (Malformed next) = false
-isFrame Long = false
-isFrame Unfinished = false
-isFrame End = false
+abbrev pub is_frame : Record → Bool
+is_frame (Frame port h4 flag place next) = true
+is_frame (Malformed next) = false
+is_frame Long = false
+is_frame Unfinished = false
+is_frame End = false
 
 -- the payload of a frame lies in its line
 pub record Lies (size end : ℕ) (r : Record) : Type 0 where

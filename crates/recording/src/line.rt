@@ -1,6 +1,6 @@
 // Where a line of a recording ends, and how long it may be.
 ghost use Rattle.std.specs.Prelude.{◌≡◌, drop};
-ghost use Rattle.recording.specs.Line.{foundOf};
+ghost use Rattle.recording.specs.Line.{found_of};
 
 #[derive(Drop)]
 pub(crate) enum Found {
@@ -20,7 +20,7 @@ const MOST: usize = 8192;
 
 // The line that begins at a place.
 pub(crate) fn find(text: &[u8], at: usize) -> Found
-    ensures { result ≡ foundOf at (drop at text.now) }
+    ensures { result ≡ found_of at (drop at text.now) }
 {
     if text.len() <= at {
         return Found::Nothing;

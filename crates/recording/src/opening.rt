@@ -1,8 +1,8 @@
 // The first line of a recording (2026-05): 'the group's settings in the first line', ports, P and W in decimal, and the pairs.
 ghost use Rattle.std.specs.Prelude.{◌≡◌, ◌+◌, ◌≤◌, ◌<◌, drop, length};
 ghost use Rattle.std.proofs.Math.Seq.{slice};
-ghost use Rattle.recording.specs.Laws.Pairs.{fieldsFrom};
-ghost use Rattle.recording.specs.Opening.{handed, lineOpening, noSettings, opened, openingBy, openingIn, settingsBy};
+ghost use Rattle.recording.specs.Laws.Pairs.{fields_from};
+ghost use Rattle.recording.specs.Opening.{handed, line_opening, no_settings, opened, opening_by, opening_in, settings_by};
 ghost use Rattle.text.specs.Text.{fields_of};
 
 use crate::line::Found;
@@ -30,7 +30,7 @@ pub struct First {
 const TAB: u8 = b'\t';
 
 fn none(line: FirstLine) -> First
-    ensures { result ≡ noSettings line }
+    ensures { result ≡ no_settings line }
 {
     let settings = pairs::plain(0, 0, 0);
     First {
@@ -69,7 +69,7 @@ fn settings_by(
     next: usize,
 ) -> First
     requires { end ≤ length text.now }
-    ensures { result ≡ handed (settingsBy ports size window (fieldsFrom start end text.now) next) }
+    ensures { result ≡ handed (settings_by ports size window (fields_from start end text.now) next) }
 {
     let Number::Value(n) = ports else {
         return none(FirstLine::Malformed);
@@ -88,7 +88,7 @@ fn settings_by(
 // A line that lies from `at` to `end`.
 fn short_opening(text: &[u8], at: usize, end: usize, next: usize) -> First
     requires { (at ≤ end) × (end ≤ length text.now) }
-    ensures { result ≡ handed (openingBy next (fields_of (slice at end text.now))) }
+    ensures { result ≡ handed (opening_by next (fields_of (slice at end text.now))) }
 {
     let first = text::piece_end(text, at, end, TAB);
     if end <= first {
@@ -108,7 +108,7 @@ fn short_opening(text: &[u8], at: usize, end: usize, next: usize) -> First
 // 'Lines hold at most 8,192 bytes.'
 fn line_opening(text: &[u8], at: usize, end: usize, next: usize) -> First
     requires { (at ≤ end) × (end ≤ length text.now) }
-    ensures { result ≡ handed (lineOpening next (slice at end text.now)) }
+    ensures { result ≡ handed (line_opening next (slice at end text.now)) }
 {
     if 8192 < end - at {
         return none(FirstLine::Malformed);
@@ -118,7 +118,7 @@ fn line_opening(text: &[u8], at: usize, end: usize, next: usize) -> First
 
 // The first line of a text from a place on; the last one of a text may lack its end.
 pub fn opening_at(text: &[u8], at: usize, last: bool) -> First
-    ensures { result ≡ handed (openingIn at last (drop at text.now)) }
+    ensures { result ≡ handed (opening_in at last (drop at text.now)) }
 {
     let found = line::find(text, at);
     match found {

@@ -1,8 +1,8 @@
 // The pairs behind the three numbers of a first line (2026-05): each a name and what it says, in any order, each at most once.
 ghost use Rattle.std.specs.Prelude.{◌≡◌, ◌+◌, ◌≤◌, length};
 ghost use Rattle.std.proofs.Math.Seq.{slice};
-ghost use Rattle.recording.specs.Laws.Pairs.{fieldsFrom};
-ghost use Rattle.recording.specs.Pairs.{awaiting, countPut, fieldIn, firstPairs, isHold, kindNamed, kindRead, kindTo, named, pairsFrom, plainSettings, settingsTo, timeFrom, timeNamed, timeRead, withTime};
+ghost use Rattle.recording.specs.Laws.Pairs.{fields_from};
+ghost use Rattle.recording.specs.Pairs.{awaiting, count_put, field_in, first_pairs, is_hold, kind_named, kind_read, kind_to, named, pairs_from, plain_settings, settings_to, time_from, time_named, time_read, with_time};
 
 use packet::kinds;
 use text::Number;
@@ -53,7 +53,7 @@ pub(crate) struct Pairs {
 const TAB: u8 = b'\t';
 
 pub(crate) fn plain(ports: u32, size: u32, window: u32) -> Settings
-    ensures { result ≡ plainSettings ports size window }
+    ensures { result ≡ plain_settings ports size window }
 {
     Settings {
         hold_off: [0u32; 64],
@@ -67,7 +67,7 @@ pub(crate) fn plain(ports: u32, size: u32, window: u32) -> Settings
 
 // No pair yet.
 pub(crate) fn no_pairs(ports: u32, size: u32, window: u32) -> Pairs
-    ensures { result ≡ firstPairs ports size window }
+    ensures { result ≡ first_pairs ports size window }
 {
     let settings = plain(ports, size, window);
     Pairs {
@@ -80,7 +80,7 @@ pub(crate) fn no_pairs(ports: u32, size: u32, window: u32) -> Pairs
 }
 
 fn with_settings(pairs: Pairs, settings: Settings, awaited: Awaited) -> Pairs
-    ensures { result ≡ settingsTo settings awaited pairs }
+    ensures { result ≡ settings_to settings awaited pairs }
 {
     Pairs {
         settings,
@@ -105,7 +105,7 @@ fn awaits(pairs: Pairs, awaited: Awaited) -> Pairs
 }
 
 fn is_hold(timer: Timer) -> bool
-    ensures { result ≡ isHold timer }
+    ensures { result ≡ is_hold timer }
 {
     match timer {
         Timer::HoldOff => true,
@@ -114,7 +114,7 @@ fn is_hold(timer: Timer) -> bool
 }
 
 fn time_from(timer: Timer, ports: u32, i: u64) -> Awaited
-    ensures { result ≡ timeFrom timer ports i }
+    ensures { result ≡ time_from timer ports i }
 {
     if i < ports as u64 {
         return Awaited::Time(timer, i as u32);
@@ -123,7 +123,7 @@ fn time_from(timer: Timer, ports: u32, i: u64) -> Awaited
 }
 
 fn kind_named(pairs: Pairs) -> Pairs
-    ensures { result ≡ kindNamed pairs }
+    ensures { result ≡ kind_named pairs }
 {
     let settings = pairs.settings;
     Pairs {
@@ -136,7 +136,7 @@ fn kind_named(pairs: Pairs) -> Pairs
 }
 
 fn time_named(pairs: Pairs, timer: Timer) -> Pairs
-    ensures { result ≡ timeNamed pairs timer }
+    ensures { result ≡ time_named pairs timer }
 {
     let settings = pairs.settings;
     let awaited = time_from(timer, settings.ports, 0);
@@ -167,7 +167,7 @@ fn read_name(pairs: Pairs, text: &[u8], at: usize, limit: usize) -> Pairs
 }
 
 fn kind_to(pairs: Pairs, kind: u8) -> Pairs
-    ensures { result ≡ kindTo pairs kind }
+    ensures { result ≡ kind_to pairs kind }
 {
     let before = pairs.settings;
     let hold_off = before.hold_off;
@@ -184,7 +184,7 @@ fn kind_to(pairs: Pairs, kind: u8) -> Pairs
 }
 
 fn read_kind(pairs: Pairs, text: &[u8], at: usize, limit: usize) -> Pairs
-    ensures { result ≡ kindRead pairs (slice at limit text.now) }
+    ensures { result ≡ kind_read pairs (slice at limit text.now) }
 {
     if text::same(text, at, limit, b"H4") {
         return kind_to(pairs, kinds::H4);
@@ -200,7 +200,7 @@ fn read_kind(pairs: Pairs, text: &[u8], at: usize, limit: usize) -> Pairs
 
 // The number of a port into a list, which has 64, if it is that list's.
 fn put_count(counts: [u32; 64], own: bool, i: u32, n: u32) -> [u32; 64]
-    ensures { result ≡ countPut counts own i n }
+    ensures { result ≡ count_put counts own i n }
 {
     if own & (i < 64) {
         let mut next = counts;
@@ -211,7 +211,7 @@ fn put_count(counts: [u32; 64], own: bool, i: u32, n: u32) -> [u32; 64]
 }
 
 fn with_time(settings: Settings, timer: Timer, i: u32, n: u32) -> Settings
-    ensures { result ≡ withTime settings timer i n }
+    ensures { result ≡ with_time settings timer i n }
 {
     let holds = is_hold(timer);
     let before = settings.hold_off;
@@ -229,7 +229,7 @@ fn with_time(settings: Settings, timer: Timer, i: u32, n: u32) -> Settings
 }
 
 fn read_time(pairs: Pairs, timer: Timer, i: u32, number: Number) -> Pairs
-    ensures { result ≡ timeRead pairs timer i number }
+    ensures { result ≡ time_read pairs timer i number }
 {
     let Number::Value(n) = number else {
         return awaits(pairs, Awaited::Nothing);
@@ -242,7 +242,7 @@ fn read_time(pairs: Pairs, timer: Timer, i: u32, number: Number) -> Pairs
 
 // The field that lies from `at` to `limit`.
 fn read_field(pairs: Pairs, text: &[u8], at: usize, limit: usize) -> Pairs
-    ensures { result ≡ fieldIn pairs (slice at limit text.now) }
+    ensures { result ≡ field_in pairs (slice at limit text.now) }
 {
     let awaited = pairs.awaited;
     match awaited {
@@ -259,7 +259,7 @@ fn read_field(pairs: Pairs, text: &[u8], at: usize, limit: usize) -> Pairs
 // The fields from `start` to `end`, none if it lies behind.
 pub(crate) fn read_pairs(first: Pairs, text: &[u8], start: usize, end: usize) -> Pairs
     requires { end ≤ length text.now }
-    ensures { result ≡ pairsFrom first (fieldsFrom start end text.now) }
+    ensures { result ≡ pairs_from first (fields_from start end text.now) }
 {
     let mut pairs = first;
     let mut at = start;

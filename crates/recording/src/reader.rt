@@ -1,8 +1,8 @@
 // 'A record is read through a reader that stays on the lent text and knows how far it has come.' (2026-05) The reader is a struct with the
 // text slice and a position; all work is done on a plain text and place.
 ghost use Rattle.std.specs.Prelude.{◌≡◌, drop};
-ghost use Rattle.recording.specs.Reader.{readerAt};
-ghost use Rattle.recording.specs.Record.{recordIn};
+ghost use Rattle.recording.specs.Reader.{reader_at};
+ghost use Rattle.recording.specs.Record.{record_in};
 
 use crate::record;
 use crate::record::Record;
@@ -15,28 +15,28 @@ pub struct Reader<'a> {
 
 // A reader at the beginning of a text.
 pub fn reader_on<'a>(text: &'a [u8]) -> Reader<'a>
-    ensures { result ≡ readerAt text.entry 0 }
+    ensures { result ≡ reader_at text.entry 0 }
 {
     Reader { text, at: 0 }
 }
 
 // What stands where the reader is.
 pub fn next<'a>(r: Reader<'a>, ports: u32, size: u32) -> Record
-    ensures { result ≡ recordIn ports size r.entry.at (drop r.entry.at r.entry.text.now) }
+    ensures { result ≡ record_in ports size r.entry.at (drop r.entry.at r.entry.text.now) }
 {
     record::record_in(r.text, r.at, ports, size)
 }
 
 // The reader at another place of its text.
 pub fn moved<'a>(r: Reader<'a>, at: usize) -> Reader<'a>
-    ensures { result ≡ readerAt r.entry.text at }
+    ensures { result ≡ reader_at r.entry.text at }
 {
     Reader { text: r.text, at }
 }
 
 // What a reader of this text finds at a place.
 pub fn record_at(text: &[u8], at: usize, ports: u32, size: u32) -> Record
-    ensures { result ≡ recordIn ports size at (drop at text.now) }
+    ensures { result ≡ record_in ports size at (drop at text.now) }
 {
     next(moved(reader_on(text), at), ports, size)
 }

@@ -1,8 +1,8 @@
 // A frame's line (2026-05): 'port, H4 in two hex digits, fail flag, payload in hex'.
 ghost use Rattle.std.specs.Prelude.{◌≡◌, true, ◌∷◌, ◌+◌, ◌≤◌, ◌<◌, drop, length};
 ghost use Rattle.std.proofs.Math.Seq.{slice};
-ghost use Rattle.recording.specs.Laws.Here.{frameBehind, partedAt};
-ghost use Rattle.recording.specs.Record.{flagIn, frameBy, isFrame, lastRecord, lineRecord, recordBy, recordIn};
+ghost use Rattle.recording.specs.Laws.Here.{frame_behind, parted_at};
+ghost use Rattle.recording.specs.Record.{flag_in, frame_by, is_frame, last_record, line_record, record_by, record_in};
 ghost use Rattle.text.specs.Text.{fields_of};
 
 use crate::line;
@@ -29,7 +29,7 @@ const LINE_END: u8 = b'\n';
 
 // The flag; 2 for what is none.
 fn flag_in(text: &[u8], at: usize, limit: usize) -> u8
-    ensures { result ≡ flagIn (slice at limit text.now) }
+    ensures { result ≡ flag_in (slice at limit text.now) }
 {
     if text::same(text, at, limit, b"0") {
         return 0;
@@ -50,7 +50,7 @@ fn frame_by(
     place: usize,
     next: usize,
 ) -> Record
-    ensures { result ≡ frameBy ports port h4 flag payload place next }
+    ensures { result ≡ frame_by ports port h4 flag payload place next }
 {
     let Number::Value(p) = port else {
         return Record::Malformed(next);
@@ -83,7 +83,7 @@ fn frame_line(
     size: u32,
 ) -> Record
     requires { (first < second) × (second < third) × (third < end) × (end ≤ length text.now) }
-    ensures { result ≡ recordBy ports size end next (slice at first text.now ∷ slice (first + 1) second text.now ∷ slice (second + 1) third text.now ∷ fields_of (slice (third + 1) end text.now)) }
+    ensures { result ≡ record_by ports size end next (slice at first text.now ∷ slice (first + 1) second text.now ∷ slice (second + 1) third text.now ∷ fields_of (slice (third + 1) end text.now)) }
 {
     if text::piece_end(text, third + 1, end, TAB) < end {
         return Record::Malformed(next);
@@ -99,7 +99,7 @@ fn frame_line(
 // A line that lies from `at` to `end`.
 fn short_record(text: &[u8], at: usize, end: usize, next: usize, ports: u32, size: u32) -> Record
     requires { (at ≤ end) × (end ≤ length text.now) }
-    ensures { result ≡ recordBy ports size end next (fields_of (slice at end text.now)) }
+    ensures { result ≡ record_by ports size end next (fields_of (slice at end text.now)) }
 {
     let first = text::piece_end(text, at, end, TAB);
     if end <= first {
@@ -119,7 +119,7 @@ fn short_record(text: &[u8], at: usize, end: usize, next: usize, ports: u32, siz
 // 'Lines hold at most 8,192 bytes.'
 fn line_record(text: &[u8], at: usize, end: usize, next: usize, ports: u32, size: u32) -> Record
     requires { (at ≤ end) × (end ≤ length text.now) }
-    ensures { result ≡ lineRecord ports size at next (slice at end text.now) }
+    ensures { result ≡ line_record ports size at next (slice at end text.now) }
 {
     if 8192 < end - at {
         return Record::Malformed(next);
@@ -130,7 +130,7 @@ fn line_record(text: &[u8], at: usize, end: usize, next: usize, ports: u32, size
 // Whether the tabs behind port, H4 and flag of a frame's line are there, and its end.
 fn is_parted(text: &[u8], first: usize, end: usize) -> bool
     requires { (first + 6 ≤ end) × (end < length text.now) }
-    ensures { result ≡ partedAt first end text.now }
+    ensures { result ≡ parted_at first end text.now }
 {
     (text[first] == TAB)
         & (text[first + 3] == TAB)
@@ -141,7 +141,7 @@ fn is_parted(text: &[u8], first: usize, end: usize) -> bool
 // A line whose port ends at `first`, its other fields taken from where a frame's line has them.
 fn frame_behind(text: &[u8], at: usize, first: usize, end: usize, ports: u32, size: u32) -> Record
     requires { (first + 6 ≤ end) × (end < length text.now) }
-    ensures { result ≡ frameBehind ports size at first end text.now }
+    ensures { result ≡ frame_behind ports size at first end text.now }
 {
     let port = text::read_number(text, at, first, 9);
     let h4 = text::read_hex(text, first + 1, first + 3, 2);
@@ -153,7 +153,7 @@ fn frame_behind(text: &[u8], at: usize, first: usize, end: usize, ports: u32, si
 
 // A frame's line is as long as its port and P say: it is read without a search for its end. Any other line is no frame here.
 fn frame_here(text: &[u8], at: usize, ports: u32, size: u32) -> Record
-    ensures { isFrame result ≡ true → result ≡ recordIn ports size at (drop at text.now) }
+    ensures { is_frame result ≡ true → result ≡ record_in ports size at (drop at text.now) }
 {
     if text.len() <= at {
         return Record::End;
@@ -173,7 +173,7 @@ fn frame_here(text: &[u8], at: usize, ports: u32, size: u32) -> Record
 }
 
 fn is_frame(found: Record) -> bool
-    ensures { result ≡ isFrame found }
+    ensures { result ≡ is_frame found }
 {
     match found {
         Record::Frame(_, _, _, _, _) => true,
@@ -186,7 +186,7 @@ fn is_frame(found: Record) -> bool
 
 // Any line.
 fn any_record(text: &[u8], at: usize, ports: u32, size: u32) -> Record
-    ensures { result ≡ recordIn ports size at (drop at text.now) }
+    ensures { result ≡ record_in ports size at (drop at text.now) }
 {
     let found = line::find(text, at);
     match found {
@@ -199,7 +199,7 @@ fn any_record(text: &[u8], at: usize, ports: u32, size: u32) -> Record
 
 // What stands at a place of a text, for a group of so many ports and bytes a frame.
 pub fn record_in(text: &[u8], at: usize, ports: u32, size: u32) -> Record
-    ensures { result ≡ recordIn ports size at (drop at text.now) }
+    ensures { result ≡ record_in ports size at (drop at text.now) }
 {
     let here = frame_here(text, at, ports, size);
     if is_frame(here) {
@@ -210,7 +210,7 @@ pub fn record_in(text: &[u8], at: usize, ports: u32, size: u32) -> Record
 
 // The same where the rest of the text is a line that lacks its end.
 pub fn last_record(text: &[u8], at: usize, ports: u32, size: u32) -> Record
-    ensures { result ≡ lastRecord ports size at (drop at text.now) }
+    ensures { result ≡ last_record ports size at (drop at text.now) }
 {
     if text.len() <= at {
         return Record::End;

@@ -1,7 +1,7 @@
 // Replays a recording (2026-05) and prints what its receiver reports: the files that the arguments name, each a part of one recording and '-'
 // standard input, or standard input where none is named.
 ghost use Rattle.std.specs.Prelude.{◌≡◌, ◌≤◌, length};
-ghost use Rattle.replay_lines.specs.Deeds.{Carried, deskWith};
+ghost use Rattle.replay_lines.specs.Deeds.{Carried, desk_with};
 ghost use Rattle.replay_lines.specs.Replay.{STORE};
 
 use libc::{STDIN_FILENO, STDOUT_FILENO};
@@ -39,7 +39,7 @@ fn take_turn(
     out: &mut [u8],
     said: &mut [u8],
 ) -> Done
-    ensures { (result.at ≤ length text.now) × Carried (deskWith replay rows.old store.old) (deskWith result.replay rows.new store.new) }
+    ensures { (result.at ≤ length text.now) × Carried (desk_with replay rows.old store.old) (desk_with result.replay rows.new store.new) }
 {
     let turn = replay_lines::turn(replay, text, at, last, rows, store, out, said);
     let after = turn.replay;
@@ -62,7 +62,7 @@ fn run_text(
     store: &mut [u8],
     out: &mut [u8],
 ) -> Done
-    ensures { (result.at ≤ length text.now) × Carried (deskWith replay rows.old store.old) (deskWith result.replay rows.new store.new) }
+    ensures { (result.at ≤ length text.now) × Carried (desk_with replay rows.old store.old) (desk_with result.replay rows.new store.new) }
 {
     let mut said = io::buffer();
     let mut now = replay;
@@ -109,7 +109,7 @@ fn run_front(
     out: &mut [u8],
 ) -> Done
     requires { end ≤ length buffer.now }
-    ensures { Carried (deskWith replay rows.old store.old) (deskWith result.replay rows.new store.new) }
+    ensures { Carried (desk_with replay rows.old store.old) (desk_with result.replay rows.new store.new) }
 {
     run_text(replay, &buffer[..end], last, rows, store, out)
 }
@@ -132,7 +132,7 @@ fn run_some(
     out: &mut [u8],
 ) -> Part
     requires { kept ≤ length buffer.old }
-    ensures { (result.kept ≤ length buffer.old) × Carried (deskWith replay rows.old store.old) (deskWith result.replay rows.new store.new) }
+    ensures { (result.kept ≤ length buffer.old) × Carried (desk_with replay rows.old store.old) (desk_with result.replay rows.new store.new) }
 {
     let got = io::read_full(fd, &mut buffer[kept..]);
     let end = at_most(kept + got, buffer.len());
@@ -156,7 +156,7 @@ fn run_file(
     out: &mut [u8],
 ) -> Replay
     requires { length store.old ≡ STORE }
-    ensures { Carried (deskWith replay rows.old store.old) (deskWith result rows.new store.new) }
+    ensures { Carried (desk_with replay rows.old store.old) (desk_with result rows.new store.new) }
 {
     let mut buffer = [0u8; 65536];
     let mut now = replay;
@@ -190,7 +190,7 @@ fn run_named(
     out: &mut [u8],
 ) -> Replay
     requires { length store.old ≡ STORE }
-    ensures { Carried (deskWith replay rows.old store.old) (deskWith result rows.new store.new) }
+    ensures { Carried (desk_with replay rows.old store.old) (desk_with result rows.new store.new) }
 {
     let mut path = io::buffer();
     let length = os::arg(place, &mut path);
@@ -216,7 +216,7 @@ fn run_all(
     out: &mut [u8],
 ) -> Replay
     requires { length store.old ≡ STORE }
-    ensures { Carried (deskWith replay rows.old store.old) (deskWith result rows.new store.new) }
+    ensures { Carried (desk_with replay rows.old store.old) (desk_with result rows.new store.new) }
 {
     let mut now = replay;
     let mut i = 1;

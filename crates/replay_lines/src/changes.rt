@@ -1,7 +1,7 @@
 // Changes of port state (2026-05): the member state of a port, with its number, before a report and after it.
 ghost use Rattle.std.specs.Prelude.{◌≡◌, ◌+◌, ◌*◌, ◌<◌, ◌≤◌, length};
-ghost use Rattle.receiver.specs.Shown.{shownNumber};
-ghost use Rattle.replay_lines.specs.Output.{ROOM, changeText, changesText, countIn, reportText, stateAt, stateLine, statesIn};
+ghost use Rattle.receiver.specs.Shown.{shown_number};
+ghost use Rattle.replay_lines.specs.Output.{ROOM, change_text, changes_text, count_in, report_text, state_at, state_line, states_in};
 ghost use Rattle.text.specs.Output.{Put};
 
 use crate::output;
@@ -9,7 +9,7 @@ use packet::kinds;
 use rows::Member;
 
 fn number_of(kind: u8, member: Member) -> u8
-    ensures { result ≡ shownNumber kind member }
+    ensures { result ≡ shown_number kind member }
 {
     if member.state == 0 {
         return kinds::idle_number(kind);
@@ -24,7 +24,7 @@ fn wide(n: u8) -> u16
 }
 
 fn state_at(kind: u8, rows: &[[u8; 16]], port: u8) -> u16
-    ensures { result ≡ stateAt kind rows.now port }
+    ensures { result ≡ state_at kind rows.now port }
 {
     let member = rows::member::get(rows, port);
     let number = number_of(kind, member);
@@ -33,7 +33,7 @@ fn state_at(kind: u8, rows: &[[u8; 16]], port: u8) -> u16
 
 // The states of ports 0 to 63.
 pub(crate) fn states_in(kind: u8, rows: &[[u8; 16]]) -> [u16; 64]
-    ensures { result ≡ statesIn kind rows.now }
+    ensures { result ≡ states_in kind rows.now }
 {
     let mut states = [0u16; 64];
     let mut i = 0;
@@ -46,7 +46,7 @@ pub(crate) fn states_in(kind: u8, rows: &[[u8; 16]]) -> [u16; 64]
 
 fn put_state(port: u8, state: u16, said: &mut [u8], at: usize) -> usize
     requires { (port < 64) × (at + 17 ≤ length said.old) }
-    ensures { Put (stateLine port state) at said.old result said.new }
+    ensures { Put (state_line port state) at said.old result said.new }
 {
     output::put_port(port, (state / 256) as u8, (state % 256) as u8, said, at)
 }
@@ -54,7 +54,7 @@ fn put_state(port: u8, state: u16, said: &mut [u8], at: usize) -> usize
 // The line of a port whose state is another.
 fn put_change(port: u8, old: u16, new: u16, said: &mut [u8], at: usize) -> usize
     requires { (port < 64) × (at + 17 ≤ length said.old) }
-    ensures { Put (changeText port old new) at said.old result said.new }
+    ensures { Put (change_text port old new) at said.old result said.new }
 {
     if old == new {
         return at;
@@ -71,7 +71,7 @@ pub(crate) fn put_changes(
     start: usize,
 ) -> usize
     requires { (ports ≤ 64) × (start + 17 * 64 ≤ length said.old) }
-    ensures { Put (changesText before after ports) start said.old result said.new }
+    ensures { Put (changes_text before after ports) start said.old result said.new }
 {
     let mut at = start;
     let mut i = 0;
@@ -98,7 +98,7 @@ fn count_of(a: u8, b: u8, c: u8, d: u8) -> u64
 
 // How many bytes a report says.
 fn count_in(given: [u8; 8]) -> u64
-    ensures { result ≡ countIn given }
+    ensures { result ≡ count_in given }
 {
     count_of(given[4], given[5], given[6], given[7])
 }
@@ -114,7 +114,7 @@ pub(crate) fn put_report(
     said: &mut [u8],
 ) -> usize
     requires { (ports ≤ 64) × (ROOM ≤ length said.old) }
-    ensures { Put (reportText given blamed line before after ports) 0 said.old result said.new }
+    ensures { Put (report_text given blamed line before after ports) 0 said.old result said.new }
 {
     let count = count_in(given);
     let next = output::put_epoch(given[1], given[0], count, line, given[3], blamed, said);

@@ -1,7 +1,7 @@
 // What a recording's first line asks to be lent, told before its replay begins.
 ghost use Rattle.std.specs.Prelude.{◌≡◌};
 ghost use Rattle.replay_lines.specs.Laws.Starts.{Small};
-ghost use Rattle.replay_lines.specs.Lengths.{in_range, lengthsIn, lengthsOf, lengthsWith, noLengths};
+ghost use Rattle.replay_lines.specs.Lengths.{in_range, lengths_in, lengths_of, lengths_with, no_lengths};
 
 use crate::{lent, replay};
 use recording::{FirstLine, Settings};
@@ -15,7 +15,7 @@ pub struct Lengths {
 }
 
 fn none(answer: u8) -> Lengths
-    ensures { result ≡ noLengths answer }
+    ensures { result ≡ no_lengths answer }
 {
     Lengths {
         store: 0,
@@ -40,7 +40,7 @@ fn is_in_range(settings: Settings) -> bool
 
 fn lengths_with(settings: Settings) -> Lengths
     requires { Small settings }
-    ensures { result ≡ lengthsWith settings }
+    ensures { result ≡ lengths_with settings }
 {
     let ports = settings.ports as u8;
     let size = settings.size as u16;
@@ -55,7 +55,7 @@ fn lengths_with(settings: Settings) -> Lengths
 }
 
 fn lengths_in(settings: Settings) -> Lengths
-    ensures { result ≡ lengthsIn settings }
+    ensures { result ≡ lengths_in settings }
 {
     if is_in_range(settings) {
         return lengths_with(settings);
@@ -65,7 +65,7 @@ fn lengths_in(settings: Settings) -> Lengths
 
 // Of the first line of a text, which may lack its end.
 pub fn replay_lengths(text: &[u8]) -> Lengths
-    ensures { result ≡ lengthsOf text.now }
+    ensures { result ≡ lengths_of text.now }
 {
     let first = recording::opening_at(text, 0, true);
     let line = first.line;

@@ -1,14 +1,14 @@
 // The receiver on the parts of the lent rows and store that are its own.
 ghost use Rattle.std.specs.Prelude.{◌≡◌, ◌≤◌, ◌++◌, length, take, drop};
-ghost use Rattle.receiver.specs.Fetch.{fetchOf};
-ghost use Rattle.replay_lines.specs.Laws.Due.{due_at, dueOf};
-ghost use Rattle.replay_lines.specs.Turn.{blamedIn, clearedRows, clearedStore, startedRows, storeIn, timesFit};
+ghost use Rattle.receiver.specs.Fetch.{fetch_of};
+ghost use Rattle.replay_lines.specs.Laws.Due.{due_at, due_of};
+ghost use Rattle.replay_lines.specs.Turn.{blamed_in, cleared_rows, cleared_store, started_rows, store_in, times_fit};
 
 use recording::Settings;
 use rows::Group;
 
 fn clear_rows(rows: &mut [[u8; 16]])
-    ensures { rows.new ≡ clearedRows rows.old }
+    ensures { rows.new ≡ cleared_rows rows.old }
 {
     let mut i = 0;
     while i < rows.len() {
@@ -18,7 +18,7 @@ fn clear_rows(rows: &mut [[u8; 16]])
 }
 
 pub(crate) fn clear_store(store: &mut [u8])
-    ensures { store.new ≡ clearedStore store.old }
+    ensures { store.new ≡ cleared_store store.old }
 {
     let mut i = 0;
     while i < store.len() {
@@ -30,7 +30,7 @@ pub(crate) fn clear_store(store: &mut [u8])
 // The times of the group's ports are in range.
 pub(crate) fn times_fit(settings: Settings) -> bool
     requires { settings.ports ≤ 64 }
-    ensures { result ≡ timesFit settings }
+    ensures { result ≡ times_fit settings }
 {
     let hold = settings.hold_off;
     let restore = settings.restore;
@@ -40,8 +40,8 @@ pub(crate) fn times_fit(settings: Settings) -> bool
 
 // All rows are cleared first.
 pub(crate) fn start(settings: Settings, store: usize, rows: &mut [[u8; 16]], count: usize)
-    requires { (count ≤ length rows.old) × (settings.ports ≤ 64) × (store ≡ storeIn settings) }
-    ensures { rows.new ≡ startedRows settings (take count (clearedRows rows.old)) ++ drop count (clearedRows rows.old) }
+    requires { (count ≤ length rows.old) × (settings.ports ≤ 64) × (store ≡ store_in settings) }
+    ensures { rows.new ≡ started_rows settings (take count (cleared_rows rows.old)) ++ drop count (cleared_rows rows.old) }
 {
     clear_rows(rows);
     let hold = settings.hold_off;
@@ -68,9 +68,9 @@ pub(crate) fn fetch(
     report: &mut [u8],
 )
     requires { (count ≤ length rows.old) × (bytes ≤ length store.now) }
-    ensures { (rows.new ≡ (fetchOf (take count rows.old) (take bytes store.now) out.old report.old).rows ++ drop count rows.old)
-        × (out.new ≡ (fetchOf (take count rows.old) (take bytes store.now) out.old report.old).out)
-        × (report.new ≡ (fetchOf (take count rows.old) (take bytes store.now) out.old report.old).report) }
+    ensures { (rows.new ≡ (fetch_of (take count rows.old) (take bytes store.now) out.old report.old).rows ++ drop count rows.old)
+        × (out.new ≡ (fetch_of (take count rows.old) (take bytes store.now) out.old report.old).out)
+        × (report.new ≡ (fetch_of (take count rows.old) (take bytes store.now) out.old report.old).report) }
 {
     receiver::fetch(&mut rows[..count], &store[..bytes], out, report);
 }
@@ -78,7 +78,7 @@ pub(crate) fn fetch(
 // The port to which the cause of the next report applies, read before it is fetched.
 pub(crate) fn blamed(rows: &[[u8; 16]], count: usize) -> u8
     requires { count ≤ length rows.now }
-    ensures { result ≡ blamedIn (take count rows.now) }
+    ensures { result ≡ blamed_in (take count rows.now) }
 {
     let mut cause = [0u8, 255];
     receiver::cause(&rows[..count], &mut cause);
@@ -86,7 +86,7 @@ pub(crate) fn blamed(rows: &[[u8; 16]], count: usize) -> u8
 }
 
 fn is_due_of(group: Group, state: &[[u8; 16]]) -> bool
-    ensures { result ≡ dueOf group state.now }
+    ensures { result ≡ due_of group state.now }
 {
     let ports = phases::ports_in(group);
     if (0 < ports) & !(group.begun == 0) & !(group.gathered == 0) {

@@ -1,12 +1,12 @@
 // The lines that are printed (2026-05), put one behind the other into a lent buffer.
 ghost use Rattle.std.specs.Prelude.{◌≡◌, ◌+◌, ◌≤◌, length};
-ghost use Rattle.replay_lines.specs.Output.{answerText, blamedText, causeText, epochText, markText, placeText, portText, stateText, whyText};
-ghost use Rattle.text.specs.Output.{Put, ended, putBytes, putNext};
+ghost use Rattle.replay_lines.specs.Output.{answer_text, blamed_text, cause_text, epoch_text, mark_text, place_text, port_text, state_text, why_text};
+ghost use Rattle.text.specs.Output.{Put, ended, put_bytes, put_next};
 ghost use Rattle.text.specs.Text.{TAB};
 
 pub(crate) fn put_answer(number: u8, line: u64, said: &mut [u8]) -> usize
-    requires { 0 + length (answerText number line) ≤ length said.old }
-    ensures { Put (answerText number line) 0 said.old result said.new }
+    requires { 0 + length (answer_text number line) ≤ length said.old }
+    ensures { Put (answer_text number line) 0 said.old result said.new }
 {
     let second = text::put(b"answer\t", said, 0);
     let third = text::put_number(number, b'\t', said, second);
@@ -15,7 +15,7 @@ pub(crate) fn put_answer(number: u8, line: u64, said: &mut [u8]) -> usize
 }
 
 fn put_mark(mark: u8, said: &mut [u8], at: usize) -> usize
-    ensures { (result ≡ putNext (ended (markText mark) TAB) at said.old) × (said.new ≡ putBytes (ended (markText mark) TAB) at said.old) }
+    ensures { (result ≡ put_next (ended (mark_text mark) TAB) at said.old) × (said.new ≡ put_bytes (ended (mark_text mark) TAB) at said.old) }
 {
     if mark == 1 {
         return text::put(b"held\t", said, at);
@@ -28,7 +28,7 @@ fn put_mark(mark: u8, said: &mut [u8], at: usize) -> usize
 
 // The words of levelspruce_cause_text (host/library/texts.c).
 fn put_cause(cause: u8, said: &mut [u8], at: usize) -> usize
-    ensures { (result ≡ putNext (causeText cause) at said.old) × (said.new ≡ putBytes (causeText cause) at said.old) }
+    ensures { (result ≡ put_next (cause_text cause) at said.old) × (said.new ≡ put_bytes (cause_text cause) at said.old) }
 {
     if cause == 1 {
         return text::put(b"a ruling packet was refused", said, at);
@@ -53,8 +53,8 @@ fn put_cause(cause: u8, said: &mut [u8], at: usize) -> usize
 
 // The port to which a cause applies, and the line's end.
 fn put_blamed(port: u8, said: &mut [u8], at: usize) -> usize
-    requires { at + length (blamedText port) ≤ length said.old }
-    ensures { Put (blamedText port) at said.old result said.new }
+    requires { at + length (blamed_text port) ≤ length said.old }
+    ensures { Put (blamed_text port) at said.old result said.new }
 {
     if port == 255 {
         return text::put(b"\n", said, at);
@@ -65,8 +65,8 @@ fn put_blamed(port: u8, said: &mut [u8], at: usize) -> usize
 
 // Why a report is held or doubtful.
 fn put_why(cause: u8, port: u8, said: &mut [u8], at: usize) -> usize
-    requires { at + length (whyText cause port) ≤ length said.old }
-    ensures { Put (whyText cause port) at said.old result said.new }
+    requires { at + length (why_text cause port) ≤ length said.old }
+    ensures { Put (why_text cause port) at said.old result said.new }
 {
     let second = text::put(b"cause\t", said, at);
     let third = put_cause(cause, said, second);
@@ -75,8 +75,8 @@ fn put_why(cause: u8, port: u8, said: &mut [u8], at: usize) -> usize
 
 // The line's number, and all that is behind it.
 fn put_place(mark: u8, line: u64, cause: u8, port: u8, said: &mut [u8], at: usize) -> usize
-    requires { at + length (placeText mark line cause port) ≤ length said.old }
-    ensures { Put (placeText mark line cause port) at said.old result said.new }
+    requires { at + length (place_text mark line cause port) ≤ length said.old }
+    ensures { Put (place_text mark line cause port) at said.old result said.new }
 {
     if (mark == 1) | (mark == 2) {
         let next = text::put_decimal(line, b'\t', said, at);
@@ -94,8 +94,8 @@ pub(crate) fn put_epoch(
     port: u8,
     said: &mut [u8],
 ) -> usize
-    requires { 0 + length (epochText epoch mark bytes line cause port) ≤ length said.old }
-    ensures { Put (epochText epoch mark bytes line cause port) 0 said.old result said.new }
+    requires { 0 + length (epoch_text epoch mark bytes line cause port) ≤ length said.old }
+    ensures { Put (epoch_text epoch mark bytes line cause port) 0 said.old result said.new }
 {
     let second = text::put(b"epoch\t", said, 0);
     let third = text::put_number(epoch, b'\t', said, second);
@@ -107,7 +107,7 @@ pub(crate) fn put_epoch(
 }
 
 fn put_state(state: u8, said: &mut [u8], at: usize) -> usize
-    ensures { (result ≡ putNext (ended (stateText state) TAB) at said.old) × (said.new ≡ putBytes (ended (stateText state) TAB) at said.old) }
+    ensures { (result ≡ put_next (ended (state_text state) TAB) at said.old) × (said.new ≡ put_bytes (ended (state_text state) TAB) at said.old) }
 {
     if state == 0 {
         return text::put(b"IDLE\t", said, at);
@@ -119,8 +119,8 @@ fn put_state(state: u8, said: &mut [u8], at: usize) -> usize
 }
 
 pub(crate) fn put_port(port: u8, state: u8, number: u8, said: &mut [u8], at: usize) -> usize
-    requires { at + length (portText port state number) ≤ length said.old }
-    ensures { Put (portText port state number) at said.old result said.new }
+    requires { at + length (port_text port state number) ≤ length said.old }
+    ensures { Put (port_text port state number) at said.old result said.new }
 {
     let second = text::put(b"port\t", said, at);
     let third = text::put_number(port, b'\t', said, second);

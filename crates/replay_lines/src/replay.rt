@@ -1,6 +1,6 @@
 // How far a recording has been replayed, beside the receiver's rows and store.
 ghost use Rattle.std.specs.Prelude.{◌≡◌};
-ghost use Rattle.replay_lines.specs.Replay.{beginning, nextLine, outputOf, store_of};
+ghost use Rattle.replay_lines.specs.Replay.{beginning, next_line, output_of, store_of};
 
 use packet::kinds;
 
@@ -49,7 +49,7 @@ pub fn begin() -> Replay
 }
 
 pub(crate) fn next_line(line: u64) -> u64
-    ensures { result ≡ nextLine line }
+    ensures { result ≡ next_line line }
 {
     std::num::wrapping_add_u64(line, 1)
 }
@@ -62,7 +62,7 @@ pub(crate) fn store_of(ports: u8, size: u16, window: u16) -> usize
 }
 
 pub(crate) fn output_of(kind: u8, ports: u8, size: u16) -> usize
-    ensures { result ≡ outputOf kind ports size }
+    ensures { result ≡ output_of kind ports size }
 {
     let frames = kinds::epoch_frames(kind);
     ports as usize * frames as usize * size as usize

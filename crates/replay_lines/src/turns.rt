@@ -5,9 +5,9 @@ ghost use Rattle.recording.specs.Later.{later};
 ghost use Rattle.replay_lines.specs.Laws.Lent.{Lent};
 ghost use Rattle.replay_lines.specs.Laws.Starts.{Small};
 ghost use Rattle.replay_lines.specs.Output.{ROOM};
-ghost use Rattle.replay_lines.specs.Turn.{answeredSaid, answeredTurn, endedTurn, fetchOutBy, fetchRecordBy, fetchRowsBy, fetchedSaid, fetchedTurn, framedTurn, framedRows, framedStore, isLent, isOpen, open_rows, openSaid, openTurn, openWithRows, openWithSaid, openWithTurn, payloadAt, placed, readRows, readSaid, readStore, readTurn, recordNow, refusedTurn, reportOut, reportRows, reportSaid, reportTurn, reportedTurn, readOnTurn, rowsStarted, skipTurn, skippedTo, startable, startedTurn, storeBy, turn_of, turnOut, turnRows, turnSaid, turnStore, waitingTurn};
-ghost use Rattle.rows.specs.Rows.{rowsFor};
-ghost use Rattle.text.specs.Fields.{bytesIn};
+ghost use Rattle.replay_lines.specs.Turn.{answered_said, answered_turn, ended_turn, fetch_out_by, fetch_record_by, fetch_rows_by, fetched_said, fetched_turn, framed_turn, framed_rows, framed_store, is_lent, is_open, open_rows, open_said, open_turn, open_with_rows, open_with_said, open_with_turn, payload_at, placed, read_rows, read_said, read_store, read_turn, record_now, refused_turn, report_out, report_rows, report_said, report_turn, reported_turn, read_on_turn, rows_started, skip_turn, skipped_to, startable, started_turn, store_by, turn_of, turn_out, turn_rows, turn_said, turn_store, waiting_turn};
+ghost use Rattle.rows.specs.Rows.{rows_for};
+ghost use Rattle.text.specs.Fields.{bytes_in};
 
 use crate::replay::{Phase, Replay};
 use crate::{changes, lent, output, replay};
@@ -35,7 +35,7 @@ const ROWS_MOST: usize = 321;
 const SIZE_MOST: u16 = 2340;
 
 fn refused(replay: Replay, at: usize) -> Replayed
-    ensures { result ≡ placed at (refusedTurn replay) }
+    ensures { result ≡ placed at (refused_turn replay) }
 {
     Replayed {
         replay,
@@ -47,7 +47,7 @@ fn refused(replay: Replay, at: usize) -> Replayed
 }
 
 fn waiting(replay: Replay, at: usize) -> Replayed
-    ensures { result ≡ placed at (waitingTurn replay) }
+    ensures { result ≡ placed at (waiting_turn replay) }
 {
     Replayed {
         replay,
@@ -61,7 +61,7 @@ fn waiting(replay: Replay, at: usize) -> Replayed
 // A line refused, and what comes then.
 fn answered(replay: Replay, phase: Phase, number: u8, used: usize, said: &mut [u8]) -> Replayed
     requires { ROOM ≤ length said.old }
-    ensures { (result ≡ answeredTurn replay phase number used) × (said.new ≡ answeredSaid replay number said.old) }
+    ensures { (result ≡ answered_turn replay phase number used) × (said.new ≡ answered_said replay number said.old) }
 {
     let line = replay::next_line(replay.line);
     let written = output::put_answer(number, line, said);
@@ -106,7 +106,7 @@ fn is_startable(settings: Settings, store: usize) -> bool
 // The group's receiver is started.
 fn open_as(replay: Replay, settings: Settings, next: usize, rows: &mut [[u8; 16]]) -> Replayed
     requires { Small settings × (321 ≤ length rows.old) }
-    ensures { (result ≡ startedTurn replay settings next) × (rows.new ≡ rowsStarted settings rows.old) }
+    ensures { (result ≡ started_turn replay settings next) × (rows.new ≡ rows_started settings rows.old) }
 {
     let ports = settings.ports as u8;
     let size = settings.size as u16;
@@ -142,9 +142,9 @@ fn open_with(
     said: &mut [u8],
 ) -> Replayed
     requires { (ROOM ≤ length said.old) × (321 ≤ length rows.old) × (at ≤ next) }
-    ensures { (result ≡ placed at (openWithTurn replay settings (next - at) store))
-        × (rows.new ≡ openWithRows settings store rows.old)
-        × (said.new ≡ openWithSaid replay settings store said.old) }
+    ensures { (result ≡ placed at (open_with_turn replay settings (next - at) store))
+        × (rows.new ≡ open_with_rows settings store rows.old)
+        × (said.new ≡ open_with_said replay settings store said.old) }
 {
     if is_startable(settings, store) {
         return open_as(replay, settings, next, rows);
@@ -162,9 +162,9 @@ fn open(
     store: usize,
     said: &mut [u8],
 ) -> Replayed
-    ensures { (result ≡ placed at (openTurn replay (drop at text.now) last (length rows.old) store (length said.old)))
+    ensures { (result ≡ placed at (open_turn replay (drop at text.now) last (length rows.old) store (length said.old)))
         × (rows.new ≡ open_rows (drop at text.now) last rows.old store (length said.old))
-        × (said.new ≡ openSaid replay (drop at text.now) last (length rows.old) store said.old) }
+        × (said.new ≡ open_said replay (drop at text.now) last (length rows.old) store said.old) }
 {
     if said.len() < REPLAY_ROOM {
         return refused(replay, at);
@@ -187,7 +187,7 @@ fn open(
 
 // The store of a group that starts is cleared.
 fn store_by(phase: Phase, store: &mut [u8])
-    ensures { store.new ≡ storeBy phase store.old }
+    ensures { store.new ≡ store_by phase store.old }
 {
     match phase {
         Phase::Settings => {}
@@ -208,10 +208,10 @@ fn open_all(
     store: &mut [u8],
     said: &mut [u8],
 ) -> Replayed
-    ensures { (result ≡ placed at (openTurn replay (drop at text.now) last (length rows.old) (length store.old) (length said.old)))
+    ensures { (result ≡ placed at (open_turn replay (drop at text.now) last (length rows.old) (length store.old) (length said.old)))
         × (rows.new ≡ open_rows (drop at text.now) last rows.old (length store.old) (length said.old))
-        × (store.new ≡ storeBy (openTurn replay (drop at text.now) last (length rows.old) (length store.old) (length said.old)).replay.phase store.old)
-        × (said.new ≡ openSaid replay (drop at text.now) last (length rows.old) (length store.old) said.old) }
+        × (store.new ≡ store_by (open_turn replay (drop at text.now) last (length rows.old) (length store.old) (length said.old)).replay.phase store.old)
+        × (said.new ≡ open_said replay (drop at text.now) last (length rows.old) (length store.old) said.old) }
 {
     let done = open(replay, text, at, last, rows, store.len(), said);
     let after = done.replay;
@@ -222,7 +222,7 @@ fn open_all(
 
 // What is lent is long enough for the receiver and for what is printed.
 fn is_lent(replay: Replay, rows: usize, store: usize, out: usize, said: usize) -> bool
-    ensures { result ≡ isLent replay rows store out said }
+    ensures { result ≡ is_lent replay rows store out said }
 {
     let n = group::rows_for(replay.ports);
     let m = replay::store_of(replay.ports, replay.size, replay.window);
@@ -236,7 +236,7 @@ fn is_lent(replay: Replay, rows: usize, store: usize, out: usize, said: usize) -
 }
 
 fn is_open(found: Record) -> bool
-    ensures { result ≡ isOpen found }
+    ensures { result ≡ is_open found }
 {
     match found {
         Record::Frame(_, _, _, _, _) => false,
@@ -249,7 +249,7 @@ fn is_open(found: Record) -> bool
 
 // The record at a place of a text; the last line may lack its end.
 fn record_now(text: &[u8], at: usize, last: bool, ports: u8, size: u16) -> Record
-    ensures { result ≡ later at (recordNow ports size last (drop at text.now)) }
+    ensures { result ≡ later at (record_now ports size last (drop at text.now)) }
 {
     let found = recording::record_at(text, at, ports as u32, size as u32);
     if is_open(found) & last {
@@ -261,7 +261,7 @@ fn record_now(text: &[u8], at: usize, last: bool, ports: u8, size: u16) -> Recor
 // The payload's digits as bytes.
 fn read_payload(text: &[u8], place: usize, payload: &mut [u8])
     requires { length payload.old ≤ 2340 }
-    ensures { payload.new ≡ bytesIn (slice place (place + length payload.old + length payload.old) text.now) payload.old }
+    ensures { payload.new ≡ bytes_in (slice place (place + length payload.old + length payload.old) text.now) payload.old }
 {
     let n = payload.len();
     if place <= text.len() {
@@ -294,9 +294,9 @@ fn hand(
     rows: &mut [[u8; 16]],
     store: &mut [u8],
 )
-    requires { (replay.size ≤ 2340) × (payload.old ≡ replicate replay.size 0) × (rowsFor replay.ports ≤ length rows.old) × (replay.ports * replay.window * (replay.size + 1) ≤ length store.old) }
-    ensures { (rows.new ≡ framedRows replay port h4 flag (payloadAt replay.size place text.now) rows.old store.old)
-        × (store.new ≡ framedStore replay port h4 flag (payloadAt replay.size place text.now) rows.old store.old) }
+    requires { (replay.size ≤ 2340) × (payload.old ≡ replicate replay.size 0) × (rows_for replay.ports ≤ length rows.old) × (replay.ports * replay.window * (replay.size + 1) ≤ length store.old) }
+    ensures { (rows.new ≡ framed_rows replay port h4 flag (payload_at replay.size place text.now) rows.old store.old)
+        × (store.new ≡ framed_store replay port h4 flag (payload_at replay.size place text.now) rows.old store.old) }
 {
     read_payload(text, place, payload);
     let n = group::rows_for(replay.ports);
@@ -322,9 +322,9 @@ fn take_frame(
     rows: &mut [[u8; 16]],
     store: &mut [u8],
 )
-    requires { (replay.size ≤ 2340) × (rowsFor replay.ports ≤ length rows.old) × (replay.ports * replay.window * (replay.size + 1) ≤ length store.old) }
-    ensures { (rows.new ≡ framedRows replay port h4 flag (payloadAt replay.size place text.now) rows.old store.old)
-        × (store.new ≡ framedStore replay port h4 flag (payloadAt replay.size place text.now) rows.old store.old) }
+    requires { (replay.size ≤ 2340) × (rows_for replay.ports ≤ length rows.old) × (replay.ports * replay.window * (replay.size + 1) ≤ length store.old) }
+    ensures { (rows.new ≡ framed_rows replay port h4 flag (payload_at replay.size place text.now) rows.old store.old)
+        × (store.new ≡ framed_store replay port h4 flag (payload_at replay.size place text.now) rows.old store.old) }
 {
     let size = replay.size as usize;
     if size <= 64 {
@@ -357,7 +357,7 @@ fn take_frame(
 }
 
 fn framed(replay: Replay, next: usize) -> Replayed
-    ensures { result ≡ framedTurn replay next }
+    ensures { result ≡ framed_turn replay next }
 {
     let line = replay::next_line(replay.line);
     Replayed {
@@ -395,10 +395,10 @@ fn read(
     out: usize,
     said: &mut [u8],
 ) -> Replayed
-    ensures { (result ≡ placed at (readTurn replay (drop at text.now) last (length rows.old) (length store.old) out (length said.old)))
-        × (rows.new ≡ readRows replay (drop at text.now) last rows.old store.old out (length said.old))
-        × (store.new ≡ readStore replay (drop at text.now) last rows.old store.old out (length said.old))
-        × (said.new ≡ readSaid replay (drop at text.now) last (length rows.old) (length store.old) out said.old) }
+    ensures { (result ≡ placed at (read_turn replay (drop at text.now) last (length rows.old) (length store.old) out (length said.old)))
+        × (rows.new ≡ read_rows replay (drop at text.now) last rows.old store.old out (length said.old))
+        × (store.new ≡ read_store replay (drop at text.now) last rows.old store.old out (length said.old))
+        × (said.new ≡ read_said replay (drop at text.now) last (length rows.old) (length store.old) out said.old) }
 {
     if !is_lent(replay, rows.len(), store.len(), out, said.len()) {
         return refused(replay, at);
@@ -418,7 +418,7 @@ fn read(
 
 // No report is due: the next line may come.
 fn read_on(replay: Replay, at: usize) -> Replayed
-    ensures { result ≡ placed at (readOnTurn replay) }
+    ensures { result ≡ placed at (read_on_turn replay) }
 {
     Replayed {
         replay: Replay {
@@ -439,7 +439,7 @@ fn read_on(replay: Replay, at: usize) -> Replayed
 
 fn reported(replay: Replay, at: usize, written: usize) -> Replayed
     requires { 1 ≤ replay.left }
-    ensures { result ≡ placed at (reportedTurn replay written) }
+    ensures { result ≡ placed at (reported_turn replay written) }
 {
     Replayed {
         replay: Replay {
@@ -460,10 +460,10 @@ fn reported(replay: Replay, at: usize, written: usize) -> Replayed
 
 // A fetch of one report on the receiver's own parts.
 fn fetch(replay: Replay, rows: &mut [[u8; 16]], store: &[u8], out: &mut [u8]) -> [u8; 8]
-    requires { (rowsFor replay.ports ≤ length rows.old) × (replay.ports * replay.window * (replay.size + 1) ≤ length store.now) }
-    ensures { (result ≡ fetchRecordBy replay rows.old store.now out.old)
-        × (rows.new ≡ fetchRowsBy replay rows.old store.now out.old)
-        × (out.new ≡ fetchOutBy replay rows.old store.now out.old) }
+    requires { (rows_for replay.ports ≤ length rows.old) × (replay.ports * replay.window * (replay.size + 1) ≤ length store.now) }
+    ensures { (result ≡ fetch_record_by replay rows.old store.now out.old)
+        × (rows.new ≡ fetch_rows_by replay rows.old store.now out.old)
+        × (out.new ≡ fetch_out_by replay rows.old store.now out.old) }
 {
     let mut given = [0u8; 8];
     let n = group::rows_for(replay.ports);
@@ -482,10 +482,10 @@ fn report_now(
     said: &mut [u8],
 ) -> Replayed
     requires { Lent replay (length rows.old) (length store.now) (length out.old) (length said.old) × (1 ≤ replay.left) }
-    ensures { (result ≡ placed at (fetchedTurn replay rows.old store.now out.old))
-        × (rows.new ≡ fetchRowsBy replay rows.old store.now out.old)
-        × (out.new ≡ fetchOutBy replay rows.old store.now out.old)
-        × (said.new ≡ fetchedSaid replay rows.old store.now out.old said.old) }
+    ensures { (result ≡ placed at (fetched_turn replay rows.old store.now out.old))
+        × (rows.new ≡ fetch_rows_by replay rows.old store.now out.old)
+        × (out.new ≡ fetch_out_by replay rows.old store.now out.old)
+        × (said.new ≡ fetched_said replay rows.old store.now out.old said.old) }
 {
     let before = changes::states_in(replay.kind, rows);
     let n = group::rows_for(replay.ports);
@@ -516,10 +516,10 @@ fn report(
     out: &mut [u8],
     said: &mut [u8],
 ) -> Replayed
-    ensures { (result ≡ placed at (reportTurn replay rows.old store.now out.old (length said.old)))
-        × (rows.new ≡ reportRows replay rows.old store.now out.old (length said.old))
-        × (out.new ≡ reportOut replay rows.old store.now out.old (length said.old))
-        × (said.new ≡ reportSaid replay rows.old store.now out.old said.old) }
+    ensures { (result ≡ placed at (report_turn replay rows.old store.now out.old (length said.old)))
+        × (rows.new ≡ report_rows replay rows.old store.now out.old (length said.old))
+        × (out.new ≡ report_out replay rows.old store.now out.old (length said.old))
+        × (said.new ≡ report_said replay rows.old store.now out.old said.old) }
 {
     if !is_lent(replay, rows.len(), store.len(), out.len(), said.len()) {
         return refused(replay, at);
@@ -536,7 +536,7 @@ fn report(
 
 // The rest of a line that is too long.
 fn skip(replay: Replay, text: &[u8], at: usize, last: bool) -> Replayed
-    ensures { result ≡ placed at (skipTurn replay (drop at text.now) last) }
+    ensures { result ≡ placed at (skip_turn replay (drop at text.now) last) }
 {
     let end = text::piece_end(text, at, text.len(), b'\n');
     if end < text.len() {
@@ -575,7 +575,7 @@ fn skip(replay: Replay, text: &[u8], at: usize, last: bool) -> Replayed
 }
 
 fn skipped_to(last: bool) -> Phase
-    ensures { result ≡ skippedTo last }
+    ensures { result ≡ skipped_to last }
 {
     if last {
         Phase::Reading
@@ -586,7 +586,7 @@ fn skipped_to(last: bool) -> Phase
 
 // The first line was refused: the rest is swallowed.
 fn swallow(replay: Replay, text: &[u8], at: usize) -> Replayed
-    ensures { result ≡ placed at (endedTurn replay (length (drop at text.now))) }
+    ensures { result ≡ placed at (ended_turn replay (length (drop at text.now))) }
 {
     Replayed {
         replay,
@@ -610,10 +610,10 @@ pub fn turn(
     said: &mut [u8],
 ) -> Replayed
     ensures { (result ≡ placed at (turn_of replay (drop at text.now) last rows.old store.old out.old (length said.old)))
-        × (rows.new ≡ turnRows replay (drop at text.now) last rows.old store.old out.old (length said.old))
-        × (store.new ≡ turnStore replay (drop at text.now) last rows.old store.old out.old (length said.old))
-        × (out.new ≡ turnOut replay rows.old store.old out.old (length said.old))
-        × (said.new ≡ turnSaid replay (drop at text.now) last rows.old store.old out.old said.old) }
+        × (rows.new ≡ turn_rows replay (drop at text.now) last rows.old store.old out.old (length said.old))
+        × (store.new ≡ turn_store replay (drop at text.now) last rows.old store.old out.old (length said.old))
+        × (out.new ≡ turn_out replay rows.old store.old out.old (length said.old))
+        × (said.new ≡ turn_said replay (drop at text.now) last rows.old store.old out.old said.old) }
 {
     let phase = replay.phase;
     match phase {

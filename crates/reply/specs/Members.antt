@@ -10,17 +10,17 @@ abbrev pub no_word : ℕ
 no_word = 255
 
 -- member states
-abbrev pub idleState : ℕ
-idleState = 0
+abbrev pub idle_state : ℕ
+idle_state = 0
 
-abbrev pub failState : ℕ
-failState = 1
+abbrev pub fail_state : ℕ
+fail_state = 1
 
-abbrev pub okState : ℕ
-okState = 2
+abbrev pub ok_state : ℕ
+ok_state = 2
 
-abbrev pub portAt : List Port → ℕ → Port
-portAt ports i =
+abbrev pub port_at : List Port → ℕ → Port
+port_at ports i =
     get_or ports i
     (record {
       word = 0;
@@ -36,22 +36,22 @@ portAt ports i =
     })
 
 -- 'A port with no good packet yet, or whose last good word is IDLE, is IDLE.'
-abbrev pub isIdle : Port → Bool
-isIdle p = p.word == no_word || p.word == IDLE
+abbrev pub is_idle : Port → Bool
+is_idle p = p.word == no_word || p.word == IDLE
 
 -- 'Others are candidates when readable with a number below 64.'
-abbrev pub isCandidate : Port → Bool
-isCandidate p = not (isIdle p) && p.readable && p.number <? 64
+abbrev pub is_candidate : Port → Bool
+is_candidate p = not (is_idle p) && p.readable && p.number <? 64
 
 -- 'were OK under the same number'
-abbrev pub wasOk : Port → Bool
-wasOk p = p.state == okState && p.state_number == p.number
+abbrev pub was_ok : Port → Bool
+was_ok p = p.state == ok_state && p.state_number == p.number
 
 -- 'A FAIL port goes OK only when its claim has stood for the wait-to-restore' (02, 2026-03): one that still waits
-abbrev pub isRestoring : Port → Bool
-isRestoring p = p.state == failState && p.elapsed <? p.restore
+abbrev pub is_restoring : Port → Bool
+is_restoring p = p.state == fail_state && p.elapsed <? p.restore
 
 -- 'An OK port that loses its claim goes FAIL only when it has stayed so for the hold-off; one that turns IDLE does so at once' (02, 2026-03): one
 -- that has hold-off left
-abbrev pub hasHoldOff : Port → Bool
-hasHoldOff p = p.state == okState && p.elapsed <? p.hold_off && p.state_number <? 64 && not (isIdle p)
+abbrev pub has_hold_off : Port → Bool
+has_hold_off p = p.state == ok_state && p.elapsed <? p.hold_off && p.state_number <? 64 && not (is_idle p)

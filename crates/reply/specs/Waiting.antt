@@ -5,28 +5,28 @@ use Rattle.ground.specs.Counting.Each.{each}
 use Rattle.ground.specs.Counting.Words.{some}
 use Rattle.reply.specs.declared.members.Port.{Port}
 use Rattle.reply.specs.declared.waiting.Standing.{Standing}
-use Rattle.reply.specs.Choosing.{FREE, granted, holderOf, holders, allFree}
-use Rattle.reply.specs.Members.{failState, hasHoldOff, idleState, isCandidate, isIdle, isRestoring, okState, portAt}
+use Rattle.reply.specs.Choosing.{FREE, granted, holder_of, holders, all_free}
+use Rattle.reply.specs.Members.{fail_state, has_hold_off, idle_state, is_candidate, is_idle, is_restoring, ok_state, port_at}
 
 -- a candidate whose number no other port has
-abbrev pub hasClaim : (chosen : List ℕ) (port : ℕ) (p : Port) → Bool
-hasClaim chosen i p =
-    isCandidate p && (holderOf chosen p.number == FREE || holderOf chosen p.number == i)
+abbrev pub has_claim : (chosen : List ℕ) (port : ℕ) (p : Port) → Bool
+has_claim chosen i p =
+    is_candidate p && (holder_of chosen p.number == FREE || holder_of chosen p.number == i)
 
 -- 'During hold-off the port keeps its number against others': one that has lost its claim and has hold-off left keeps the number under which it
 -- is OK
-abbrev pub mustKeep : (chosen : List ℕ) (port : ℕ) (p : Port) → Bool
-mustKeep chosen i p = hasHoldOff p && not (hasClaim chosen i p)
+abbrev pub must_keep : (chosen : List ℕ) (port : ℕ) (p : Port) → Bool
+must_keep chosen i p = has_hold_off p && not (has_claim chosen i p)
 
 -- such a port joins where nobody keeps that number yet
-abbrev pub joinsKept : (chosen kept : List ℕ) (port : ℕ) (p : Port) → Bool
-joinsKept chosen kept i p = mustKeep chosen i p && holderOf kept p.state_number == FREE
+abbrev pub joins_kept : (chosen kept : List ℕ) (port : ℕ) (p : Port) → Bool
+joins_kept chosen kept i p = must_keep chosen i p && holder_of kept p.state_number == FREE
 
-unfoldable pub someJoin : (chosen kept : List ℕ) (ports : List Port) (count : ℕ) → Bool
-someJoin chosen kept ports n = some n (λ i. joinsKept chosen kept i (portAt ports i))
+unfoldable pub some_join : (chosen kept : List ℕ) (ports : List Port) (count : ℕ) → Bool
+some_join chosen kept ports n = some n (λ i. joins_kept chosen kept i (port_at ports i))
 
-unfoldable pub moreKept : (chosen : List ℕ) (ports : List Port) (count : ℕ) (kept : List ℕ) → List ℕ
-moreKept chosen ports n kept = granted (λ i. mustKeep chosen i (portAt ports i)) (λ i. (portAt ports i).state_number) n kept
+unfoldable pub more_kept : (chosen : List ℕ) (ports : List Port) (count : ℕ) (kept : List ℕ) → List ℕ
+more_kept chosen ports n kept = granted (λ i. must_keep chosen i (port_at ports i)) (λ i. (port_at ports i).state_number) n kept
 
 -- Whether a port has lost its claim can hang on who else keeps a number. So it goes in rounds: the candidates choose, those that lose keep their numbers, and
 -- again, until none joins.
@@ -34,43 +34,43 @@ unfoldable pub rounds : (ports : List Port) (count k : ℕ) (kept : List ℕ) �
 rounds ports n zero kept = kept
 rounds ports n (suc k) kept =
     let chosen = holders ports n kept in
-    if someJoin chosen kept ports n then rounds ports n k (moreKept chosen ports n kept) else kept
+    if some_join chosen kept ports n then rounds ports n k (more_kept chosen ports n kept) else kept
 
 -- as many rounds as ports are enough (`none-joins` of Laws/Keeping.antt)
-unfoldable pub keptNumbers : List Port → ℕ → List ℕ
-keptNumbers ports n = rounds ports n n allFree
+unfoldable pub kept_numbers : List Port → ℕ → List ℕ
+kept_numbers ports n = rounds ports n n all_free
 
 unfoldable pub chosen_of : List Port → ℕ → List ℕ
-chosen_of ports n = holders ports n (keptNumbers ports n)
+chosen_of ports n = holders ports n (kept_numbers ports n)
 
 abbrev pub standing : (state number elapsed : ℕ) → Standing
 standing state number elapsed = record { state = state; number = number; elapsed = elapsed }
 
 -- with its claim: 'A FAIL port goes OK only when its claim has stood for the wait-to-restore.'
-abbrev pub withClaim : Port → Standing
-withClaim p = if isRestoring p then standing failState p.number (p.elapsed + 1) else standing okState p.number 0
+abbrev pub with_claim : Port → Standing
+with_claim p = if is_restoring p then standing fail_state p.number (p.elapsed + 1) else standing ok_state p.number 0
 
 -- one that keeps its number, under that number
-abbrev pub keepsNumber : (chosen : List ℕ) (port : ℕ) (p : Port) → Bool
-keepsNumber chosen i p = p.state == okState && p.elapsed <? p.hold_off && holderOf chosen p.state_number == i
+abbrev pub keeps_number : (chosen : List ℕ) (port : ℕ) (p : Port) → Bool
+keeps_number chosen i p = p.state == ok_state && p.elapsed <? p.hold_off && holder_of chosen p.state_number == i
 
 -- without: 'An OK port that loses its claim goes FAIL only when it has stayed so for the hold-off'
-abbrev pub withoutClaim : (chosen : List ℕ) (port : ℕ) (p : Port) → Standing
-withoutClaim chosen i p =
-    if keepsNumber chosen i p then standing okState p.state_number (p.elapsed + 1) else standing failState p.number 0
+abbrev pub without_claim : (chosen : List ℕ) (port : ℕ) (p : Port) → Standing
+without_claim chosen i p =
+    if keeps_number chosen i p then standing ok_state p.state_number (p.elapsed + 1) else standing fail_state p.number 0
 
 -- 'one that turns IDLE does so at once'
-unfoldable pub standingBy : (chosen : List ℕ) (port : ℕ) (p : Port) → Standing
-standingBy chosen i p =
-    if isIdle p then standing idleState p.number 0 else if hasClaim chosen i p then withClaim p else withoutClaim chosen i p
+unfoldable pub standing_by : (chosen : List ℕ) (port : ℕ) (p : Port) → Standing
+standing_by chosen i p =
+    if is_idle p then standing idle_state p.number 0 else if has_claim chosen i p then with_claim p else without_claim chosen i p
 
-abbrev pub noStanding : Standing
-noStanding = standing idleState 0 0
+abbrev pub no_standing : Standing
+no_standing = standing idle_state 0 0
 
 -- what a report leaves of each port: its state, the number under which it has it, and at how many reports its timer has run
-unfoldable pub standingsOf : List Port → ℕ → List Standing
-standingsOf ports n = each n (λ i. standingBy (chosen_of ports n) i (portAt ports i)) (replicate 64 noStanding)
+unfoldable pub standings_of : List Port → ℕ → List Standing
+standings_of ports n = each n (λ i. standing_by (chosen_of ports n) i (port_at ports i)) (replicate 64 no_standing)
 
 -- and of one port
-abbrev pub standingAt : (ports : List Port) (count port : ℕ) → Standing
-standingAt ports n i = get_or (standingsOf ports n) i noStanding
+abbrev pub standing_at : (ports : List Port) (count port : ℕ) → Standing
+standing_at ports n i = get_or (standings_of ports n) i no_standing

@@ -4,21 +4,21 @@ use Rattle.std.specs.Bool.{beq}
 use Rattle.ground.specs.Plain.{if◌then◌else◌, ◌==◌}
 use Rattle.ground.specs.Counting.Each.{each}
 use Rattle.reply.specs.declared.members.Port.{Port}
-use Rattle.reply.specs.Choosing.{granted, holderOf, allFree}
-use Rattle.reply.specs.Members.{failState, idleState, isCandidate, isIdle, okState, portAt, wasOk}
+use Rattle.reply.specs.Choosing.{granted, holder_of, all_free}
+use Rattle.reply.specs.Members.{fail_state, idle_state, is_candidate, is_idle, ok_state, port_at, was_ok}
 
-unfoldable pub plainClaims : (first : Bool) (ports : List Port) (count : ℕ) (holders : List ℕ) → List ℕ
-plainClaims first ports n holders =
-    granted (λ i. isCandidate (portAt ports i) && beq (wasOk (portAt ports i)) first) (λ i. (portAt ports i).number) n holders
+unfoldable pub plain_claims : (first : Bool) (ports : List Port) (count : ℕ) (holders : List ℕ) → List ℕ
+plain_claims first ports n holders =
+    granted (λ i. is_candidate (port_at ports i) && beq (was_ok (port_at ports i)) first) (λ i. (port_at ports i).number) n holders
 
 -- 'Candidates that were OK under the same number choose first, then the rest, each in port order.'
-unfoldable pub plainHolders : List Port → ℕ → List ℕ
-plainHolders ports n = plainClaims false ports n (plainClaims true ports n allFree)
+unfoldable pub plain_holders : List Port → ℕ → List ℕ
+plain_holders ports n = plain_claims false ports n (plain_claims true ports n all_free)
 
 -- 'One whose number is still free becomes OK; all else are FAIL.'
-unfoldable pub stateBy : (chosen : List ℕ) (port : ℕ) (p : Port) → ℕ
-stateBy chosen i p =
-    if isIdle p then idleState else if isCandidate p && holderOf chosen p.number == i then okState else failState
+unfoldable pub state_by : (chosen : List ℕ) (port : ℕ) (p : Port) → ℕ
+state_by chosen i p =
+    if is_idle p then idle_state else if is_candidate p && holder_of chosen p.number == i then ok_state else fail_state
 
-unfoldable pub statesOf : List Port → ℕ → List ℕ
-statesOf ports n = each n (λ i. stateBy (plainHolders ports n) i (portAt ports i)) (replicate 64 idleState)
+unfoldable pub states_of : List Port → ℕ → List ℕ
+states_of ports n = each n (λ i. state_by (plain_holders ports n) i (port_at ports i)) (replicate 64 idle_state)

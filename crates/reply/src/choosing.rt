@@ -1,7 +1,7 @@
 // Candidates choose their numbers (01, 'Member states and reply').
 ghost use Rattle.std.specs.Prelude.{◌≡◌, ◌&&◌, ◌≤◌};
 ghost use Rattle.ground.specs.Plain.{◌==◌};
-ghost use Rattle.reply.specs.Choosing.{FREE, chooses, claims, grant, holderOf, holders};
+ghost use Rattle.reply.specs.Choosing.{FREE, chooses, claims, grant, holder_of, holders};
 
 use crate::members;
 use crate::members::Port;
@@ -11,7 +11,7 @@ pub(crate) const NO_PORT: u8 = 255;
 
 // The port that has a number.
 pub(crate) fn holder_of(chosen: [u8; 64], number: u8) -> u8
-    ensures { result ≡ holderOf chosen number }
+    ensures { result ≡ holder_of chosen number }
 {
     if number < 64 {
         chosen[number as usize]

@@ -1,6 +1,6 @@
 // A port as its member state is worked out.
 ghost use Rattle.std.specs.Prelude.{◌≡◌};
-ghost use Rattle.reply.specs.Members.{hasHoldOff, isCandidate, isIdle, isRestoring, wasOk};
+ghost use Rattle.reply.specs.Members.{has_hold_off, is_candidate, is_idle, is_restoring, was_ok};
 
 pub(crate) use ground::size_of;
 use packet::Word;
@@ -36,33 +36,33 @@ impl Port {
 }
 
 pub(crate) fn is_idle(port: Port) -> bool
-    ensures { result ≡ isIdle port }
+    ensures { result ≡ is_idle port }
 {
     (port.word == Port::NO_WORD) | (port.word == Word::IDLE.0)
 }
 
 pub(crate) fn is_candidate(port: Port) -> bool
-    ensures { result ≡ isCandidate port }
+    ensures { result ≡ is_candidate port }
 {
     !is_idle(port) & port.readable & (port.number < 64)
 }
 
 pub(crate) fn was_ok(port: Port) -> bool
-    ensures { result ≡ wasOk port }
+    ensures { result ≡ was_ok port }
 {
     (port.state == Port::OK) & (port.state_number == port.number)
 }
 
 // A FAIL port whose claim has not stood long enough.
 pub(crate) fn is_restoring(port: Port) -> bool
-    ensures { result ≡ isRestoring port }
+    ensures { result ≡ is_restoring port }
 {
     (port.state == Port::FAIL) & (port.elapsed < port.restore)
 }
 
 // An OK port that can lose its claim and not go FAIL yet.
 pub(crate) fn has_hold_off(port: Port) -> bool
-    ensures { result ≡ hasHoldOff port }
+    ensures { result ≡ has_hold_off port }
 {
     (port.state == Port::OK)
         & (port.elapsed < port.hold_off)

@@ -2,7 +2,7 @@
 ghost use Rattle.std.specs.Prelude.{◌≡◌, [], ◌∷◌, ◌+◌, ◌*◌, ◌≤◌};
 ghost use Rattle.ground.specs.Plain.{if◌then◌else◌, ◌==◌};
 ghost use Rattle.reply.specs.Members.{size_of};
-ghost use Rattle.reply.specs.Telling.{ackOf, failBit, hasChanged, hasLeft, isListed, mstFrom, mstOf, okHolds, turnsOver};
+ghost use Rattle.reply.specs.Telling.{ack_of, fail_bit, has_changed, has_left, is_listed, mst_from, mst_of, ok_holds, turns_over};
 
 use crate::members;
 use crate::members::Port;
@@ -11,7 +11,7 @@ use packet::{Word, kinds};
 // Whether an OK port holds a number.
 fn ok_holds(ports: [Port; 64], n: usize, number: u8) -> bool
     requires { n ≤ 64 }
-    ensures { result ≡ okHolds ports n number }
+    ensures { result ≡ ok_holds ports n number }
 {
     let mut found = false;
     let mut i = 0;
@@ -25,7 +25,7 @@ fn ok_holds(ports: [Port; 64], n: usize, number: u8) -> bool
 
 fn fail_bit(ports: [Port; 64], n: usize, number: u8) -> u8
     requires { n ≤ 64 }
-    ensures { (result ≡ failBit ports n number) × (result ≤ 1) }
+    ensures { (result ≡ fail_bit ports n number) × (result ≤ 1) }
 {
     if ok_holds(ports, n, number) { 0 } else { 1 }
 }
@@ -39,7 +39,7 @@ fn eight_bits(a: u8, b: u8, c: u8, d: u8, e: u8, f: u8, g: u8, h: u8) -> u8
 
 fn mst_from(ports: [Port; 64], n: usize, first: u8) -> u8
     requires { (n ≤ 64) × (first + 7 ≤ 255) }
-    ensures { result ≡ mstFrom ports n first }
+    ensures { result ≡ mst_from ports n first }
 {
     eight_bits(
         fail_bit(ports, n, first),
@@ -55,7 +55,7 @@ fn mst_from(ports: [Port; 64], n: usize, first: u8) -> u8
 
 // MST of an epoch, from the states in the ports.
 pub fn mst(kind: u8, ports: [Port; 64], count: u8, epoch: u8) -> u8
-    ensures { result ≡ mstOf kind ports (size_of count) epoch }
+    ensures { result ≡ mst_of kind ports (size_of count) epoch }
 {
     let n = members::size_of(count);
     let first = kinds::mst_first(kind, epoch);
@@ -63,13 +63,13 @@ pub fn mst(kind: u8, ports: [Port; 64], count: u8, epoch: u8) -> u8
 }
 
 fn is_listed(word: u8) -> bool
-    ensures { result ≡ isListed word }
+    ensures { result ≡ is_listed word }
 {
     (word == Word::NORM.0) | (word == Word::EOS.0) | (word == Word::DNU.0)
 }
 
 fn has_changed(port: Port) -> bool
-    ensures { result ≡ hasChanged port }
+    ensures { result ≡ has_changed port }
 {
     let now = is_listed(port.word);
     let told = is_listed(port.told_word);
@@ -77,14 +77,14 @@ fn has_changed(port: Port) -> bool
 }
 
 fn has_left(port: Port) -> bool
-    ensures { result ≡ hasLeft port }
+    ensures { result ≡ has_left port }
 {
     (port.told_word == Word::ADD.0) & (port.word == Word::IDLE.0)
 }
 
 fn is_turning(ports: [Port; 64], n: usize) -> bool
     requires { n ≤ 64 }
-    ensures { result ≡ turnsOver ports n }
+    ensures { result ≡ turns_over ports n }
 {
     let mut turning = false;
     let mut i = 0;
@@ -107,7 +107,7 @@ fn turned(turning: bool, bit: u8) -> u8
 
 // RS-Ack after this report, from what it was.
 pub fn ack(ports: [Port; 64], count: u8, bit: u8) -> u8
-    ensures { result ≡ ackOf ports (size_of count) bit }
+    ensures { result ≡ ack_of ports (size_of count) bit }
 {
     let n = members::size_of(count);
     let turning = is_turning(ports, n);
@@ -116,7 +116,7 @@ pub fn ack(ports: [Port; 64], count: u8, bit: u8) -> u8
 
 // Of a port alone.
 pub fn ack_alone(port: Port, bit: u8) -> u8
-    ensures { result ≡ ackOf (port ∷ []) 1 bit }
+    ensures { result ≡ ack_of (port ∷ []) 1 bit }
 {
     let turning = has_changed(port) | has_left(port);
     turned(turning, bit)

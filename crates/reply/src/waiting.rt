@@ -3,8 +3,8 @@ ghost use Rattle.std.specs.Prelude.{◌≡◌, [], ◌∷◌, ◌+◌, ◌≤◌
 ghost use Rattle.ground.specs.Plain.{if◌then◌else◌};
 ghost use Rattle.ground.specs.Counting.Each.{each};
 ghost use Rattle.reply.specs.Choosing.{grant};
-ghost use Rattle.reply.specs.Members.{failState, hasHoldOff, okState, portAt, size_of};
-ghost use Rattle.reply.specs.Waiting.{chosen_of, hasClaim, joinsKept, keepsNumber, moreKept, mustKeep, noStanding, someJoin, standing, standingBy, standingsOf, withClaim, withoutClaim};
+ghost use Rattle.reply.specs.Members.{fail_state, has_hold_off, ok_state, port_at, size_of};
+ghost use Rattle.reply.specs.Waiting.{chosen_of, has_claim, joins_kept, keeps_number, more_kept, must_keep, no_standing, some_join, standing, standing_by, standings_of, with_claim, without_claim};
 
 use crate::members::Port;
 use crate::{choosing, members};
@@ -19,7 +19,7 @@ pub struct Standing {
 
 // Whether a port is a candidate whose number no other port has.
 fn has_claim(chosen: [u8; 64], i: u8, port: Port) -> bool
-    ensures { result ≡ hasClaim chosen i port }
+    ensures { result ≡ has_claim chosen i port }
 {
     let holder = choosing::holder_of(chosen, port.number);
     members::is_candidate(port) & ((holder == choosing::NO_PORT) | (holder == i))
@@ -27,20 +27,20 @@ fn has_claim(chosen: [u8; 64], i: u8, port: Port) -> bool
 
 // Whether a port keeps the number under which it is OK, having lost its claim.
 fn must_keep(chosen: [u8; 64], i: u8, port: Port) -> bool
-    ensures { result ≡ mustKeep chosen i port }
+    ensures { result ≡ must_keep chosen i port }
 {
     members::has_hold_off(port) & !has_claim(chosen, i, port)
 }
 
 fn joins_kept(chosen: [u8; 64], kept: [u8; 64], i: u8, port: Port) -> bool
-    ensures { result ≡ joinsKept chosen kept i port }
+    ensures { result ≡ joins_kept chosen kept i port }
 {
     let holder = choosing::holder_of(kept, port.state_number);
     must_keep(chosen, i, port) & (holder == choosing::NO_PORT)
 }
 
 fn keep_one(chosen: [u8; 64], kept: [u8; 64], i: u8, port: Port) -> [u8; 64]
-    ensures { result ≡ grant (mustKeep chosen i port) port.state_number kept i }
+    ensures { result ≡ grant (must_keep chosen i port) port.state_number kept i }
 {
     let number = port.state_number;
     if joins_kept(chosen, kept, i, port) {
@@ -53,7 +53,7 @@ fn keep_one(chosen: [u8; 64], kept: [u8; 64], i: u8, port: Port) -> [u8; 64]
 
 fn keep_more(chosen: [u8; 64], ports: [Port; 64], n: usize, before: [u8; 64]) -> [u8; 64]
     requires { n ≤ 64 }
-    ensures { result ≡ moreKept chosen ports n before }
+    ensures { result ≡ more_kept chosen ports n before }
 {
     let mut kept = before;
     let mut i = 0;
@@ -68,7 +68,7 @@ fn keep_more(chosen: [u8; 64], ports: [Port; 64], n: usize, before: [u8; 64]) ->
 
 fn some_join(chosen: [u8; 64], kept: [u8; 64], ports: [Port; 64], n: usize) -> bool
     requires { n ≤ 64 }
-    ensures { result ≡ someJoin chosen kept ports n }
+    ensures { result ≡ some_join chosen kept ports n }
 {
     let mut joining = false;
     let mut i = 0;
@@ -102,7 +102,7 @@ fn choose_in_rounds(ports: [Port; 64], n: usize) -> [u8; 64]
 }
 
 fn with_claim(port: Port) -> Standing
-    ensures { result ≡ withClaim port }
+    ensures { result ≡ with_claim port }
 {
     if members::is_restoring(port) {
         return Standing {
@@ -119,14 +119,14 @@ fn with_claim(port: Port) -> Standing
 }
 
 fn keeps_number(chosen: [u8; 64], i: u8, port: Port) -> bool
-    ensures { result ≡ keepsNumber chosen i port }
+    ensures { result ≡ keeps_number chosen i port }
 {
     let holder = choosing::holder_of(chosen, port.state_number);
     (port.state == Port::OK) & (port.elapsed < port.hold_off) & (holder == i)
 }
 
 fn without_claim(chosen: [u8; 64], i: u8, port: Port) -> Standing
-    ensures { result ≡ withoutClaim chosen i port }
+    ensures { result ≡ without_claim chosen i port }
 {
     if keeps_number(chosen, i, port) {
         return Standing {
@@ -143,7 +143,7 @@ fn without_claim(chosen: [u8; 64], i: u8, port: Port) -> Standing
 }
 
 fn standing_by(chosen: [u8; 64], i: u8, port: Port) -> Standing
-    ensures { result ≡ standingBy chosen i port }
+    ensures { result ≡ standing_by chosen i port }
 {
     if members::is_idle(port) {
         return Standing {
@@ -160,7 +160,7 @@ fn standing_by(chosen: [u8; 64], i: u8, port: Port) -> Standing
 
 fn standings_by(chosen: [u8; 64], ports: [Port; 64], n: usize) -> [Standing; 64]
     requires { n ≤ 64 }
-    ensures { result ≡ each n (λ i. standingBy chosen i (portAt ports i)) (replicate 64 noStanding) }
+    ensures { result ≡ each n (λ i. standing_by chosen i (port_at ports i)) (replicate 64 no_standing) }
 {
     let none = Standing {
         state: Port::IDLE,
@@ -179,7 +179,7 @@ fn standings_by(chosen: [u8; 64], ports: [Port; 64], n: usize) -> [Standing; 64]
 }
 
 fn without_claim_alone(port: Port) -> Standing
-    ensures { result ≡ (if hasHoldOff port then standing okState port.state_number (port.elapsed + 1) else standing failState port.number 0) }
+    ensures { result ≡ (if has_hold_off port then standing ok_state port.state_number (port.elapsed + 1) else standing fail_state port.number 0) }
 {
     if members::has_hold_off(port) {
         return Standing {
@@ -198,7 +198,7 @@ fn without_claim_alone(port: Port) -> Standing
 // What this report leaves of a port alone, with no table of 64 handed on. Nobody can take its number: it has its claim where it is a candidate, and
 // keeps its number where it has hold-off left.
 pub fn standing_alone(port: Port) -> Standing
-    ensures { result ≡ get_or (standingsOf (port ∷ []) 1) 0 noStanding }
+    ensures { result ≡ get_or (standings_of (port ∷ []) 1) 0 no_standing }
 {
     if members::is_idle(port) {
         return Standing {
@@ -215,7 +215,7 @@ pub fn standing_alone(port: Port) -> Standing
 
 // What this report leaves of each port.
 pub fn standings(ports: [Port; 64], count: u8) -> [Standing; 64]
-    ensures { result ≡ standingsOf ports (size_of count) }
+    ensures { result ≡ standings_of ports (size_of count) }
 {
     let n = members::size_of(count);
     let chosen = choose_in_rounds(ports, n);

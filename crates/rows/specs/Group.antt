@@ -2,7 +2,7 @@
 use Rattle.std.specs.Prelude.{◌∷◌, ◌+◌, ◌*◌, ◌/◌, ◌%◌, drop, get_or}
 use Rattle.ground.specs.Types.{Bytes, Rows}
 use Rattle.rows.specs.declared.group.Group.{Group}
-use Rattle.rows.specs.Rows.{row_in, putRow}
+use Rattle.rows.specs.Rows.{row_in, put_row}
 
 unfoldable pub group_of : Bytes → Group
 group_of row =
@@ -19,8 +19,8 @@ group_of row =
       rs_ack = get_or row 11 0;
     }
 
-unfoldable pub groupRow : Group → Bytes
-groupRow g =
+unfoldable pub group_row : Group → Bytes
+group_row g =
     g.kind
     ∷ g.count
     ∷ (g.payload / 256)
@@ -35,8 +35,8 @@ groupRow g =
     ∷ g.rs_ack
     ∷ g.spare
 
-unfoldable pub groupAt : Rows → Group
-groupAt s = group_of (row_in s 0)
+unfoldable pub group_at : Rows → Group
+group_at s = group_of (row_in s 0)
 
-unfoldable pub putGroup : Rows → Group → Rows
-putGroup s g = putRow s 0 (groupRow g)
+unfoldable pub put_group : Rows → Group → Rows
+put_group s g = put_row s 0 (group_row g)

@@ -2,10 +2,10 @@
 use Rattle.std.specs.Prelude.{◌∷◌, ℕ, ◌+◌, ◌*◌, ◌/◌, ◌%◌, drop, get_or}
 use Rattle.ground.specs.Types.{Bytes, Rows}
 use Rattle.rows.specs.declared.member.Member.{Member}
-use Rattle.rows.specs.Rows.{PORT-ROWS, row_in, putRow}
+use Rattle.rows.specs.Rows.{PORT-ROWS, row_in, put_row}
 
-unfoldable pub memberOf : Bytes → Member
-memberOf row =
+unfoldable pub member_of : Bytes → Member
+member_of row =
     record {
       spare = drop 12 row;
       word = get_or row 0 0;
@@ -19,8 +19,8 @@ memberOf row =
       elapsed = get_or row 10 0 * 256 + get_or row 11 0;
     }
 
-unfoldable pub memberRow : Member → Bytes
-memberRow m =
+unfoldable pub member_row : Member → Bytes
+member_row m =
     m.word
     ∷ m.number
     ∷ m.state
@@ -35,8 +35,8 @@ memberRow m =
     ∷ m.elapsed % 256
     ∷ m.spare
 
-unfoldable pub memberAt : Rows → ℕ → Member
-memberAt s i = memberOf (row_in s (i * PORT-ROWS + 2))
+unfoldable pub member_at : Rows → ℕ → Member
+member_at s i = member_of (row_in s (i * PORT-ROWS + 2))
 
-unfoldable pub putMember : (s : Rows) (port : ℕ) (m : Member) → Rows
-putMember s i m = putRow s (i * PORT-ROWS + 2) (memberRow m)
+unfoldable pub put_member : (s : Rows) (port : ℕ) (m : Member) → Rows
+put_member s i m = put_row s (i * PORT-ROWS + 2) (member_row m)

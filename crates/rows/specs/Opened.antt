@@ -1,13 +1,13 @@
 -- All that this crate and those below it define, opened under one name for examples that are computed. A new definition is named here, and nowhere else.
 use Rattle.std.specs.Prelude.{ℕ}
-use Rattle.rows.specs.Group.{groupAt, group_of, groupRow, putGroup}
-use Rattle.rows.specs.Member.{memberAt, memberOf, memberRow, putMember}
-use Rattle.rows.specs.Packets.{entryIn, marksAt, packetsAt, putMarks, putPackets, withEntry}
-use Rattle.rows.specs.Port.{portAt}
-use Rattle.rows.specs.Rows.{putRow, row_in}
-use Rattle.rows.specs.Step.{putStep, stepAt, step_of, stepRow, with_next}
+use Rattle.rows.specs.Group.{group_at, group_of, group_row, put_group}
+use Rattle.rows.specs.Member.{member_at, member_of, member_row, put_member}
+use Rattle.rows.specs.Packets.{entry_in, marks_at, packets_at, put_marks, put_packets, with_entry}
+use Rattle.rows.specs.Port.{port_at}
+use Rattle.rows.specs.Rows.{put_row, row_in}
+use Rattle.rows.specs.Step.{put_step, step_at, step_of, step_row, with_next}
 
-unfoldable pub rowsOpen : ℕ
-unfolding groupAt group_of groupRow putGroup memberAt memberOf memberRow putMember entryIn marksAt packetsAt putMarks putPackets withEntry portAt
-    putRow row_in putStep stepAt step_of stepRow with_next
-rowsOpen = 0
+unfoldable pub rows_open : ℕ
+unfolding group_at group_of group_row put_group member_at member_of member_row put_member entry_in marks_at packets_at put_marks put_packets with_entry port_at
+    put_row row_in put_step step_at step_of step_row with_next
+rows_open = 0

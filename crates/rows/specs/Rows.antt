@@ -7,16 +7,16 @@ unfoldable pub row_in : Rows → ℕ → Bytes
 row_in s k = get_or s k (replicate 16 0)
 
 -- and what is put there is dropped
-unfoldable pub putRow : (s : Rows) (k : ℕ) (row : Bytes) → Rows
-putRow s k row = set s k row
+unfoldable pub put_row : (s : Rows) (k : ℕ) (row : Bytes) → Rows
+put_row s k row = set s k row
 
 -- how many rows a port has
 abbrev pub PORT-ROWS : ℕ
 PORT-ROWS = 5
 
 -- how many rows a group of n ports has
-abbrev pub rowsFor : ℕ → ℕ
-rowsFor n = n * PORT-ROWS + 1
+abbrev pub rows_for : ℕ → ℕ
+rows_for n = n * PORT-ROWS + 1
 
 -- rows of sixteen bytes, as a host lends them
 pub record Shaped (s : List (List ℕ)) : Type 0 where

@@ -2,7 +2,7 @@
 use Rattle.std.specs.Prelude.{◌∷◌, ℕ, ◌+◌, ◌*◌, ◌/◌, ◌%◌, drop, get_or}
 use Rattle.ground.specs.Types.{Bytes, Rows}
 use Rattle.rows.specs.declared.step.Step.{Step}
-use Rattle.rows.specs.Rows.{PORT-ROWS, row_in, putRow}
+use Rattle.rows.specs.Rows.{PORT-ROWS, row_in, put_row}
 
 unfoldable pub step_of : Bytes → Step
 step_of row =
@@ -14,15 +14,15 @@ step_of row =
       next = get_or row 3 0 * 256 + get_or row 4 0;
       joined = get_or row 5 0;
       ever_since = get_or row 6 0;
-      joined_at = get_or row 7 0;
+      joined_at_lem = get_or row 7 0;
       whole = get_or row 8 0;
       breaks = get_or row 9 0;
       odd = get_or row 10 0;
       bits = get_or row 11 0;
     }
 
-unfoldable pub stepRow : Step → Bytes
-stepRow s =
+unfoldable pub step_row : Step → Bytes
+step_row s =
     s.heard
     ∷ s.failed
     ∷ s.count
@@ -30,15 +30,15 @@ stepRow s =
     ∷ (s.next % 256)
     ∷ s.joined
     ∷ s.ever_since
-    ∷ s.joined_at
+    ∷ s.joined_at_lem
     ∷ s.whole
     ∷ s.breaks
     ∷ s.odd
     ∷ s.bits
     ∷ s.spare
 
-unfoldable pub stepAt : Rows → ℕ → Step
-stepAt s i = step_of (row_in s (i * PORT-ROWS + 1))
+unfoldable pub step_at : Rows → ℕ → Step
+step_at s i = step_of (row_in s (i * PORT-ROWS + 1))
 
 -- a step that waits for another tag
 unfoldable pub with_next : Step → ℕ → Step
@@ -51,12 +51,12 @@ with_next q n =
       next = n;
       joined = q.joined;
       ever_since = q.ever_since;
-      joined_at = q.joined_at;
+      joined_at_lem = q.joined_at_lem;
       whole = q.whole;
       breaks = q.breaks;
       odd = q.odd;
       bits = q.bits;
     }
 
-unfoldable pub putStep : (s : Rows) (port : ℕ) (q : Step) → Rows
-putStep s i q = putRow s (i * PORT-ROWS + 1) (stepRow q)
+unfoldable pub put_step : (s : Rows) (port : ℕ) (q : Step) → Rows
+put_step s i q = put_row s (i * PORT-ROWS + 1) (step_row q)

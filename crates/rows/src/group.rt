@@ -1,7 +1,7 @@
 // The group's row.
 ghost use Rattle.std.specs.Prelude.{◌≡◌, ◌+◌, ◌*◌, length};
-ghost use Rattle.rows.specs.Group.{groupAt, group_of, groupRow, putGroup};
-ghost use Rattle.rows.specs.Rows.{row_in, putRow, rowsFor};
+ghost use Rattle.rows.specs.Group.{group_at, group_of, group_row, put_group};
+ghost use Rattle.rows.specs.Rows.{row_in, put_row, rows_for};
 
 #[derive(Drop)]
 pub struct Group {
@@ -33,7 +33,7 @@ pub(crate) fn row_in(state: &[[u8; 16]], at: usize) -> [u8; 16]
 }
 
 pub(crate) fn put_row(state: &mut [[u8; 16]], at: usize, row: [u8; 16])
-    ensures { state.new ≡ putRow state.old at row }
+    ensures { state.new ≡ put_row state.old at row }
 {
     if at < state.len() {
         state[at] = row;
@@ -70,7 +70,7 @@ fn group_of(row: [u8; 16]) -> Group
 }
 
 fn group_row(g: Group) -> [u8; 16]
-    ensures { result ≡ groupRow g }
+    ensures { result ≡ group_row g }
 {
     [
         g.kind,
@@ -93,14 +93,14 @@ fn group_row(g: Group) -> [u8; 16]
 }
 
 pub fn get(state: &[[u8; 16]]) -> Group
-    ensures { result ≡ groupAt state.now }
+    ensures { result ≡ group_at state.now }
 {
     let row = row_in(state, 0);
     group_of(row)
 }
 
 pub fn put(state: &mut [[u8; 16]], group: Group)
-    ensures { state.new ≡ putGroup state.old group }
+    ensures { state.new ≡ put_group state.old group }
 {
     let row = group_row(group);
     put_row(state, 0, row);
@@ -111,7 +111,7 @@ pub const PORT_ROWS: usize = 5;
 
 // How many rows a group of so many ports has.
 pub fn rows_for(count: u8) -> usize
-    ensures { result ≡ rowsFor count }
+    ensures { result ≡ rows_for count }
 {
     count as usize * PORT_ROWS + 1
 }

@@ -1,6 +1,6 @@
 // The row of a port's member.
 ghost use Rattle.std.specs.Prelude.{◌≡◌};
-ghost use Rattle.rows.specs.Member.{memberAt, memberOf, memberRow, putMember};
+ghost use Rattle.rows.specs.Member.{member_at, member_of, member_row, put_member};
 
 use crate::group;
 
@@ -27,7 +27,7 @@ pub struct Member {
 }
 
 fn member_of(row: [u8; 16]) -> Member
-    ensures { result ≡ memberOf row }
+    ensures { result ≡ member_of row }
 {
     Member {
         spare: [row[12], row[13], row[14], row[15]],
@@ -44,7 +44,7 @@ fn member_of(row: [u8; 16]) -> Member
 }
 
 fn member_row(m: Member) -> [u8; 16]
-    ensures { result ≡ memberRow m }
+    ensures { result ≡ member_row m }
 {
     [
         m.word,
@@ -67,14 +67,14 @@ fn member_row(m: Member) -> [u8; 16]
 }
 
 pub fn get(state: &[[u8; 16]], port: u8) -> Member
-    ensures { result ≡ memberAt state.now port }
+    ensures { result ≡ member_at state.now port }
 {
     let row = group::row_in(state, port as usize * group::PORT_ROWS + 2);
     member_of(row)
 }
 
 pub fn put(state: &mut [[u8; 16]], port: u8, member: Member)
-    ensures { state.new ≡ putMember state.old port member }
+    ensures { state.new ≡ put_member state.old port member }
 {
     let row = member_row(member);
     group::put_row(state, port as usize * group::PORT_ROWS + 2, row);

@@ -1,11 +1,11 @@
 // The rows of a port's two packets, the one being gathered and the one that rules, and of its marks.
 ghost use Rattle.std.specs.Prelude.{◌≡◌};
-ghost use Rattle.rows.specs.Packets.{packetsAt, putPackets, marksAt, putMarks, entryIn, withEntry};
+ghost use Rattle.rows.specs.Packets.{packets_at, put_packets, marks_at, put_marks, entry_in, with_entry};
 
 use crate::group;
 
 pub fn get(state: &[[u8; 16]], port: u8) -> [[u8; 16]; 2]
-    ensures { result ≡ packetsAt state.now port }
+    ensures { result ≡ packets_at state.now port }
 {
     let gathering = group::row_in(state, port as usize * group::PORT_ROWS + 3);
     let ruling = group::row_in(state, port as usize * group::PORT_ROWS + 4);
@@ -13,7 +13,7 @@ pub fn get(state: &[[u8; 16]], port: u8) -> [[u8; 16]; 2]
 }
 
 pub fn put(state: &mut [[u8; 16]], port: u8, packets: [[u8; 16]; 2])
-    ensures { state.new ≡ putPackets state.old port packets }
+    ensures { state.new ≡ put_packets state.old port packets }
 {
     let gathering = packets[0];
     let ruling = packets[1];
@@ -22,20 +22,20 @@ pub fn put(state: &mut [[u8; 16]], port: u8, packets: [[u8; 16]; 2])
 }
 
 pub fn marks(state: &[[u8; 16]], port: u8) -> [u8; 16]
-    ensures { result ≡ marksAt state.now port }
+    ensures { result ≡ marks_at state.now port }
 {
     group::row_in(state, port as usize * group::PORT_ROWS + 5)
 }
 
 pub fn put_marks(state: &mut [[u8; 16]], port: u8, row: [u8; 16])
-    ensures { state.new ≡ putMarks state.old port row }
+    ensures { state.new ≡ put_marks state.old port row }
 {
     group::put_row(state, port as usize * group::PORT_ROWS + 5, row);
 }
 
 // One entry of the packet being gathered.
 pub fn entry(state: &[[u8; 16]], port: u8, at: u8) -> u8
-    ensures { result ≡ entryIn (packetsAt state.now port) at }
+    ensures { result ≡ entry_in (packets_at state.now port) at }
 {
     let row = group::row_in(state, port as usize * group::PORT_ROWS + 3);
     group::is_whole(row);
@@ -43,7 +43,7 @@ pub fn entry(state: &[[u8; 16]], port: u8, at: u8) -> u8
 }
 
 pub fn put_entry(state: &mut [[u8; 16]], port: u8, at: u8, entry: u8)
-    ensures { state.new ≡ putPackets state.old port (withEntry (packetsAt state.old port) at entry) }
+    ensures { state.new ≡ put_packets state.old port (with_entry (packets_at state.old port) at entry) }
 {
     let index = port as usize * group::PORT_ROWS + 3;
     if index < state.len() {

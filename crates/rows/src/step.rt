@@ -1,6 +1,6 @@
 // The row of a port's step.
 ghost use Rattle.std.specs.Prelude.{◌≡◌};
-ghost use Rattle.rows.specs.Step.{stepAt, step_of, stepRow, putStep, with_next};
+ghost use Rattle.rows.specs.Step.{step_at, step_of, step_row, put_step, with_next};
 
 use crate::group;
 
@@ -51,7 +51,7 @@ fn step_of(row: [u8; 16]) -> Step
 }
 
 fn step_row(s: Step) -> [u8; 16]
-    ensures { result ≡ stepRow s }
+    ensures { result ≡ step_row s }
 {
     [
         s.heard,
@@ -74,14 +74,14 @@ fn step_row(s: Step) -> [u8; 16]
 }
 
 pub fn get(state: &[[u8; 16]], port: u8) -> Step
-    ensures { result ≡ stepAt state.now port }
+    ensures { result ≡ step_at state.now port }
 {
     let row = group::row_in(state, port as usize * group::PORT_ROWS + 1);
     step_of(row)
 }
 
 pub fn put(state: &mut [[u8; 16]], port: u8, step: Step)
-    ensures { state.new ≡ putStep state.old port step }
+    ensures { state.new ≡ put_step state.old port step }
 {
     let row = step_row(step);
     group::put_row(state, port as usize * group::PORT_ROWS + 1, row);
@@ -89,7 +89,7 @@ pub fn put(state: &mut [[u8; 16]], port: u8, step: Step)
 
 // The next tag alone: two bytes of the row.
 pub fn put_next(state: &mut [[u8; 16]], port: u8, next: u16)
-    ensures { state.new ≡ putStep state.old port (with_next (stepAt state.old port) next) }
+    ensures { state.new ≡ put_step state.old port (with_next (step_at state.old port) next) }
 {
     let at = port as usize * group::PORT_ROWS + 1;
     if at < state.len() {

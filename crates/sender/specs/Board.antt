@@ -4,7 +4,7 @@ use Rattle.ground.specs.Plain.{if◌then◌else◌, ◌<?◌}
 use Rattle.ground.specs.Counting.Each.{each}
 use Rattle.ground.specs.Counting.Words.{some}
 use Rattle.packet.specs.declared.words.Word.{Word}
-use Rattle.packet.specs.Kinds.{idleNumber}
+use Rattle.packet.specs.Kinds.{idle_number}
 use Rattle.packet.specs.Words.{ADD, DNU, EOS, IDLE, NORM}
 use Rattle.sender.specs.declared.board.Board.{Board}
 use Rattle.sender.specs.declared.board.Row.{Row}
@@ -12,11 +12,11 @@ use Rattle.sender.specs.declared.table.Slot.{Slot}
 use Rattle.sender.specs.declared.table.State.{State}
 use Rattle.sender.specs.declared.table.State.TheVariants.{Idle, Add, Active, Dnu}
 use Rattle.sender.specs.declared.table.Table.{Table}
-use Rattle.sender.specs.Table.{isActive, slotCount, slot_at}
+use Rattle.sender.specs.Table.{is_active, slot_count, slot_at}
 
 -- no active slot has a number above q
 unfoldable pub highest : (slots : List Slot) (count number : ℕ) → Bool
-highest slots n q = not (some n (λ j. isActive (slot_at slots j).state && q <? (slot_at slots j).number))
+highest slots n q = not (some n (λ j. is_active (slot_at slots j).state && q <? (slot_at slots j).number))
 
 abbrev pub word : ℕ → Word
 word w = record { 0 = w }
@@ -33,10 +33,10 @@ row_of slots n i = record { word = word_of (slot_at slots i).state (highest slot
 
 -- what stands past the last slot
 unfoldable pub no_row : ℕ → Row
-no_row kind = record { word = word IDLE; number = idleNumber kind }
+no_row kind = record { word = word IDLE; number = idle_number kind }
 
 unfoldable pub rows_of : (slots : List Slot) (count kind : ℕ) → List Row
 rows_of slots n kind = each n (λ i. row_of slots n i) (replicate 64 (no_row kind))
 
-unfoldable pub boardOf : Table → Board
-boardOf t = record { rows = rows_of t.slots (slotCount t.count) t.kind; count = slotCount t.count; wait = t.wait }
+unfoldable pub board_of : Table → Board
+board_of t = record { rows = rows_of t.slots (slot_count t.count) t.kind; count = slot_count t.count; wait = t.wait }

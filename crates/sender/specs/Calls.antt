@@ -2,8 +2,8 @@
 use Rattle.std.specs.Prelude.{List, [], ◌∷◌, ℕ}
 use Rattle.sender.specs.declared.table.Outcome.{Outcome}
 use Rattle.sender.specs.declared.table.Table.{Table}
-use Rattle.sender.specs.Commands.{addOf, lapseOf, removeOf}
-use Rattle.sender.specs.Reports.{reportOf}
+use Rattle.sender.specs.Commands.{add_of, lapse_of, remove_of}
+use Rattle.sender.specs.Reports.{report_of}
 
 pub data Call : Type 0 where
   AddSlot : ℕ → Call
@@ -11,13 +11,13 @@ pub data Call : Type 0 where
   Report : (epoch mst ack : ℕ) → Call
   Lapse : Call
 
-abbrev pub outcomeOf : Table → Call → Outcome
-outcomeOf t (AddSlot i) = addOf t i
-outcomeOf t (RemoveSlot i) = removeOf t i
-outcomeOf t (Report e mst ack) = reportOf t e mst ack
-outcomeOf t Lapse = lapseOf t
+abbrev pub outcome_of : Table → Call → Outcome
+outcome_of t (AddSlot i) = add_of t i
+outcome_of t (RemoveSlot i) = remove_of t i
+outcome_of t (Report e mst ack) = report_of t e mst ack
+outcome_of t Lapse = lapse_of t
 
 -- each call on the table that the one before returned
 abbrev pub run : Table → List Call → Table
 run t [] = t
-run t (c ∷ cs) = run (outcomeOf t c).table cs
+run t (c ∷ cs) = run (outcome_of t c).table cs

@@ -9,13 +9,13 @@ written Writing.Done = A.Done
 written Writing.Length = A.Length
 written Writing.Field = A.Field
 
-abbrev pub spreadTold : P.Answer → Answer
-spreadTold P.Answer.Done = A.Done
-spreadTold P.Answer.Range = A.OutOfRange
-spreadTold P.Answer.Length = A.Length
+abbrev pub spread_told : P.Answer → Answer
+spread_told P.Answer.Done = A.Done
+spread_told P.Answer.Range = A.OutOfRange
+spread_told P.Answer.Length = A.Length
 
 -- before the first epoch starts: 4, 9, 2
-abbrev pub spreadEarly : P.Answer → Answer
-spreadEarly P.Answer.Done = A.NotAllowed
-spreadEarly P.Answer.Range = A.OutOfRange
-spreadEarly P.Answer.Length = A.Length
+abbrev pub spread_early : P.Answer → Answer
+spread_early P.Answer.Done = A.NotAllowed
+spread_early P.Answer.Range = A.OutOfRange
+spread_early P.Answer.Length = A.Length

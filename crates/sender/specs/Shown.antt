@@ -4,26 +4,26 @@ use Rattle.ground.specs.Plain.{if◌then◌else◌}
 use Rattle.sender.specs.declared.board.Board.{Board}
 use Rattle.sender.specs.declared.board.Row.{Row}
 use Rattle.sender.specs.declared.table.Table.{Table}
-use Rattle.sender.specs.Board.{boardOf}
+use Rattle.sender.specs.Board.{board_of}
 use Rattle.sender.specs.Calls.{Call, run}
 use Rattle.sender.specs.Commands.{start_of}
-use Rattle.sender.specs.Table.{answerNumber}
+use Rattle.sender.specs.Table.{answer_number}
 
 -- the table after calls from a start of so many slots
 abbrev pub after : ℕ → List Call → Table
 after count calls = run (start_of 0 count).table calls
 
-abbrev rowNumbers : List Row → List ℕ
-rowNumbers [] = []
-rowNumbers (r ∷ rs) = r.word.0 ∷ r.number ∷ rowNumbers rs
+abbrev row_numbers : List Row → List ℕ
+row_numbers [] = []
+row_numbers (r ∷ rs) = r.word.0 ∷ r.number ∷ row_numbers rs
 
 -- a board: word and number of each slot, then the wait
 abbrev pub numbers : Board → List ℕ
-numbers b = rowNumbers (take b.count b.rows) ++ ((if b.wait then 1 else 0) ∷ [])
+numbers b = row_numbers (take b.count b.rows) ++ ((if b.wait then 1 else 0) ∷ [])
 
 abbrev pub shown : Table → List ℕ
-shown t = numbers (boardOf t)
+shown t = numbers (board_of t)
 
 -- a start: its answer and the count it leaves
 abbrev pub started : ℕ → List ℕ
-started count = answerNumber (start_of 0 count).answer ∷ (start_of 0 count).table.count ∷ []
+started count = answer_number (start_of 0 count).answer ∷ (start_of 0 count).table.count ∷ []

@@ -12,53 +12,53 @@ use Rattle.sender.specs.declared.table.State.{State}
 use Rattle.sender.specs.declared.table.State.TheVariants.{Idle, Add, Active, Dnu}
 
 -- 01's number for each answer
-abbrev pub answerNumber : Answer → ℕ
-answerNumber Done = 0
-answerNumber NoSlot = 1
-answerNumber NotAllowed = 2
-answerNumber WaitOpen = 3
-answerNumber OutOfRange = 4
-answerNumber Field = 8
-answerNumber Length = 9
+abbrev pub answer_number : Answer → ℕ
+answer_number Done = 0
+answer_number NoSlot = 1
+answer_number NotAllowed = 2
+answer_number WaitOpen = 3
+answer_number OutOfRange = 4
+answer_number Field = 8
+answer_number Length = 9
 
 -- a member is a slot that is not IDLE
-abbrev pub isMember : State → Bool
-isMember Idle = false
-isMember Add = true
-isMember Active = true
-isMember Dnu = true
+abbrev pub is_member : State → Bool
+is_member Idle = false
+is_member Add = true
+is_member Active = true
+is_member Dnu = true
 
-abbrev pub isAdd : State → Bool
-isAdd Idle = false
-isAdd Add = true
-isAdd Active = false
-isAdd Dnu = false
+abbrev pub is_add : State → Bool
+is_add Idle = false
+is_add Add = true
+is_add Active = false
+is_add Dnu = false
 
-abbrev pub isActive : State → Bool
-isActive Idle = false
-isActive Add = false
-isActive Active = true
-isActive Dnu = false
+abbrev pub is_active : State → Bool
+is_active Idle = false
+is_active Add = false
+is_active Active = true
+is_active Dnu = false
 
 -- how many slots there are; a count above 64, which no call returns, is taken as 64
-unfoldable pub slotCount : ℕ → ℕ
-slotCount c = size_of c
+unfoldable pub slot_count : ℕ → ℕ
+slot_count c = size_of c
 
 abbrev pub slot_at : List Slot → ℕ → Slot
 slot_at slots i = get_or slots i (record { state = Idle; number = 0 })
 
 -- how many of the first n slots are members
 unfoldable pub members_of : List Slot → ℕ → ℕ
-members_of slots n = count n (λ i. isMember (slot_at slots i).state)
+members_of slots n = count n (λ i. is_member (slot_at slots i).state)
 
 abbrev pub holds : Slot → ℕ → Bool
-holds s q = isMember s.state && s.number == q
+holds s q = is_member s.state && s.number == q
 
 abbrev pub earlier : Found → Found → Found
 earlier (At i) f = At i
 earlier Nothing f = f
 
 -- 'the slot that holds that number is found, if there is one'. IDLE slots are passed over; where several hold it, the first.
-unfoldable pub holderOf : (slots : List Slot) (count number : ℕ) → Found
-holderOf slots zero q = Nothing
-holderOf slots (suc n) q = earlier (holderOf slots n q) (if holds (slot_at slots n) q then At n else Nothing)
+unfoldable pub holder_of : (slots : List Slot) (count number : ℕ) → Found
+holder_of slots zero q = Nothing
+holder_of slots (suc n) q = earlier (holder_of slots n q) (if holds (slot_at slots n) q then At n else Nothing)

@@ -1,6 +1,6 @@
 // The board: the word and number of each slot and the wait, from one table, whole.
 ghost use Rattle.std.specs.Prelude.{◌≡◌, ◌≤◌, ◌<◌};
-ghost use Rattle.sender.specs.Board.{boardOf, highest, no_row, row_of, rows_of, word_of};
+ghost use Rattle.sender.specs.Board.{board_of, highest, no_row, row_of, rows_of, word_of};
 
 use crate::table;
 use crate::table::{Slot, State, Table};
@@ -85,7 +85,7 @@ fn rows_of(slots: [Slot; 64], n: usize, kind: u8) -> [Row; 64]
 }
 
 pub fn board_of(table: Table) -> Board
-    ensures { result ≡ boardOf table }
+    ensures { result ≡ board_of table }
 {
     let slots = table.slots;
     let n = table::size(table.count);

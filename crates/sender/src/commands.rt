@@ -1,15 +1,15 @@
 // Start, add, remove and lapse (01, 'The sender's table'; for commands the refusals are 1, 3, 2).
 ghost use Rattle.std.specs.Prelude.{◌≡◌, ◌≤◌, ◌<◌};
-ghost use Rattle.sender.specs.Calls.{outcomeOf};
+ghost use Rattle.sender.specs.Calls.{outcome_of};
 ghost use Rattle.sender.specs.Calls.Call.{AddSlot, RemoveSlot, Lapse};
-ghost use Rattle.sender.specs.Commands.{addedTo, fallen, fallenIn, fresh_of, idleSlot, removedFrom, start_of};
+ghost use Rattle.sender.specs.Commands.{added_to, fallen, fallen_in, fresh_of, idle_slot, removed_from, start_of};
 
 use crate::table;
 use crate::table::{Answer, Outcome, Slot, State, Table};
 use packet::kinds;
 
 fn idle_slot(kind: u8) -> Slot
-    ensures { result ≡ idleSlot kind }
+    ensures { result ≡ idle_slot kind }
 {
     Slot {
         state: State::Idle,
@@ -53,7 +53,7 @@ pub fn start(kind: u8, count: u32) -> Outcome
 
 fn added_to(table: Table, at: usize) -> Table
     requires { at < 64 }
-    ensures { result ≡ addedTo table at }
+    ensures { result ≡ added_to table at }
 {
     let mut slots = table.slots;
     let n = table::size(table.count);
@@ -72,7 +72,7 @@ fn added_to(table: Table, at: usize) -> Table
 }
 
 pub fn add(table: Table, slot: u32) -> Outcome
-    ensures { result ≡ outcomeOf table (AddSlot slot) }
+    ensures { result ≡ outcome_of table (AddSlot slot) }
 {
     let n = table::size(table.count);
     let at = slot as usize;
@@ -121,7 +121,7 @@ fn fall(slot: Slot, number: u8) -> Slot
 
 fn fall_in(slots: [Slot; 64], n: usize, number: u8) -> [Slot; 64]
     requires { n ≤ 64 }
-    ensures { result ≡ fallenIn slots n number }
+    ensures { result ≡ fallen_in slots n number }
 {
     let mut out = slots;
     let mut i = 0;
@@ -136,7 +136,7 @@ fn fall_in(slots: [Slot; 64], n: usize, number: u8) -> [Slot; 64]
 
 fn removed_from(table: Table, at: usize) -> Table
     requires { at < 64 }
-    ensures { result ≡ removedFrom table at }
+    ensures { result ≡ removed_from table at }
 {
     let given = table.slots;
     let n = table::size(table.count);
@@ -154,7 +154,7 @@ fn removed_from(table: Table, at: usize) -> Table
 }
 
 pub fn remove(table: Table, slot: u32) -> Outcome
-    ensures { result ≡ outcomeOf table (RemoveSlot slot) }
+    ensures { result ≡ outcome_of table (RemoveSlot slot) }
 {
     let n = table::size(table.count);
     let at = slot as usize;
@@ -185,7 +185,7 @@ pub fn remove(table: Table, slot: u32) -> Outcome
 }
 
 pub fn lapse(table: Table) -> Outcome
-    ensures { result ≡ outcomeOf table Lapse }
+    ensures { result ≡ outcome_of table Lapse }
 {
     if table.wait {
         let slots = table.slots;

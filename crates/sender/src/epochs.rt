@@ -1,9 +1,9 @@
 // The start of an epoch (01, 'Taking effect'): 'The packets of one epoch rule the payload of the next epoch'; 'The sender writes all packets of an epoch from one state of the table, that at the epoch's start.'
 ghost use Rattle.std.specs.Prelude.{◌≡◌, ◌<◌, length};
 ghost use Rattle.sender.specs.Calls.Call.{AddSlot, RemoveSlot, Report, Lapse};
-ghost use Rattle.sender.specs.Epochs.{beginOf, freshSender, packetAnswer, packetBytes, packetFields, payloadAnswer, payloadBytes, ranksOf, senderOutcomeOf, startedEpoch, with_outcome};
+ghost use Rattle.sender.specs.Epochs.{begin_of, fresh_sender, packet_answer, packet_bytes, packet_fields, payload_answer, payload_bytes, ranks_of, sender_outcome_of, started_epoch, with_outcome};
 ghost use Rattle.sender.specs.Epochs.SenderCall.{OnTable, StartEpoch};
-ghost use Rattle.sender.specs.Outcomes.{spreadEarly, spreadTold, written};
+ghost use Rattle.sender.specs.Outcomes.{spread_early, spread_told, written};
 
 use crate::board::Board;
 use crate::ranks::Ranks;
@@ -32,7 +32,7 @@ pub struct SenderOutcome {
 }
 
 fn fresh_sender(table: Table, epoch: u8) -> Sender
-    ensures { result ≡ freshSender table epoch }
+    ensures { result ≡ fresh_sender table epoch }
 {
     let board = board::board_of(table);
     Sender {
@@ -70,7 +70,7 @@ fn with_outcome(sender: Sender, outcome: Outcome) -> SenderOutcome
 }
 
 fn epoch_started(sender: Sender) -> u8
-    ensures { result ≡ startedEpoch sender }
+    ensures { result ≡ started_epoch sender }
 {
     let table = sender.table;
     if sender.begun {
@@ -90,7 +90,7 @@ fn written_as(writing: Writing) -> Answer
 }
 
 fn spread_told(answer: payload::Answer) -> Answer
-    ensures { result ≡ spreadTold answer }
+    ensures { result ≡ spread_told answer }
 {
     match answer {
         payload::Answer::Done => Answer::Done,
@@ -101,7 +101,7 @@ fn spread_told(answer: payload::Answer) -> Answer
 
 // Before the first epoch starts.
 fn spread_early(answer: payload::Answer) -> Answer
-    ensures { result ≡ spreadEarly answer }
+    ensures { result ≡ spread_early answer }
 {
     match answer {
         payload::Answer::Done => Answer::NotAllowed,
@@ -112,7 +112,7 @@ fn spread_early(answer: payload::Answer) -> Answer
 
 fn packet_fields(sender: Sender, at: usize) -> Fields
     requires { at < 64 }
-    ensures { result ≡ packetFields sender at }
+    ensures { result ≡ packet_fields sender at }
 {
     let board = sender.outgoing;
     let row = board.rows[at];
@@ -131,7 +131,7 @@ fn packet_fields(sender: Sender, at: usize) -> Fields
 impl Sender {
     // epoch: the first epoch's number.
     pub fn start(kind: u8, count: u32, epoch: u8) -> SenderOutcome
-        ensures { result ≡ beginOf kind count epoch }
+        ensures { result ≡ begin_of kind count epoch }
     {
         let outcome = commands::start(kind, count);
         let table = outcome.table;
@@ -143,7 +143,7 @@ impl Sender {
     }
 
     pub fn add(self, slot: u32) -> SenderOutcome
-        ensures { result ≡ senderOutcomeOf self (OnTable (AddSlot slot)) }
+        ensures { result ≡ sender_outcome_of self (OnTable (AddSlot slot)) }
     {
         let table = self.table;
         let outcome = commands::add(table, slot);
@@ -151,7 +151,7 @@ impl Sender {
     }
 
     pub fn remove(self, slot: u32) -> SenderOutcome
-        ensures { result ≡ senderOutcomeOf self (OnTable (RemoveSlot slot)) }
+        ensures { result ≡ sender_outcome_of self (OnTable (RemoveSlot slot)) }
     {
         let table = self.table;
         let outcome = commands::remove(table, slot);
@@ -159,7 +159,7 @@ impl Sender {
     }
 
     pub fn report(self, epoch: u8, mst: u8, rs_ack: u8) -> SenderOutcome
-        ensures { result ≡ senderOutcomeOf self (OnTable (Report epoch mst rs_ack)) }
+        ensures { result ≡ sender_outcome_of self (OnTable (Report epoch mst rs_ack)) }
     {
         let table = self.table;
         let outcome = reports::report(table, epoch, mst, rs_ack);
@@ -167,7 +167,7 @@ impl Sender {
     }
 
     pub fn lapse(self) -> SenderOutcome
-        ensures { result ≡ senderOutcomeOf self (OnTable Lapse) }
+        ensures { result ≡ sender_outcome_of self (OnTable Lapse) }
     {
         let table = self.table;
         let outcome = commands::lapse(table);
@@ -175,7 +175,7 @@ impl Sender {
     }
 
     pub fn start_epoch(self, gid: u8, mst: u8, rs_ack: u8) -> SenderOutcome
-        ensures { result ≡ senderOutcomeOf self (StartEpoch gid mst rs_ack) }
+        ensures { result ≡ sender_outcome_of self (StartEpoch gid mst rs_ack) }
     {
         let fits = (gid < 2) & (rs_ack < 2);
         if !fits {
@@ -203,7 +203,7 @@ impl Sender {
 
     // The packet of a slot in this epoch: 1, 9, 2.
     pub fn packet(self, slot: u32, h4: &mut [u8]) -> Answer
-        ensures { (result ≡ packetAnswer self slot h4.old) × (h4.new ≡ packetBytes self slot h4.old) }
+        ensures { (result ≡ packet_answer self slot h4.old) × (h4.new ≡ packet_bytes self slot h4.old) }
     {
         let table = self.table;
         let at = slot as usize;
@@ -221,8 +221,8 @@ impl Sender {
 
     // The payload of a slot in a frame of this epoch: 1, 4, 9, 2. Slots with no rank send zeros. VC-12 has one P alone.
     pub fn payload(self, slot: u32, p: u32, frame: &[u8], member: &mut [u8]) -> Answer
-        ensures { (result ≡ payloadAnswer self slot p (length frame.now) (length member.old))
-            × (member.new ≡ payloadBytes self slot p frame.now member.old) }
+        ensures { (result ≡ payload_answer self slot p (length frame.now) (length member.old))
+            × (member.new ≡ payload_bytes self slot p frame.now member.old) }
     {
         let table = self.table;
         let at = slot as usize;
@@ -245,7 +245,7 @@ impl Sender {
 
     // This epoch's number, X and each slot's rank.
     pub fn ranks(self) -> Ranks
-        ensures { result ≡ ranksOf self }
+        ensures { result ≡ ranks_of self }
     {
         let board = self.ruling;
         let rows = board.rows;

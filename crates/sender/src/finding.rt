@@ -1,6 +1,6 @@
 // 'the slot that holds that number is found, if there is one' (01, 'The sender's table').
 ghost use Rattle.std.specs.Prelude.{◌≡◌, ◌≤◌};
-ghost use Rattle.sender.specs.Table.{holderOf, holds};
+ghost use Rattle.sender.specs.Table.{holder_of, holds};
 
 use crate::table;
 use crate::table::Slot;
@@ -20,7 +20,7 @@ fn is_holder(slot: Slot, number: u8) -> bool
 
 pub(crate) fn find(slots: [Slot; 64], n: usize, number: u8) -> Found
     requires { n ≤ 64 }
-    ensures { result ≡ holderOf slots n number }
+    ensures { result ≡ holder_of slots n number }
 {
     let mut i = 0;
     let found = loop {

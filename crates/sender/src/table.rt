@@ -1,6 +1,6 @@
 // The table of slots by value, and what each call gives back.
 ghost use Rattle.std.specs.Prelude.{◌≡◌, ◌≤◌};
-ghost use Rattle.sender.specs.Table.{answerNumber, isAdd, isActive, isMember, members_of, slotCount};
+ghost use Rattle.sender.specs.Table.{answer_number, is_add, is_active, is_member, members_of, slot_count};
 
 #[derive(Drop)]
 pub enum State {
@@ -39,7 +39,7 @@ pub enum Answer {
 
 impl Answer {
     pub fn number(self) -> u8
-        ensures { result ≡ answerNumber self }
+        ensures { result ≡ answer_number self }
     {
         match self {
             Answer::Done => 0,
@@ -60,7 +60,7 @@ pub struct Outcome {
 }
 
 pub fn is_member(state: State) -> bool
-    ensures { result ≡ isMember state }
+    ensures { result ≡ is_member state }
 {
     match state {
         State::Idle => false,
@@ -71,7 +71,7 @@ pub fn is_member(state: State) -> bool
 }
 
 pub(crate) fn is_add(state: State) -> bool
-    ensures { result ≡ isAdd state }
+    ensures { result ≡ is_add state }
 {
     match state {
         State::Idle => false,
@@ -82,7 +82,7 @@ pub(crate) fn is_add(state: State) -> bool
 }
 
 pub(crate) fn is_active(state: State) -> bool
-    ensures { result ≡ isActive state }
+    ensures { result ≡ is_active state }
 {
     match state {
         State::Idle => false,
@@ -94,7 +94,7 @@ pub(crate) fn is_active(state: State) -> bool
 
 // How many slots there are: a count above 64, which no call returns, is taken as 64.
 pub(crate) fn size(count: u8) -> usize
-    ensures { result ≡ slotCount count }
+    ensures { result ≡ slot_count count }
 {
     ground::size_of(count)
 }

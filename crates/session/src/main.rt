@@ -1,6 +1,6 @@
 // Reads lines of commands from standard input to its end and writes what each is answered (01, 'Session').
 ghost use Rattle.std.specs.Prelude.{◌≡◌};
-ghost use Rattle.session_lines.specs.Session.{usedOf};
+ghost use Rattle.session_lines.specs.Session.{used_of};
 
 use libc::{STDIN_FILENO, STDOUT_FILENO};
 use session_lines::Session;
@@ -21,7 +21,7 @@ struct Turned {
 
 // A part of the input up to its first line end, and what that is answered.
 fn feed_some(session: Session, input: &[u8]) -> Turn
-    ensures { result.used ≡ usedOf input.now }
+    ensures { result.used ≡ used_of input.now }
 {
     let mut out = [0u8; 1095];
     let fed = session_lines::feed(session, input, &mut out);

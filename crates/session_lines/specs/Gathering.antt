@@ -4,9 +4,9 @@ use Rattle.ground.specs.Types.{Bytes}
 use Rattle.bytes.specs.Bytes.{index_of}
 use Rattle.session_lines.specs.declared.gathering.Gathered.{Gathered}
 use Rattle.session_lines.specs.declared.kept.Kept.{Kept}
-use Rattle.session_lines.specs.Kept.{keepAll}
-use Rattle.session_lines.specs.Session.{hasEnd, usedOf}
+use Rattle.session_lines.specs.Kept.{keep_all}
+use Rattle.session_lines.specs.Session.{has_end, used_of}
 use Rattle.text.specs.Text.{LINE-END}
 
-unfoldable pub gatheredOf : (kept : Kept) (input : Bytes) → Gathered
-gatheredOf kept input = record { kept = keepAll kept (take (index_of LINE-END input) input); used = usedOf input; ended = hasEnd input }
+unfoldable pub gathered_of : (kept : Kept) (input : Bytes) → Gathered
+gathered_of kept input = record { kept = keep_all kept (take (index_of LINE-END input) input); used = used_of input; ended = has_end input }

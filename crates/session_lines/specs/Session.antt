@@ -8,70 +8,70 @@ use Rattle.sender.specs.Commands.{start_of}
 use Rattle.session_lines.specs.declared.kept.Kept.{Kept}
 use Rattle.session_lines.specs.declared.session.Fed.{Fed}
 use Rattle.session_lines.specs.declared.session.Session.{Session}
-use Rattle.session_lines.specs.Kept.{keepAll, lineIn, nothingKept}
+use Rattle.session_lines.specs.Kept.{keep_all, line_in, nothing_kept}
 use Rattle.session_lines.specs.Line.{line_of}
 use Rattle.session_lines.specs.Output.{ROOM}
-use Rattle.session_lines.specs.Replies.{outputOf, replyOf}
+use Rattle.session_lines.specs.Replies.{output_of, reply_of}
 use Rattle.text.specs.Text.{LINE-END}
 
 -- 'Before any size, the count is 0.'
 unfoldable pub beginning : Session
-beginning = record { table = (start_of 0 0).table; kept = nothingKept }
+beginning = record { table = (start_of 0 0).table; kept = nothing_kept }
 
 -- a text at a buffer's front; the bytes behind it stay
 abbrev pub over : Bytes → Bytes → Bytes
 over text out = text ++ drop (length text) out
 
 -- a line's bytes answered: the table afterwards, and the output
-abbrev pub tableAfter : Table → Bytes → Table
-tableAfter t line = (replyOf t (line_of line)).table
+abbrev pub table_after : Table → Bytes → Table
+table_after t line = (reply_of t (line_of line)).table
 
-abbrev pub saidTo : Table → Bytes → Bytes
-saidTo t line = outputOf t (line_of line)
+abbrev pub said_to : Table → Bytes → Bytes
+said_to t line = output_of t (line_of line)
 
 -- a part of the input up to its first line end, kept behind what is kept already
-abbrev pub keptWith : Session → Bytes → Kept
-keptWith s input = keepAll s.kept (take (index_of LINE-END input) input)
+abbrev pub kept_with : Session → Bytes → Kept
+kept_with s input = keep_all s.kept (take (index_of LINE-END input) input)
 
-abbrev pub hasEnd : Bytes → Bool
-hasEnd input = index_of LINE-END input <? length input
+abbrev pub has_end : Bytes → Bool
+has_end input = index_of LINE-END input <? length input
 
 -- used is the line and its end, or all
-unfoldable pub usedOf : Bytes → ℕ
-usedOf input = if hasEnd input then index_of LINE-END input + 1 else index_of LINE-END input
+unfoldable pub used_of : Bytes → ℕ
+used_of input = if has_end input then index_of LINE-END input + 1 else index_of LINE-END input
 
-unfoldable pub fedSession : Session → Bytes → Session
-fedSession s input =
-    if hasEnd input then (record { table = tableAfter s.table (lineIn (keptWith s input)); kept = nothingKept }) else (record { table = s.table; kept = keptWith s input })
+unfoldable pub fed_session : Session → Bytes → Session
+fed_session s input =
+    if has_end input then (record { table = table_after s.table (line_in (kept_with s input)); kept = nothing_kept }) else (record { table = s.table; kept = kept_with s input })
 
-unfoldable pub fedText : Session → Bytes → Bytes
-fedText s input = if hasEnd input then saidTo s.table (lineIn (keptWith s input)) else []
+unfoldable pub fed_text : Session → Bytes → Bytes
+fed_text s input = if has_end input then said_to s.table (line_in (kept_with s input)) else []
 
 -- 9: 'output .. length wrong', 'state as given'
 abbrev pub refused : Session → Fed
 refused s = record { session = s; answer = 9; used = 0; written = 0 }
 
-unfoldable pub feedOf : (s : Session) (input out : Bytes) → Fed
-feedOf s input out =
+unfoldable pub feed_of : (s : Session) (input out : Bytes) → Fed
+feed_of s input out =
     if length out <? ROOM then refused s
-    else (record { session = fedSession s input; answer = 0; used = usedOf input; written = length (fedText s input) })
+    else (record { session = fed_session s input; answer = 0; used = used_of input; written = length (fed_text s input) })
 
-unfoldable pub feedBytes : (s : Session) (input out : Bytes) → Bytes
-feedBytes s input out = if length out <? ROOM then out else over (fedText s input) out
+unfoldable pub feed_bytes : (s : Session) (input out : Bytes) → Bytes
+feed_bytes s input out = if length out <? ROOM then out else over (fed_text s input) out
 
 -- the end of the input: the last line may lack its end
-abbrev pub hasLine : Session → Bool
-hasLine s = 0 <? s.kept.count
+abbrev pub has_line : Session → Bool
+has_line s = 0 <? s.kept.count
 
-unfoldable pub lastSession : Session → Session
-lastSession s = if hasLine s then (record { table = tableAfter s.table (lineIn s.kept); kept = nothingKept }) else s
+unfoldable pub last_session : Session → Session
+last_session s = if has_line s then (record { table = table_after s.table (line_in s.kept); kept = nothing_kept }) else s
 
-unfoldable pub lastText : Session → Bytes
-lastText s = if hasLine s then saidTo s.table (lineIn s.kept) else []
+unfoldable pub last_text : Session → Bytes
+last_text s = if has_line s then said_to s.table (line_in s.kept) else []
 
-unfoldable pub finishOf : Session → Bytes → Fed
-finishOf s out =
-    if length out <? ROOM then refused s else (record { session = lastSession s; answer = 0; used = 0; written = length (lastText s) })
+unfoldable pub finish_of : Session → Bytes → Fed
+finish_of s out =
+    if length out <? ROOM then refused s else (record { session = last_session s; answer = 0; used = 0; written = length (last_text s) })
 
-unfoldable pub finishBytes : Session → Bytes → Bytes
-finishBytes s out = if length out <? ROOM then out else over (lastText s) out
+unfoldable pub finish_bytes : Session → Bytes → Bytes
+finish_bytes s out = if length out <? ROOM then out else over (last_text s) out

@@ -7,26 +7,26 @@ use Rattle.text.specs.declared.fields.Number.{Number}
 use Rattle.text.specs.declared.fields.Number.TheVariants.{Value, Unreadable}
 use Rattle.session_lines.specs.declared.replies.Reply.{Reply}
 use Rattle.session_lines.specs.Line.{number_of}
-use Rattle.session_lines.specs.Replies.{repliedOf, sizeReply}
+use Rattle.session_lines.specs.Replies.{replied_of, size_reply}
 use Rattle.text.specs.Ascii.{ascii}
-use Rattle.session_lines.specs.Opened.{consoleOpen}
+use Rattle.session_lines.specs.Opened.{console_open}
 
 -- A number that does not fit a byte as malformed. 'Numbers have one to three decimal digits': `size 256` is refused by its range, with 4.
 wrong_byte : Number → Number
 wrong_byte (Value n) = if n <? 256 then Value n else Unreadable
 wrong_byte Unreadable = Unreadable
 
-wrong-number : List ℕ → Number
-wrong-number field = wrong_byte (number_of field)
+wrong_number : List ℕ → Number
+wrong_number field = wrong_byte (number_of field)
 
-number-breaks : (wrong-number (ascii "256") ≡ Unreadable) × (number_of (ascii "256") ≡ Value 256)
-unfolding consoleOpen wrong-number wrong_byte
-number-breaks = (refl, refl)
+number_breaks : (wrong_number (ascii "256") ≡ Unreadable) × (number_of (ascii "256") ≡ Value 256)
+unfolding console_open wrong_number wrong_byte
+number_breaks = (refl, refl)
 
 -- A refused size that hands on the empty group of the library's start, where 'a refused one leaves the board as it stood'.
 wrong_size : Table → ℕ → Reply
-wrong_size t n = repliedOf (start_of t.kind n)
+wrong_size t n = replied_of (start_of t.kind n)
 
-size-breaks : ((wrong_size (fresh_of 0 2) 65).table.count ≡ 0) × ((sizeReply (fresh_of 0 2) 65).table.count ≡ 2)
-unfolding consoleOpen wrong_size
-size-breaks = (refl, refl)
+size_breaks : ((wrong_size (fresh_of 0 2) 65).table.count ≡ 0) × ((size_reply (fresh_of 0 2) 65).table.count ≡ 2)
+unfolding console_open wrong_size
+size_breaks = (refl, refl)

@@ -1,7 +1,7 @@
 // A board written out (01, 'Session'): a line for each slot, then the wait.
 ghost use Rattle.std.specs.Prelude.{◌≡◌, ◌≤◌, length};
-ghost use Rattle.session_lines.specs.Output.{ROOM, boardText, slotsText};
-ghost use Rattle.session_lines.specs.Shown.{shownBytes, shownLength};
+ghost use Rattle.session_lines.specs.Output.{ROOM, board_text, slots_text};
+ghost use Rattle.session_lines.specs.Shown.{shown_bytes, shown_length};
 ghost use Rattle.text.specs.Output.{Put};
 
 use crate::output;
@@ -11,7 +11,7 @@ use sender::{Board, Row, Table};
 // The lines of the first n slots.
 fn put_slots(rows: [Row; 64], n: u8, out: &mut [u8]) -> usize
     requires { (n ≤ 64) × (ROOM ≤ length out.old) }
-    ensures { Put (slotsText rows n) 0 out.old result out.new }
+    ensures { Put (slots_text rows n) 0 out.old result out.new }
 {
     let mut at = 0;
     let mut i = 0;
@@ -26,7 +26,7 @@ fn put_slots(rows: [Row; 64], n: u8, out: &mut [u8]) -> usize
 
 pub(crate) fn put_board(board: Board, out: &mut [u8]) -> usize
     requires { (board.count ≤ 64) × (ROOM ≤ length out.old) }
-    ensures { Put (boardText board) 0 out.old result out.new }
+    ensures { Put (board_text board) 0 out.old result out.new }
 {
     let rows = board.rows;
     let next = put_slots(rows, board.count, out);
@@ -35,7 +35,7 @@ pub(crate) fn put_board(board: Board, out: &mut [u8]) -> usize
 
 // The board of a table at the front of the buffer: how many bytes its lines take, or 0 where the buffer is below OUTPUT_ROOM.
 pub fn show(table: Table, out: &mut [u8]) -> usize
-    ensures { (result ≡ shownLength table out.old) × (out.new ≡ shownBytes table out.old) }
+    ensures { (result ≡ shown_length table out.old) × (out.new ≡ shown_bytes table out.old) }
 {
     if out.len() < OUTPUT_ROOM {
         return 0;

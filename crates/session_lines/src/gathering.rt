@@ -1,6 +1,6 @@
 // The input taken up to its first line end, for any who read lines.
 ghost use Rattle.std.specs.Prelude.{◌≡◌};
-ghost use Rattle.session_lines.specs.Gathering.{gatheredOf};
+ghost use Rattle.session_lines.specs.Gathering.{gathered_of};
 
 use crate::kept;
 use crate::kept::Kept;
@@ -16,7 +16,7 @@ pub struct Gathered {
 const LINE_END: u8 = b'\n';
 
 pub fn gather(kept: Kept, input: &[u8]) -> Gathered
-    ensures { result ≡ gatheredOf kept input.now }
+    ensures { result ≡ gathered_of kept input.now }
 {
     let end = bytes::scan::find(input, 0, input.len(), LINE_END);
     let more = kept::keep_all(kept, input, end);

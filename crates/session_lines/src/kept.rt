@@ -1,6 +1,6 @@
 // The line that the input has begun and not ended: at most 81 of its bytes. The 81st says that it is too long, whatever follows.
 ghost use Rattle.std.specs.Prelude.{◌≡◌, ◌≤◌, length, take};
-ghost use Rattle.session_lines.specs.Kept.{keepAll, keepOf, nothingKept};
+ghost use Rattle.session_lines.specs.Kept.{keep_all, keep_of, nothing_kept};
 
 #[derive(Drop)]
 pub struct Kept {
@@ -9,7 +9,7 @@ pub struct Kept {
 }
 
 pub fn nothing() -> Kept
-    ensures { result ≡ nothingKept }
+    ensures { result ≡ nothing_kept }
 {
     Kept {
         bytes: [0u8; 81],
@@ -18,7 +18,7 @@ pub fn nothing() -> Kept
 }
 
 fn keep(kept: Kept, byte: u8) -> Kept
-    ensures { result ≡ keepOf kept byte }
+    ensures { result ≡ keep_of kept byte }
 {
     let at = kept.count;
     if at < 81 {
@@ -35,7 +35,7 @@ fn keep(kept: Kept, byte: u8) -> Kept
 // The first n bytes of a part of the input.
 pub(crate) fn keep_all(kept: Kept, input: &[u8], n: usize) -> Kept
     requires { n ≤ length input.now }
-    ensures { result ≡ keepAll kept (take n input.now) }
+    ensures { result ≡ keep_all kept (take n input.now) }
 {
     let mut k = kept;
     let mut i = 0;

@@ -1,7 +1,7 @@
 // What a line means (01, 'Session').
 ghost use Rattle.std.specs.Prelude.{◌≡◌, ◌∷◌, ◌+◌, ◌≤◌, ◌<◌, length};
 ghost use Rattle.std.proofs.Math.Seq.{slice};
-ghost use Rattle.session_lines.specs.Line.{line_of, meaningOf, numberLine, reportRead, word_line};
+ghost use Rattle.session_lines.specs.Line.{line_of, meaning_of, number_line, report_read, word_line};
 ghost use Rattle.text.specs.Text.{fields_of};
 
 use text::Number;
@@ -34,7 +34,7 @@ fn word_line(text: &[u8], at: usize, end: usize) -> Line
 
 // A line of a word, which lies from `at` to `end`, and a number.
 fn number_line(text: &[u8], at: usize, end: usize, number: Number) -> Line
-    ensures { result ≡ numberLine (slice at end text.now) number }
+    ensures { result ≡ number_line (slice at end text.now) number }
 {
     let Number::Value(n) = number else {
         return Line::Malformed;
@@ -52,7 +52,7 @@ fn number_line(text: &[u8], at: usize, end: usize, number: Number) -> Line
 }
 
 fn report_of(epoch: Number, mst: Number, ack: Number) -> Line
-    ensures { result ≡ reportRead epoch mst ack }
+    ensures { result ≡ report_read epoch mst ack }
 {
     let Number::Value(e) = epoch else {
         return Line::Malformed;
@@ -72,7 +72,7 @@ fn report_of(epoch: Number, mst: Number, ack: Number) -> Line
 // A line of a word and more than one field behind it. The word lies from `at` to `first`, the next field up to `second`.
 fn report_line(text: &[u8], at: usize, first: usize, second: usize, end: usize) -> Line
     requires { (first < second) × (second < end) × (end ≤ length text.now) }
-    ensures { result ≡ meaningOf (slice at first text.now ∷ slice (first + 1) second text.now ∷ fields_of (slice (second + 1) end text.now)) }
+    ensures { result ≡ meaning_of (slice at first text.now ∷ slice (first + 1) second text.now ∷ fields_of (slice (second + 1) end text.now)) }
 {
     let third = text::piece_end(text, second + 1, end, TAB);
     if end <= third {
@@ -93,7 +93,7 @@ fn report_line(text: &[u8], at: usize, first: usize, second: usize, end: usize) 
 // A line of a word, which lies from `at` to `first`, and more.
 fn rest_line(text: &[u8], at: usize, first: usize, end: usize) -> Line
     requires { (first < end) × (end ≤ length text.now) }
-    ensures { result ≡ meaningOf (slice at first text.now ∷ fields_of (slice (first + 1) end text.now)) }
+    ensures { result ≡ meaning_of (slice at first text.now ∷ fields_of (slice (first + 1) end text.now)) }
 {
     let second = text::piece_end(text, first + 1, end, TAB);
     if end <= second {
@@ -106,7 +106,7 @@ fn rest_line(text: &[u8], at: usize, first: usize, end: usize) -> Line
 // What a line of at most 80 bytes means.
 fn short_line(text: &[u8], at: usize, end: usize) -> Line
     requires { (at ≤ end) × (end ≤ length text.now) }
-    ensures { result ≡ meaningOf (fields_of (slice at end text.now)) }
+    ensures { result ≡ meaning_of (fields_of (slice at end text.now)) }
 {
     let first = text::piece_end(text, at, end, TAB);
     if end <= first {

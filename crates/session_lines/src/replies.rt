@@ -1,6 +1,6 @@
 // What a line is answered (01, 'Session'): the number and the table afterwards.
 ghost use Rattle.std.specs.Prelude.{◌≡◌};
-ghost use Rattle.session_lines.specs.Replies.{isBoard, repliedOf, replyOf, sizeReply};
+ghost use Rattle.session_lines.specs.Replies.{is_board, replied_of, reply_of, size_reply};
 
 use crate::line::Line;
 use sender::{Outcome, Table};
@@ -12,7 +12,7 @@ pub struct Reply {
 }
 
 fn replied(outcome: Outcome) -> Reply
-    ensures { result ≡ repliedOf outcome }
+    ensures { result ≡ replied_of outcome }
 {
     let table = outcome.table;
     let answer = outcome.answer;
@@ -24,7 +24,7 @@ fn replied(outcome: Outcome) -> Reply
 
 // A count out of range leaves the table.
 fn size_reply(table: Table, count: u32) -> Reply
-    ensures { result ≡ sizeReply table count }
+    ensures { result ≡ size_reply table count }
 {
     let fresh = replied(sender::start(table.kind, count));
     if fresh.number == 0 {
@@ -37,7 +37,7 @@ fn size_reply(table: Table, count: u32) -> Reply
 }
 
 pub fn reply_to(table: Table, line: Line) -> Reply
-    ensures { result ≡ replyOf table line }
+    ensures { result ≡ reply_of table line }
 {
     match line {
         Line::Size(count) => size_reply(table, count),
@@ -51,7 +51,7 @@ pub fn reply_to(table: Table, line: Line) -> Reply
 }
 
 pub fn is_board(line: Line) -> bool
-    ensures { result ≡ isBoard line }
+    ensures { result ≡ is_board line }
 {
     match line {
         Line::Size(_) => false,

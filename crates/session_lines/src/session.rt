@@ -1,10 +1,10 @@
 // A session (01, 'Session'): the input as it comes, in parts cut anywhere, each line answered when its end has come.
 ghost use Rattle.std.specs.Prelude.{◌≡◌, ◌≤◌, length};
-ghost use Rattle.session_lines.specs.Kept.{lineIn};
+ghost use Rattle.session_lines.specs.Kept.{line_in};
 ghost use Rattle.session_lines.specs.Line.{line_of};
 ghost use Rattle.session_lines.specs.Output.{ROOM};
-ghost use Rattle.session_lines.specs.Replies.{outputOf, replyOf};
-ghost use Rattle.session_lines.specs.Session.{beginning, feedBytes, feedOf, finishBytes, finishOf, over};
+ghost use Rattle.session_lines.specs.Replies.{output_of, reply_of};
+ghost use Rattle.session_lines.specs.Session.{beginning, feed_bytes, feed_of, finish_bytes, finish_of, over};
 
 use crate::kept::Kept;
 use crate::line::Line;
@@ -53,8 +53,8 @@ pub fn begin() -> Session
 
 // A line's answer, or the board.
 fn put_output(table: Table, line: Line, number: u8, out: &mut [u8]) -> usize
-    requires { (ROOM ≤ length out.old) × (number ≡ (replyOf table line).number) }
-    ensures { (result ≡ length (outputOf table line)) × (out.new ≡ over (outputOf table line) out.old) }
+    requires { (ROOM ≤ length out.old) × (number ≡ (reply_of table line).number) }
+    ensures { (result ≡ length (output_of table line)) × (out.new ≡ over (output_of table line) out.old) }
 {
     if replies::is_board(line) {
         let board = sender::board_of(table);
@@ -64,7 +64,7 @@ fn put_output(table: Table, line: Line, number: u8, out: &mut [u8]) -> usize
 }
 
 pub fn line_in(kept: Kept) -> Line
-    ensures { result ≡ line_of (lineIn kept) }
+    ensures { result ≡ line_of (line_in kept) }
 {
     let bytes = kept.bytes;
     line::read_line(&bytes, 0, kept.count)
@@ -73,7 +73,7 @@ pub fn line_in(kept: Kept) -> Line
 // The line that is kept, answered.
 fn answer(table: Table, kept: Kept, out: &mut [u8]) -> Answered
     requires { ROOM ≤ length out.old }
-    ensures { (result.table ≡ (replyOf table (line_of (lineIn kept))).table) × (result.written ≡ length (outputOf table (line_of (lineIn kept)))) × (out.new ≡ over (outputOf table (line_of (lineIn kept))) out.old) }
+    ensures { (result.table ≡ (reply_of table (line_of (line_in kept))).table) × (result.written ≡ length (output_of table (line_of (line_in kept)))) × (out.new ≡ over (output_of table (line_of (line_in kept))) out.old) }
 {
     let line = line_in(kept);
     let reply = replies::reply_to(table, line);
@@ -87,7 +87,7 @@ fn answer(table: Table, kept: Kept, out: &mut [u8]) -> Answered
 
 // A part of the input, up to its first line end, whose line is then answered, or whole, where no line ends in it.
 pub fn feed(session: Session, input: &[u8], out: &mut [u8]) -> Fed
-    ensures { (result ≡ feedOf session input.now out.old) × (out.new ≡ feedBytes session input.now out.old) }
+    ensures { (result ≡ feed_of session input.now out.old) × (out.new ≡ feed_bytes session input.now out.old) }
 {
     if out.len() < OUTPUT_ROOM {
         return Fed {
@@ -124,7 +124,7 @@ pub fn feed(session: Session, input: &[u8], out: &mut [u8]) -> Fed
 
 // The end of the input: a line that lacks its end is answered.
 pub fn finish(session: Session, out: &mut [u8]) -> Fed
-    ensures { (result ≡ finishOf session out.old) × (out.new ≡ finishBytes session out.old) }
+    ensures { (result ≡ finish_of session out.old) × (out.new ≡ finish_bytes session out.old) }
 {
     if out.len() < OUTPUT_ROOM {
         return Fed {

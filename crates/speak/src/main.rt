@@ -1,6 +1,6 @@
 // Reads lines of commands from standard input to its end and tells a listener what changes: slots in runs, or with --each each slot by itself.
 ghost use Rattle.std.specs.Prelude.{◌≡◌};
-ghost use Rattle.session_lines.specs.Session.{usedOf};
+ghost use Rattle.session_lines.specs.Session.{used_of};
 
 use libc::{STDIN_FILENO, STDOUT_FILENO};
 use speak_lines::Listener;
@@ -21,7 +21,7 @@ struct Turned {
 
 // A part of the input up to its first line end, and what that prints.
 fn feed_some(listener: Listener, input: &[u8]) -> Turn
-    ensures { result.used ≡ usedOf input.now }
+    ensures { result.used ≡ used_of input.now }
 {
     let mut out = [0u8; 2188];
     let fed = speak_lines::feed(listener, input, &mut out);

@@ -1,12 +1,12 @@
 -- All that this crate and those below it define, opened under one name for examples that are computed. A new definition is named here, and nowhere else.
 use Rattle.std.specs.Prelude.{ℕ}
-use Rattle.session_lines.specs.Opened.{consoleOpen}
-use Rattle.spoken.specs.Opened.{spokenOpen}
-use Rattle.speak_lines.specs.Lines.{boardLines, changeLines, doneText, refusedText, said_of}
-use Rattle.speak_lines.specs.Listening.{afterLine, beginning, fedListener, fedText, feedBytes, feedOf, finishBytes, finishOf, heardAfter, lastListener, lastText, nextPlace, tableAfter, text_of}
-use Rattle.speak_lines.specs.Runs.{endedRun, fedOnce, hostOutput, left_of, wholeOutput}
+use Rattle.session_lines.specs.Opened.{console_open}
+use Rattle.spoken.specs.Opened.{spoken_open}
+use Rattle.speak_lines.specs.Lines.{board_lines, change_lines, done_text, refused_text, said_of}
+use Rattle.speak_lines.specs.Listening.{after_line, beginning, fed_listener, fed_text, feed_bytes, feed_of, finish_bytes, finish_of, heard_after, last_listener, last_text, next_place, table_after, text_of}
+use Rattle.speak_lines.specs.Runs.{ended_run, fed_once, host_output, left_of, whole_output}
 
-unfoldable pub listenerOpen : ℕ
-unfolding consoleOpen spokenOpen boardLines changeLines doneText refusedText said_of afterLine beginning fedListener fedText feedBytes feedOf finishBytes
-    finishOf heardAfter lastListener lastText nextPlace tableAfter text_of endedRun fedOnce hostOutput left_of wholeOutput
-listenerOpen = 0
+unfoldable pub listener_open : ℕ
+unfolding console_open spoken_open board_lines change_lines done_text refused_text said_of after_line beginning fed_listener fed_text feed_bytes feed_of finish_bytes
+    finish_of heard_after last_listener last_text next_place table_after text_of ended_run fed_once host_output left_of whole_output
+listener_open = 0

@@ -1,10 +1,10 @@
 // What a line prints for a listener, put into a lent buffer.
 ghost use Rattle.std.specs.Prelude.{◌≡◌, ◌≤◌, length};
 ghost use Rattle.session_lines.specs.Session.{over};
-ghost use Rattle.session_lines.specs.Told.{isSize};
+ghost use Rattle.session_lines.specs.Told.{is_size};
 ghost use Rattle.spoken.specs.Speaking.{SPEECH-ROOM};
-ghost use Rattle.text.specs.Output.{putBytes, putNext};
-ghost use Rattle.speak_lines.specs.Lines.{boardLines, causeText, changeLines, doneText, namedText, numberedText, refusedText, whyText};
+ghost use Rattle.text.specs.Output.{put_bytes, put_next};
+ghost use Rattle.speak_lines.specs.Lines.{board_lines, cause_text, change_lines, done_text, named_text, numbered_text, refused_text, why_text};
 
 use sender::Table;
 use session_lines::Line;
@@ -12,7 +12,7 @@ use spoken::Changes;
 
 // Whether it is a size that is accepted.
 pub(crate) fn is_size(line: Line) -> bool
-    ensures { result ≡ isSize line }
+    ensures { result ≡ is_size line }
 {
     match line {
         Line::Size(n) => (1 <= n) & (n <= 64),
@@ -26,7 +26,7 @@ pub(crate) fn is_size(line: Line) -> bool
 }
 
 fn put_named(line: Line, out: &mut [u8], at: usize) -> usize
-    ensures { (result ≡ putNext (namedText line) at out.old) × (out.new ≡ putBytes (namedText line) at out.old) }
+    ensures { (result ≡ put_next (named_text line) at out.old) × (out.new ≡ put_bytes (named_text line) at out.old) }
 {
     match line {
         Line::Size(_) => text::put(b"size\t", out, at),
@@ -40,7 +40,7 @@ fn put_named(line: Line, out: &mut [u8], at: usize) -> usize
 }
 
 fn put_numbered(line: Line, out: &mut [u8], at: usize) -> usize
-    ensures { (result ≡ putNext (numberedText line) at out.old) × (out.new ≡ putBytes (numberedText line) at out.old) }
+    ensures { (result ≡ put_next (numbered_text line) at out.old) × (out.new ≡ put_bytes (numbered_text line) at out.old) }
 {
     match line {
         Line::Size(n) => text::put_decimal(n as u64, b'\t', out, at),
@@ -54,7 +54,7 @@ fn put_numbered(line: Line, out: &mut [u8], at: usize) -> usize
 }
 
 fn put_cause(line: Line, out: &mut [u8], at: usize) -> usize
-    ensures { (result ≡ putNext (causeText line) at out.old) × (out.new ≡ putBytes (causeText line) at out.old) }
+    ensures { (result ≡ put_next (cause_text line) at out.old) × (out.new ≡ put_bytes (cause_text line) at out.old) }
 {
     match line {
         Line::Size(_) => text::put(b"not 1 to 64\n", out, at),
@@ -68,7 +68,7 @@ fn put_cause(line: Line, out: &mut [u8], at: usize) -> usize
 }
 
 fn put_why(line: Line, number: u8, out: &mut [u8], at: usize) -> usize
-    ensures { (result ≡ putNext (whyText line number) at out.old) × (out.new ≡ putBytes (whyText line number) at out.old) }
+    ensures { (result ≡ put_next (why_text line number) at out.old) × (out.new ≡ put_bytes (why_text line number) at out.old) }
 {
     if number == 1 {
         return text::put(b"no such slot\n", out, at);
@@ -82,7 +82,7 @@ fn put_why(line: Line, number: u8, out: &mut [u8], at: usize) -> usize
 // A refused line: which it was, what it was, and why.
 pub(crate) fn put_refused(line: Line, number: u8, place: u64, out: &mut [u8]) -> usize
     requires { SPEECH-ROOM ≤ length out.old }
-    ensures { (result ≡ length (refusedText line number place)) × (out.new ≡ over (refusedText line number place) out.old) }
+    ensures { (result ≡ length (refused_text line number place)) × (out.new ≡ over (refused_text line number place) out.old) }
 {
     let second = text::put(b"answer\t", out, 0);
     let third = text::put_number(number, b'\t', out, second);
@@ -96,7 +96,7 @@ pub(crate) fn put_refused(line: Line, number: u8, place: u64, out: &mut [u8]) ->
 // `size 4` for a size that is accepted, and nothing for other lines that are done.
 pub(crate) fn put_done(line: Line, count: u8, out: &mut [u8]) -> usize
     requires { SPEECH-ROOM ≤ length out.old }
-    ensures { (result ≡ length (doneText line count)) × (out.new ≡ over (doneText line count) out.old) }
+    ensures { (result ≡ length (done_text line count)) × (out.new ≡ over (done_text line count) out.old) }
 {
     if !is_size(line) {
         return 0;
@@ -107,7 +107,7 @@ pub(crate) fn put_done(line: Line, count: u8, out: &mut [u8]) -> usize
 
 pub(crate) fn put_board(runs: bool, table: Table, out: &mut [u8]) -> usize
     requires { SPEECH-ROOM ≤ length out.old }
-    ensures { (result ≡ length (boardLines runs table)) × (out.new ≡ over (boardLines runs table) out.old) }
+    ensures { (result ≡ length (board_lines runs table)) × (out.new ≡ over (board_lines runs table) out.old) }
 {
     if runs {
         let board = sender::board_of(table);
@@ -119,7 +119,7 @@ pub(crate) fn put_board(runs: bool, table: Table, out: &mut [u8]) -> usize
 
 pub(crate) fn put_changes(runs: bool, changes: Changes, out: &mut [u8]) -> usize
     requires { SPEECH-ROOM ≤ length out.old }
-    ensures { (result ≡ length (changeLines runs changes)) × (out.new ≡ over (changeLines runs changes) out.old) }
+    ensures { (result ≡ length (change_lines runs changes)) × (out.new ≡ over (change_lines runs changes) out.old) }
 {
     if runs {
         let speech = spoken::speak_runs(changes, out);

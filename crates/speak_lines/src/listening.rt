@@ -1,10 +1,10 @@
 // A session told to a listener: the input as it comes, in parts cut anywhere, and what each line prints when its end has come.
 ghost use Rattle.std.specs.Prelude.{◌≡◌, ◌≤◌, length};
-ghost use Rattle.session_lines.specs.Kept.{lineIn};
+ghost use Rattle.session_lines.specs.Kept.{line_in};
 ghost use Rattle.session_lines.specs.Session.{over};
 ghost use Rattle.spoken.specs.Speaking.{SPEECH-ROOM};
 ghost use Rattle.speak_lines.specs.Lines.{said_of};
-ghost use Rattle.speak_lines.specs.Listening.{afterLine, beginning, feedBytes, feedOf, finishBytes, finishOf, heardAfter, isEpoch, nextPlace, tableAfter, text_of};
+ghost use Rattle.speak_lines.specs.Listening.{after_line, beginning, feed_bytes, feed_of, finish_bytes, finish_of, heard_after, is_epoch, next_place, table_after, text_of};
 
 use crate::lines;
 use packet::kinds;
@@ -46,14 +46,14 @@ pub fn begin(runs: bool) -> Listener
 }
 
 fn is_epoch(kept: Kept) -> bool
-    ensures { result ≡ isEpoch (lineIn kept) }
+    ensures { result ≡ is_epoch (line_in kept) }
 {
     let bytes = kept.bytes;
     text::same(&bytes, 0, kept.count, b"epoch")
 }
 
 fn table_after(table: Table, kept: Kept) -> Table
-    ensures { result ≡ tableAfter table (lineIn kept) }
+    ensures { result ≡ table_after table (line_in kept) }
 {
     if is_epoch(kept) {
         return table;
@@ -64,7 +64,7 @@ fn table_after(table: Table, kept: Kept) -> Table
 
 // The board that she holds.
 fn heard_after(table: Table, heard: Board, kept: Kept) -> Board
-    ensures { result ≡ heardAfter table heard (lineIn kept) }
+    ensures { result ≡ heard_after table heard (line_in kept) }
 {
     if is_epoch(kept) {
         return sender::board_of(table);
@@ -79,13 +79,13 @@ fn heard_after(table: Table, heard: Board, kept: Kept) -> Board
 }
 
 fn next_place(place: u64) -> u64
-    ensures { result ≡ nextPlace place }
+    ensures { result ≡ next_place place }
 {
     if place < u64::MAX { place + 1 } else { place }
 }
 
 fn after_line(listener: Listener, kept: Kept) -> Listener
-    ensures { result ≡ afterLine listener (lineIn kept) }
+    ensures { result ≡ after_line listener (line_in kept) }
 {
     let table = listener.table;
     let heard = listener.heard;
@@ -117,7 +117,7 @@ fn put_said(runs: bool, table: Table, line: Line, place: u64, out: &mut [u8]) ->
 // What a line prints.
 fn put_line(listener: Listener, kept: Kept, out: &mut [u8]) -> usize
     requires { SPEECH-ROOM ≤ length out.old }
-    ensures { (result ≡ length (text_of listener (lineIn kept))) × (out.new ≡ over (text_of listener (lineIn kept)) out.old) }
+    ensures { (result ≡ length (text_of listener (line_in kept))) × (out.new ≡ over (text_of listener (line_in kept)) out.old) }
 {
     let table = listener.table;
     let heard = listener.heard;
@@ -132,7 +132,7 @@ fn put_line(listener: Listener, kept: Kept, out: &mut [u8]) -> usize
 
 // A part of the input, up to its first line end.
 pub fn feed(listener: Listener, input: &[u8], out: &mut [u8]) -> Heard
-    ensures { (result ≡ feedOf listener input.now out.old) × (out.new ≡ feedBytes listener input.now out.old) }
+    ensures { (result ≡ feed_of listener input.now out.old) × (out.new ≡ feed_bytes listener input.now out.old) }
 {
     if out.len() < spoken::SPEECH_ROOM {
         return Heard {
@@ -172,7 +172,7 @@ pub fn feed(listener: Listener, input: &[u8], out: &mut [u8]) -> Heard
 
 // The end of the input: a line that lacks its end is answered.
 pub fn finish(listener: Listener, out: &mut [u8]) -> Heard
-    ensures { (result ≡ finishOf listener out.old) × (out.new ≡ finishBytes listener out.old) }
+    ensures { (result ≡ finish_of listener out.old) × (out.new ≡ finish_bytes listener out.old) }
 {
     if out.len() < spoken::SPEECH_ROOM {
         return Heard {

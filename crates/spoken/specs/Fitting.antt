@@ -5,10 +5,10 @@ use Rattle.sender.specs.Ranks.{row_at}
 use Rattle.spoken.specs.declared.lists.Change.{Change}
 use Rattle.spoken.specs.declared.lists.Changes.{Changes}
 use Rattle.spoken.specs.declared.lists.WaitChange.TheVariants.{Opened, Closed}
-use Rattle.spoken.specs.Applying.{changeIn}
+use Rattle.spoken.specs.Applying.{change_in}
 
 abbrev pub spoken : Changes → ℕ → Change
-spoken cs k = changeIn cs.list k
+spoken cs k = change_in cs.list k
 
 pub record Fits (b : Board) (cs : Changes) : Type 0 where
   -- neither the board's count nor that of the changes is above 64

@@ -2,16 +2,16 @@
 use Rattle.std.specs.Prelude.{◌≡◌, Bool, true, false, ◌&&◌, List, [], ◌∷◌, ◌++◌, ℕ, ◌+◌, ◌<◌, take}
 use Rattle.ground.specs.Plain.{if◌then◌else◌, ◌==◌, ◌≤?◌}
 use Rattle.ground.specs.Counting.Words.{count}
-use Rattle.sender.specs.Board.{boardOf}
+use Rattle.sender.specs.Board.{board_of}
 use Rattle.sender.specs.Numbering.{Demand2}
 use Rattle.sender.specs.Ranks.{row_at}
 use Rattle.sender.specs.declared.board.Board.{Board}
 use Rattle.sender.specs.declared.board.Row.{Row}
 use Rattle.sender.specs.declared.table.Table.{Table}
-use Rattle.spoken.specs.Changes.{changeAt, changed}
+use Rattle.spoken.specs.Changes.{change_at, changed}
 use Rattle.spoken.specs.Fitting.{Fits, spoken}
-use Rattle.spoken.specs.Runs.{spreadRun}
-use Rattle.spoken.specs.Speaking.{isShown}
+use Rattle.spoken.specs.Runs.{spread_run}
+use Rattle.spoken.specs.Speaking.{is_shown}
 use Rattle.spoken.specs.declared.lists.Change.{Change}
 use Rattle.spoken.specs.declared.lists.Changes.{Changes}
 use Rattle.spoken.specs.declared.lists.WaitChange.{WaitChange}
@@ -21,7 +21,7 @@ use Rattle.spoken.specs.declared.runs.Run.{Run}
 -- what a spoken change is: a slot below n that has changed, with its old and its new row
 pub record Told (old new : List Row) (n : ℕ) (c : Change) : Type 0 where
   pub below : c.slot < n
-  pub is : c ≡ changeAt old new c.slot
+  pub is : c ≡ change_at old new c.slot
   pub differs : changed old new c.slot ≡ true
 
 -- the wait is in the changes if it differs, and if it is in them it differs
@@ -29,9 +29,9 @@ pub record WaitTold (old new : Bool) (w : WaitChange) : Type 0 where
   pub same : old ≡ new → w ≡ Same
   pub same_back : w ≡ Same → old ≡ new
   pub opened : old ≡ false → new ≡ true → w ≡ Opened
-  pub opened-back : w ≡ Opened → (old ≡ false) × (new ≡ true)
+  pub opened_back : w ≡ Opened → (old ≡ false) × (new ≡ true)
   pub closed : old ≡ true → new ≡ false → w ≡ Closed
-  pub closed-back : w ≡ Closed → (old ≡ true) × (new ≡ false)
+  pub closed_back : w ≡ Closed → (old ≡ true) × (new ≡ false)
 
 -- the changes say exactly what differs between two boards
 pub record Exactly (old new : Board) (cs : Changes) : Type 0 where
@@ -59,28 +59,28 @@ pub record Speaks (cs : Changes) : Type 0 where
   -- a board that they fit
   pub board : Board
   pub fits : Fits board cs
-  pub old : (k : ℕ) → k < cs.count → isShown (spoken cs k).old.word ≡ true
-  pub new : (k : ℕ) → k < cs.count → isShown (spoken cs k).new.word ≡ true
+  pub old : (k : ℕ) → k < cs.count → is_shown (spoken cs k).old.word ≡ true
+  pub new : (k : ℕ) → k < cs.count → is_shown (spoken cs k).new.word ≡ true
 
 -- what is known is the board of one table, as demand 2 asks
 pub record OneTable (b : Board) : Type 0 where
   pub source : Table
-  pub is : b ≡ boardOf source
+  pub is : b ≡ board_of source
   pub demand2 : Demand2 source
 
 -- no run has the changes of a run and the first one behind it
 abbrev pub Ends : (run : Run) (behind : List Run) → Type 0
 Ends run [] = Unit {0}
-Ends run (next ∷ runs) = (q : Run) → spreadRun q ≡ spreadRun run ++ (next.first ∷ []) → ⊥
+Ends run (next ∷ runs) = (q : Run) → spread_run q ≡ spread_run run ++ (next.first ∷ []) → ⊥
 
 abbrev pub AllEnd : List Run → Type 0
 AllEnd [] = Unit {0}
 AllEnd (run ∷ runs) = Ends run runs × AllEnd runs
 
 -- whether a run tells of a slot, and how many of some runs do
-abbrev pub tellsOf : (run : Run) (slot : ℕ) → Bool
-tellsOf run slot = run.first.slot ≤? slot && slot ≤? run.last.slot
+abbrev pub tells_of : (run : Run) (slot : ℕ) → Bool
+tells_of run slot = run.first.slot ≤? slot && slot ≤? run.last.slot
 
-abbrev pub runsWith : (slot : ℕ) (runs : List Run) → ℕ
-runsWith slot [] = 0
-runsWith slot (run ∷ runs) = (if tellsOf run slot then 1 else 0) + runsWith slot runs
+abbrev pub runs_with : (slot : ℕ) (runs : List Run) → ℕ
+runs_with slot [] = 0
+runs_with slot (run ∷ runs) = (if tells_of run slot then 1 else 0) + runs_with slot runs

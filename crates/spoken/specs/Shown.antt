@@ -6,26 +6,26 @@ use Rattle.spoken.specs.declared.lists.Change.{Change}
 use Rattle.spoken.specs.declared.lists.Changes.{Changes}
 use Rattle.spoken.specs.declared.lists.WaitChange.{WaitChange}
 use Rattle.spoken.specs.declared.lists.WaitChange.TheVariants.{Same, Opened, Closed}
-use Rattle.spoken.specs.Applying.{appliedOf}
-use Rattle.spoken.specs.Changes.{answerNumber, comparedOf}
+use Rattle.spoken.specs.Applying.{applied_of}
+use Rattle.spoken.specs.Changes.{answer_number, compared_of}
 
-abbrev pub waitCode : WaitChange → ℕ
-waitCode Same = 0
-waitCode Opened = 1
-waitCode Closed = 2
+abbrev pub wait_code : WaitChange → ℕ
+wait_code Same = 0
+wait_code Opened = 1
+wait_code Closed = 2
 
-abbrev changeNumbers : List Change → List ℕ
-changeNumbers [] = []
-changeNumbers (c ∷ cs) = c.slot ∷ c.old.word.0 ∷ c.old.number ∷ c.new.word.0 ∷ c.new.number ∷ changeNumbers cs
+abbrev change_numbers : List Change → List ℕ
+change_numbers [] = []
+change_numbers (c ∷ cs) = c.slot ∷ c.old.word.0 ∷ c.old.number ∷ c.new.word.0 ∷ c.new.number ∷ change_numbers cs
 
 -- slot, old word and number, new word and number of each change, then the wait
-abbrev pub spokenNumbers : Changes → List ℕ
-spokenNumbers cs = changeNumbers (take cs.count cs.list) ++ (waitCode cs.wait ∷ [])
+abbrev pub spoken_numbers : Changes → List ℕ
+spoken_numbers cs = change_numbers (take cs.count cs.list) ++ (wait_code cs.wait ∷ [])
 
 -- the answer, then the changes
-abbrev pub comparedNumbers : Board → Board → List ℕ
-comparedNumbers old new = answerNumber (comparedOf old new).answer ∷ spokenNumbers (comparedOf old new).changes
+abbrev pub compared_numbers : Board → Board → List ℕ
+compared_numbers old new = answer_number (compared_of old new).answer ∷ spoken_numbers (compared_of old new).changes
 
 -- the answer, then the board
-abbrev pub appliedNumbers : Board → Changes → List ℕ
-appliedNumbers b cs = answerNumber (appliedOf b cs).answer ∷ numbers (appliedOf b cs).board
+abbrev pub applied_numbers : Board → Changes → List ℕ
+applied_numbers b cs = answer_number (applied_of b cs).answer ∷ numbers (applied_of b cs).board

@@ -1,6 +1,6 @@
 // Changes applied to a board: 'changes that don't fit the board they are applied to is 2, and the board stays.' All are judged against the board as it stands before the first is applied.
 ghost use Rattle.std.specs.Prelude.{◌≡◌, ℕ, ◌≤◌, ◌<◌};
-ghost use Rattle.spoken.specs.Applying.{appliedOf, changeIn, changesFit, fits, fits_by, laidTo, risesAt, waitAfter, waitFits};
+ghost use Rattle.spoken.specs.Applying.{applied_of, change_in, changes_fit, fits, fits_by, laid_to, rises_at, wait_after, wait_fits};
 
 use crate::lists;
 use crate::lists::{Answer, Change, Changes, WaitChange};
@@ -14,7 +14,7 @@ pub struct Applied {
 
 // Opened on an open wait does not fit, nor Closed on none.
 fn wait_fits(wait: bool, change: WaitChange) -> bool
-    ensures { result ≡ waitFits wait change }
+    ensures { result ≡ wait_fits wait change }
 {
     match change {
         WaitChange::Same => true,
@@ -24,7 +24,7 @@ fn wait_fits(wait: bool, change: WaitChange) -> bool
 }
 
 fn wait_after(wait: bool, change: WaitChange) -> bool
-    ensures { result ≡ waitAfter wait change }
+    ensures { result ≡ wait_after wait change }
 {
     match change {
         WaitChange::Same => wait,
@@ -36,7 +36,7 @@ fn wait_after(wait: bool, change: WaitChange) -> bool
 // The slots of the changes rise strictly.
 pub(crate) fn rises_at(list: [Change; 64], k: usize) -> bool
     requires { k < 64 }
-    ensures { result ≡ risesAt list k }
+    ensures { result ≡ rises_at list k }
 {
     if k == 0 {
         return true;
@@ -57,7 +57,7 @@ fn fits_by(change: Change, row: Row, count: u8, rises: bool) -> bool
 
 fn changes_fit(rows: [Row; 64], count: u8, list: [Change; 64], n: usize) -> bool
     requires { (n ≤ 64) × (count ≤ 64) }
-    ensures { result ≡ changesFit rows count list n }
+    ensures { result ≡ changes_fit rows count list n }
 {
     let mut all = true;
     let mut k = 0;
@@ -87,8 +87,8 @@ fn does_fit(board: Board, changes: Changes) -> bool
 
 // The rows with the first n changes laid on them.
 fn lay(rows: [Row; 64], list: [Change; 64], n: usize) -> [Row; 64]
-    requires { (n ≤ 64) × ((k : ℕ) → k < n → (changeIn list k).slot < 64) }
-    ensures { result ≡ laidTo rows list n }
+    requires { (n ≤ 64) × ((k : ℕ) → k < n → (change_in list k).slot < 64) }
+    ensures { result ≡ laid_to rows list n }
 {
     let mut laid = rows;
     let mut k = 0;
@@ -102,7 +102,7 @@ fn lay(rows: [Row; 64], list: [Change; 64], n: usize) -> [Row; 64]
 }
 
 pub fn apply(board: Board, changes: Changes) -> Applied
-    ensures { result ≡ appliedOf board changes }
+    ensures { result ≡ applied_of board changes }
 {
     if !does_fit(board, changes) {
         return Applied {

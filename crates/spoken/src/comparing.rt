@@ -1,7 +1,7 @@
 // The changes from one board to another: 'slot, old state and number, new state and number, in slot order, then the wait if it differs.'
 ghost use Rattle.std.specs.Prelude.{◌≡◌, ◌≤◌};
 ghost use Rattle.ground.specs.Plain.{if◌then◌else◌};
-ghost use Rattle.spoken.specs.Changes.{changesIn, comparedOf, waitChange};
+ghost use Rattle.spoken.specs.Changes.{changes_in, compared_of, wait_change};
 
 use crate::lists;
 use crate::lists::{Answer, Change, Changes, WaitChange};
@@ -14,7 +14,7 @@ pub struct Compared {
 }
 
 fn wait_change(old: bool, new: bool) -> WaitChange
-    ensures { result ≡ waitChange old new }
+    ensures { result ≡ wait_change old new }
 {
     if old == new {
         return WaitChange::Same;
@@ -34,7 +34,7 @@ fn change_if(test: bool, change: Change, other: Change) -> Change
 // The changes of the first n slots. Where a slot is as it was, nothing is stored over nothing.
 fn changes_in(old: [Row; 64], new: [Row; 64], n: usize, wait: WaitChange) -> Changes
     requires { n ≤ 64 }
-    ensures { result ≡ changesIn old new n wait }
+    ensures { result ≡ changes_in old new n wait }
 {
     let none = lists::no_change();
     let mut list = [none; 64];
@@ -59,7 +59,7 @@ fn changes_in(old: [Row; 64], new: [Row; 64], n: usize, wait: WaitChange) -> Cha
 
 // 4 where the counts differ or are above 64; no changes then.
 pub fn changes_between(old: Board, new: Board) -> Compared
-    ensures { result ≡ comparedOf old new }
+    ensures { result ≡ compared_of old new }
 {
     let before = old.rows;
     let after = new.rows;

@@ -1,6 +1,6 @@
 // A list of changes by value, and the answers of this crate.
 ghost use Rattle.std.specs.Prelude.{◌≡◌};
-ghost use Rattle.spoken.specs.Changes.{answerNumber, noChange, sameRow};
+ghost use Rattle.spoken.specs.Changes.{answer_number, no_change, same_row};
 
 use packet::Word;
 use sender::Row;
@@ -38,7 +38,7 @@ pub enum Answer {
 
 impl Answer {
     pub fn number(self) -> u8
-        ensures { result ≡ answerNumber self }
+        ensures { result ≡ answer_number self }
     {
         match self {
             Answer::Done => 0,
@@ -50,7 +50,7 @@ impl Answer {
 }
 
 pub(crate) fn same_row(one: Row, other: Row) -> bool
-    ensures { result ≡ sameRow one other }
+    ensures { result ≡ same_row one other }
 {
     let a = one.word;
     let b = other.word;
@@ -58,7 +58,7 @@ pub(crate) fn same_row(one: Row, other: Row) -> bool
 }
 
 pub(crate) fn no_change() -> Change
-    ensures { result ≡ noChange }
+    ensures { result ≡ no_change }
 {
     Change {
         slot: 0,

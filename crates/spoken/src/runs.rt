@@ -1,7 +1,7 @@
 // Changes in runs: slots next to each other, with old and new words alike and numbers that rise by one with each slot or are alike.
 ghost use Rattle.std.specs.Prelude.{◌≡◌};
 ghost use Rattle.ground.specs.Plain.{if◌then◌else◌};
-ghost use Rattle.spoken.specs.Runs.{continues, longer, numbersContinue, rowContinues, single};
+ghost use Rattle.spoken.specs.Runs.{continues, longer, numbers_continue, row_continues, single};
 
 use crate::lists::Change;
 use sender::Row;
@@ -15,7 +15,7 @@ pub struct Run {
 
 // Numbers of the slots `from` and `to`, and of the next slot: all alike, or each as far from the first as its slot.
 fn numbers_continue(first: u8, last: u8, next: u8, from: u8, to: u8) -> bool
-    ensures { result ≡ numbersContinue first last next from to }
+    ensures { result ≡ numbers_continue first last next from to }
 {
     ((last == first) & (next == first))
         | ((last as u16 + from as u16 == first as u16 + to as u16)
@@ -23,7 +23,7 @@ fn numbers_continue(first: u8, last: u8, next: u8, from: u8, to: u8) -> bool
 }
 
 fn row_continues(first: Row, last: Row, next: Row, from: u8, to: u8) -> bool
-    ensures { result ≡ rowContinues first last next from to }
+    ensures { result ≡ row_continues first last next from to }
 {
     let word = next.word;
     let other = first.word;

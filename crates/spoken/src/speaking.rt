@@ -1,8 +1,8 @@
 // The changes as lines, for ears and fingertips.
 ghost use Rattle.std.specs.Prelude.{◌≡◌, ◌++◌, ℕ, ◌+◌, ◌≤◌, ◌<◌, length};
 ghost use Rattle.text.specs.Output.{Put};
-ghost use Rattle.spoken.specs.Applying.{changeIn};
-ghost use Rattle.spoken.specs.Speaking.{SPEECH-ROOM, canSpeak, changeLines, changeText, changesSpeak, isShown, rowText, slotText, speaksBy, speechBytes, speechOf, waitLine};
+ghost use Rattle.spoken.specs.Applying.{change_in};
+ghost use Rattle.spoken.specs.Speaking.{SPEECH-ROOM, can_speak, change_lines, change_text, changes_speak, is_shown, row_text, slot_text, speaks_by, speech_bytes, speech_of, wait_line};
 
 use crate::lists::{Answer, Change, Changes, WaitChange};
 use crate::{applying, lists};
@@ -20,7 +20,7 @@ pub struct Speech {
 pub const SPEECH_ROOM: usize = 2188;
 
 pub(crate) fn is_shown(word: Word) -> bool
-    ensures { result ≡ isShown word }
+    ensures { result ≡ is_shown word }
 {
     let code = word.0;
     (code == Word::ADD.0)
@@ -31,7 +31,7 @@ pub(crate) fn is_shown(word: Word) -> bool
 }
 
 fn speaks_by(change: Change, rises: bool) -> bool
-    ensures { result ≡ speaksBy change rises }
+    ensures { result ≡ speaks_by change rises }
 {
     let old = change.old;
     let new = change.new;
@@ -42,7 +42,7 @@ fn speaks_by(change: Change, rises: bool) -> bool
 
 fn changes_speak(list: [Change; 64], n: usize) -> bool
     requires { n ≤ 64 }
-    ensures { result ≡ changesSpeak list n }
+    ensures { result ≡ changes_speak list n }
 {
     let mut all = true;
     let mut k = 0;
@@ -56,7 +56,7 @@ fn changes_speak(list: [Change; 64], n: usize) -> bool
 }
 
 pub(crate) fn can_speak(changes: Changes) -> bool
-    ensures { result ≡ canSpeak changes }
+    ensures { result ≡ can_speak changes }
 {
     let list = changes.list;
     if changes.count > 64 {
@@ -66,16 +66,16 @@ pub(crate) fn can_speak(changes: Changes) -> bool
 }
 
 pub(crate) fn put_slot(slot: u8, out: &mut [u8], at: usize) -> usize
-    requires { at + length (slotText slot) ≤ length out.old }
-    ensures { Put (slotText slot) at out.old result out.new }
+    requires { at + length (slot_text slot) ≤ length out.old }
+    ensures { Put (slot_text slot) at out.old result out.new }
 {
     let next = text::put(b"slot\t", out, at);
     text::put_number(slot, b'\t', out, next)
 }
 
 pub(crate) fn put_row(label: &[u8], row: Row, mark: u8, out: &mut [u8], at: usize) -> usize
-    requires { at + length (label.now ++ rowText row mark) ≤ length out.old }
-    ensures { Put (label.now ++ rowText row mark) at out.old result out.new }
+    requires { at + length (label.now ++ row_text row mark) ≤ length out.old }
+    ensures { Put (label.now ++ row_text row mark) at out.old result out.new }
 {
     let word = row.word;
     let second = text::put(label, out, at);
@@ -84,8 +84,8 @@ pub(crate) fn put_row(label: &[u8], row: Row, mark: u8, out: &mut [u8], at: usiz
 }
 
 pub(crate) fn put_change(change: Change, out: &mut [u8], at: usize) -> usize
-    requires { at + length (changeText change) ≤ length out.old }
-    ensures { Put (changeText change) at out.old result out.new }
+    requires { at + length (change_text change) ≤ length out.old }
+    ensures { Put (change_text change) at out.old result out.new }
 {
     let old = change.old;
     let new = change.new;
@@ -95,8 +95,8 @@ pub(crate) fn put_change(change: Change, out: &mut [u8], at: usize) -> usize
 }
 
 fn put_changes(list: [Change; 64], n: usize, out: &mut [u8]) -> usize
-    requires { (n ≤ 64) × ((k : ℕ) → k < n → (changeIn list k).slot < 64) × (SPEECH-ROOM ≤ length out.old) }
-    ensures { Put (changeLines list n) 0 out.old result out.new }
+    requires { (n ≤ 64) × ((k : ℕ) → k < n → (change_in list k).slot < 64) × (SPEECH-ROOM ≤ length out.old) }
+    ensures { Put (change_lines list n) 0 out.old result out.new }
 {
     let mut at = 0;
     let mut k = 0;
@@ -109,8 +109,8 @@ fn put_changes(list: [Change; 64], n: usize, out: &mut [u8]) -> usize
 }
 
 pub(crate) fn put_wait(wait: WaitChange, out: &mut [u8], at: usize) -> usize
-    requires { at + length (waitLine wait) ≤ length out.old }
-    ensures { Put (waitLine wait) at out.old result out.new }
+    requires { at + length (wait_line wait) ≤ length out.old }
+    ensures { Put (wait_line wait) at out.old result out.new }
 {
     match wait {
         WaitChange::Same => at,
@@ -121,7 +121,7 @@ pub(crate) fn put_wait(wait: WaitChange, out: &mut [u8], at: usize) -> usize
 
 // The lines at the front of the buffer.
 pub fn speak(changes: Changes, out: &mut [u8]) -> Speech
-    ensures { (result ≡ speechOf changes out.old) × (out.new ≡ speechBytes changes out.old) }
+    ensures { (result ≡ speech_of changes out.old) × (out.new ≡ speech_bytes changes out.old) }
 {
     if out.len() < SPEECH_ROOM {
         return Speech {

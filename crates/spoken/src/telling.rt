@@ -1,7 +1,7 @@
 // Runs as lines, of changes and of a board as it stands.
 ghost use Rattle.std.specs.Prelude.{◌≡◌, ◌++◌, ◌+◌, ◌≤◌, length};
 ghost use Rattle.text.specs.Output.{Put};
-ghost use Rattle.spoken.specs.SpeakingRuns.{canSpeakWhole, closedText, isUnnumbered, lineText, linesIn, manyShown, manyText, numbersText, oneShown, rowsSpeak, rowsText, runText, runsSpeechBytes, runsSpeechOf, wholeSpeechBytes, wholeSpeechOf, shownText, slotsText, standing, stillWaits};
+ghost use Rattle.spoken.specs.SpeakingRuns.{can_speak_whole, closed_text, is_unnumbered, line_text, lines_in, many_shown, many_text, numbers_text, one_shown, rows_speak, rows_text, run_text, runs_speech_bytes, runs_speech_of, whole_speech_bytes, whole_speech_of, shown_text, slots_text, standing, still_waits};
 
 use crate::lists::{Answer, Change, Changes};
 use crate::runs::Run;
@@ -12,8 +12,8 @@ use sender::{Board, Row};
 
 // `255`, or `1 to 62`.
 fn put_numbers(first: u8, last: u8, mark: u8, out: &mut [u8], at: usize) -> usize
-    requires { at + length (numbersText first last mark) ≤ length out.old }
-    ensures { Put (numbersText first last mark) at out.old result out.new }
+    requires { at + length (numbers_text first last mark) ≤ length out.old }
+    ensures { Put (numbers_text first last mark) at out.old result out.new }
 {
     if first == last {
         return text::put_number(first, mark, out, at);
@@ -24,15 +24,15 @@ fn put_numbers(first: u8, last: u8, mark: u8, out: &mut [u8], at: usize) -> usiz
 }
 
 fn is_unnumbered(first: Row, last: Row) -> bool
-    ensures { result ≡ isUnnumbered first last }
+    ensures { result ≡ is_unnumbered first last }
 {
     let word = first.word;
     (word.0 == Word::IDLE.0) & (first.number == 255) & (last.number == 255)
 }
 
 fn put_rows(first: Row, last: Row, mark: u8, out: &mut [u8], at: usize) -> usize
-    requires { at + length (rowsText first last mark) ≤ length out.old }
-    ensures { Put (rowsText first last mark) at out.old result out.new }
+    requires { at + length (rows_text first last mark) ≤ length out.old }
+    ensures { Put (rows_text first last mark) at out.old result out.new }
 {
     if is_unnumbered(first, last) {
         return text::put(&[b'I', b'D', b'L', b'E', mark], out, at);
@@ -43,16 +43,16 @@ fn put_rows(first: Row, last: Row, mark: u8, out: &mut [u8], at: usize) -> usize
 }
 
 fn put_labelled(label: &[u8], first: Row, last: Row, mark: u8, out: &mut [u8], at: usize) -> usize
-    requires { at + length (label.now ++ rowsText first last mark) ≤ length out.old }
-    ensures { Put (label.now ++ rowsText first last mark) at out.old result out.new }
+    requires { at + length (label.now ++ rows_text first last mark) ≤ length out.old }
+    ensures { Put (label.now ++ rows_text first last mark) at out.old result out.new }
 {
     let next = text::put(label, out, at);
     put_rows(first, last, mark, out, next)
 }
 
 fn put_slots(from: u8, to: u8, out: &mut [u8], at: usize) -> usize
-    requires { at + length (slotsText from to) ≤ length out.old }
-    ensures { Put (slotsText from to) at out.old result out.new }
+    requires { at + length (slots_text from to) ≤ length out.old }
+    ensures { Put (slots_text from to) at out.old result out.new }
 {
     let next = text::put(b"slots\t", out, at);
     put_numbers(from, to, b'\t', out, next)
@@ -60,8 +60,8 @@ fn put_slots(from: u8, to: u8, out: &mut [u8], at: usize) -> usize
 
 // A run of more than one change.
 fn put_many(run: Run, out: &mut [u8], at: usize) -> usize
-    requires { at + length (manyText run) ≤ length out.old }
-    ensures { Put (manyText run) at out.old result out.new }
+    requires { at + length (many_text run) ≤ length out.old }
+    ensures { Put (many_text run) at out.old result out.new }
 {
     let first = run.first;
     let last = run.last;
@@ -75,8 +75,8 @@ fn put_many(run: Run, out: &mut [u8], at: usize) -> usize
 }
 
 fn put_run(run: Run, out: &mut [u8], at: usize) -> usize
-    requires { at + length (runText run) ≤ length out.old }
-    ensures { Put (runText run) at out.old result out.new }
+    requires { at + length (run_text run) ≤ length out.old }
+    ensures { Put (run_text run) at out.old result out.new }
 {
     let first = run.first;
     let last = run.last;
@@ -88,8 +88,8 @@ fn put_run(run: Run, out: &mut [u8], at: usize) -> usize
 
 // A slot of a board as it stands.
 fn put_one_shown(change: Change, out: &mut [u8], at: usize) -> usize
-    requires { at + length (oneShown change) ≤ length out.old }
-    ensures { Put (oneShown change) at out.old result out.new }
+    requires { at + length (one_shown change) ≤ length out.old }
+    ensures { Put (one_shown change) at out.old result out.new }
 {
     let row = change.new;
     let next = speaking::put_slot(change.slot, out, at);
@@ -97,8 +97,8 @@ fn put_one_shown(change: Change, out: &mut [u8], at: usize) -> usize
 }
 
 fn put_many_shown(run: Run, out: &mut [u8], at: usize) -> usize
-    requires { at + length (manyShown run) ≤ length out.old }
-    ensures { Put (manyShown run) at out.old result out.new }
+    requires { at + length (many_shown run) ≤ length out.old }
+    ensures { Put (many_shown run) at out.old result out.new }
 {
     let first = run.first;
     let last = run.last;
@@ -109,8 +109,8 @@ fn put_many_shown(run: Run, out: &mut [u8], at: usize) -> usize
 }
 
 fn put_shown(run: Run, out: &mut [u8], at: usize) -> usize
-    requires { at + length (shownText run) ≤ length out.old }
-    ensures { Put (shownText run) at out.old result out.new }
+    requires { at + length (shown_text run) ≤ length out.old }
+    ensures { Put (shown_text run) at out.old result out.new }
 {
     let first = run.first;
     let last = run.last;
@@ -121,8 +121,8 @@ fn put_shown(run: Run, out: &mut [u8], at: usize) -> usize
 }
 
 fn put_line(shown: bool, run: Run, out: &mut [u8], at: usize) -> usize
-    requires { at + length (lineText shown run) ≤ length out.old }
-    ensures { Put (lineText shown run) at out.old result out.new }
+    requires { at + length (line_text shown run) ≤ length out.old }
+    ensures { Put (line_text shown run) at out.old result out.new }
 {
     if shown {
         return put_shown(run, out, at);
@@ -132,8 +132,8 @@ fn put_line(shown: bool, run: Run, out: &mut [u8], at: usize) -> usize
 
 // The line of a run that does not go on; nothing where it does.
 fn put_closed(shown: bool, run: Run, goes: bool, out: &mut [u8], at: usize) -> usize
-    requires { at + length (closedText shown run goes) ≤ length out.old }
-    ensures { Put (closedText shown run goes) at out.old result out.new }
+    requires { at + length (closed_text shown run goes) ≤ length out.old }
+    ensures { Put (closed_text shown run goes) at out.old result out.new }
 {
     if goes {
         return at;
@@ -143,8 +143,8 @@ fn put_closed(shown: bool, run: Run, goes: bool, out: &mut [u8], at: usize) -> u
 
 // The runs of the first n changes. The last one is behind no other.
 fn put_runs(shown: bool, list: [Change; 64], n: usize, out: &mut [u8]) -> usize
-    requires { (n ≤ 64) × (length (linesIn shown list n) ≤ length out.old) }
-    ensures { Put (linesIn shown list n) 0 out.old result out.new }
+    requires { (n ≤ 64) × (length (lines_in shown list n) ≤ length out.old) }
+    ensures { Put (lines_in shown list n) 0 out.old result out.new }
 {
     if n == 0 {
         return 0;
@@ -169,7 +169,7 @@ fn put_runs(shown: bool, list: [Change; 64], n: usize, out: &mut [u8]) -> usize
 
 // The lines of the changes in runs, at the front of the buffer.
 pub fn speak_runs(changes: Changes, out: &mut [u8]) -> Speech
-    ensures { (result ≡ runsSpeechOf changes out.old) × (out.new ≡ runsSpeechBytes changes out.old) }
+    ensures { (result ≡ runs_speech_of changes out.old) × (out.new ≡ runs_speech_bytes changes out.old) }
 {
     if out.len() < SPEECH_ROOM {
         return Speech {
@@ -220,7 +220,7 @@ fn standing_in(rows: [Row; 64]) -> [Change; 64]
 
 fn rows_speak(rows: [Row; 64], n: usize) -> bool
     requires { n ≤ 64 }
-    ensures { result ≡ rowsSpeak rows n }
+    ensures { result ≡ rows_speak rows n }
 {
     let mut all = true;
     let mut i = 0;
@@ -234,7 +234,7 @@ fn rows_speak(rows: [Row; 64], n: usize) -> bool
 }
 
 fn can_speak_whole(board: Board) -> bool
-    ensures { result ≡ canSpeakWhole board }
+    ensures { result ≡ can_speak_whole board }
 {
     let rows = board.rows;
     if board.count > 64 {
@@ -244,8 +244,8 @@ fn can_speak_whole(board: Board) -> bool
 }
 
 fn put_still(wait: bool, out: &mut [u8], at: usize) -> usize
-    requires { at + length (stillWaits wait) ≤ length out.old }
-    ensures { Put (stillWaits wait) at out.old result out.new }
+    requires { at + length (still_waits wait) ≤ length out.old }
+    ensures { Put (still_waits wait) at out.old result out.new }
 {
     let bit = ground::one_if(wait);
     let next = text::put(b"wait\t", out, at);
@@ -254,7 +254,7 @@ fn put_still(wait: bool, out: &mut [u8], at: usize) -> usize
 
 // A board as it stands, its slots in runs. 2 where it has more than 64 slots or a word with no name.
 pub fn speak_whole(board: Board, out: &mut [u8]) -> Speech
-    ensures { (result ≡ wholeSpeechOf board out.old) × (out.new ≡ wholeSpeechBytes board out.old) }
+    ensures { (result ≡ whole_speech_of board out.old) × (out.new ≡ whole_speech_bytes board out.old) }
 {
     if out.len() < SPEECH_ROOM {
         return Speech {

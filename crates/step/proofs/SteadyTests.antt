@@ -3,10 +3,10 @@ use mathlib.Core.Path.{◌≡◌, refl, sym}
 use mathlib.Core.Bool.{Bool, true, false, ◌&&◌, true≢false}
 use Prim.Native.Nat.{ℕ}
 use lib.Dec.{eqb}
-use Rattle.packet.specs.Counts.{h4Counts}
+use Rattle.packet.specs.Counts.{h4_counts}
 use Rattle.rows.specs.declared.group.Group.{Group}
 use Rattle.rows.specs.declared.step.Step.{Step}
-use Rattle.step.specs.Arrival.{flagOf, inStep}
+use Rattle.step.specs.Arrival.{flag_of, in_step}
 use Rattle.step.specs.Steady.{steady}
 
 all : (a b c d e f x : Bool) → (a && b && c && d && e && f) ≡ true → x ≡ (true && b && c && d && e && x && a && f)
@@ -29,12 +29,12 @@ none true true true true true f true t = t
 none false true true true true f true t = refl
 
 module _ (g : Group) (s : Step) (flag : Bool) (h : ℕ) (left : flag ≡ false) where
-  pub tests-hold : (flagOf g.begun && eqb s.heard 1 && eqb s.failed 0 && eqb s.breaks 0 && inStep g s && flagOf s.joined) ≡ true
-      → h4Counts s.next h ≡ steady g s flag h
+  pub tests_hold : (flag_of g.begun && eqb s.heard 1 && eqb s.failed 0 && eqb s.breaks 0 && in_step g s && flag_of s.joined) ≡ true
+      → h4_counts s.next h ≡ steady g s flag h
   unfolding steady
-  tests-hold t = rw left (all (flagOf g.begun) (eqb s.heard 1) (eqb s.failed 0) (eqb s.breaks 0) (inStep g s) (flagOf s.joined) (h4Counts s.next h) t)
+  tests_hold t = rw left (all (flag_of g.begun) (eqb s.heard 1) (eqb s.failed 0) (eqb s.breaks 0) (in_step g s) (flag_of s.joined) (h4_counts s.next h) t)
 
-  pub tests-fail : (flagOf g.begun && eqb s.heard 1 && eqb s.failed 0 && eqb s.breaks 0 && inStep g s && flagOf s.joined) ≡ false
+  pub tests_fail : (flag_of g.begun && eqb s.heard 1 && eqb s.failed 0 && eqb s.breaks 0 && in_step g s && flag_of s.joined) ≡ false
       → steady g s flag h ≡ false
   unfolding steady
-  tests-fail t = rw left (none (flagOf g.begun) (eqb s.heard 1) (eqb s.failed 0) (eqb s.breaks 0) (inStep g s) (flagOf s.joined) (h4Counts s.next h) t)
+  tests_fail t = rw left (none (flag_of g.begun) (eqb s.heard 1) (eqb s.failed 0) (eqb s.breaks 0) (in_step g s) (flag_of s.joined) (h4_counts s.next h) t)

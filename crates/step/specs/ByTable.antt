@@ -2,14 +2,14 @@
 use Rattle.std.specs.Prelude.{◌||◌, List, ℕ}
 use Rattle.ground.specs.Plain.{if◌then◌else◌, ◌==◌}
 use Rattle.packet.specs.declared.ruling.Ruling.{Ruling}
-use Rattle.packet.specs.ByTable.{rulingWith}
-use Rattle.packet.specs.Fixed.{fixedRulingOf}
-use Rattle.packet.specs.Kinds.{fixedKind}
+use Rattle.packet.specs.ByTable.{ruling_with}
+use Rattle.packet.specs.Fixed.{fixed_ruling_of}
+use Rattle.packet.specs.Kinds.{fixed_kind}
 use Rattle.packet.specs.Ruling.{refused}
-use Rattle.step.specs.OwnCount.{ownNumber, withoutMfi2}
+use Rattle.step.specs.OwnCount.{own_number, without_mfi2}
 
-unfoldable pub rulingInWith : (table : List (List ℕ)) (kind epoch : ℕ) (nibbles : List ℕ) → Ruling
-rulingInWith table kind epoch nibbles = if kind == fixedKind then fixedRulingOf nibbles else rulingWith table kind epoch nibbles
+unfoldable pub ruling_in_with : (table : List (List ℕ)) (kind epoch : ℕ) (nibbles : List ℕ) → Ruling
+ruling_in_with table kind epoch nibbles = if kind == fixed_kind then fixed_ruling_of nibbles else ruling_with table kind epoch nibbles
 
-unfoldable pub ownRulingWith : (table : List (List ℕ)) (kind epoch : ℕ) (nibbles : List ℕ) → Ruling
-ownRulingWith table kind epoch nibbles = if withoutMfi2 kind || ownNumber epoch nibbles then rulingInWith table kind epoch nibbles else refused
+unfoldable pub own_ruling_with : (table : List (List ℕ)) (kind epoch : ℕ) (nibbles : List ℕ) → Ruling
+own_ruling_with table kind epoch nibbles = if without_mfi2 kind || own_number epoch nibbles then ruling_in_with table kind epoch nibbles else refused

@@ -2,15 +2,15 @@
 use Rattle.std.specs.Prelude.{Bool, not, ◌||◌, List, ℕ}
 use Rattle.ground.specs.Plain.{if◌then◌else◌, ◌==◌}
 use Rattle.packet.specs.declared.reader.Reading.{Reading}
-use Rattle.packet.specs.Fixed.{readFixedNibbles}
-use Rattle.packet.specs.Kinds.{fixedKind}
-use Rattle.packet.specs.Ruling.{readRow}
-use Rattle.step.specs.OwnCount.{ownNumber, withoutMfi2}
+use Rattle.packet.specs.Fixed.{read_fixed_nibbles}
+use Rattle.packet.specs.Kinds.{fixed_kind}
+use Rattle.packet.specs.Ruling.{read_row}
+use Rattle.step.specs.OwnCount.{own_number, without_mfi2}
 
 -- 'For reading a packet: 9, 5, 7, 6' (01), by its kind
-unfoldable pub readingIn : (kind : ℕ) (row : List ℕ) → Reading
-readingIn kind row = if kind == fixedKind then readFixedNibbles row else readRow kind row
+unfoldable pub reading_in : (kind : ℕ) (row : List ℕ) → Reading
+reading_in kind row = if kind == fixed_kind then read_fixed_nibbles row else read_row kind row
 
 -- it carries an MFI2, and not the number of its epoch by the own count
-unfoldable pub otherNumber : (kind : ℕ) (epoch : ℕ) (row : List ℕ) → Bool
-otherNumber kind epoch row = not (withoutMfi2 kind || ownNumber epoch row)
+unfoldable pub other_number : (kind : ℕ) (epoch : ℕ) (row : List ℕ) → Bool
+other_number kind epoch row = not (without_mfi2 kind || own_number epoch row)

@@ -1,21 +1,21 @@
 -- All that this crate and those below it define, opened under one name for examples that are computed. A new definition is named here, and nowhere else.
 use Rattle.std.specs.Prelude.{ℕ}
-use Rattle.rows.specs.Opened.{rowsOpen}
-use Rattle.packet.specs.Opened.{packetOpen}
-use Rattle.step.specs.Arrival.{arrives, byStart, byWindow, countsOn, distanceIn, flagged, frameDropped, inStep, joining, keeps, outside, readable, taken_of}
-use Rattle.step.specs.Carried.{otherNumber, readingIn}
-use Rattle.step.specs.OwnCount.{endsOdd, oddPacket, ownNumber, ownRuling, rightCrc, rulingIn}
-use Rattle.step.specs.Run.{begunRun, breaksAfter, endsPacket, furtherRun, gainedRun, h4RunOn, inStepAt, loses, oddAfter, runOn, secondRun, stayedRun}
-use Rattle.step.specs.RunKept.{tagByFirst}
-use Rattle.step.specs.SentRuns.{h4RunAt, mostBreaks, run_at, startFrom, vc12RunAt}
-use Rattle.step.specs.Starts.{begunPacket, bitsAfter, countAfter, fifthBit, firstOfTwo, goesOn, startsRun}
-use Rattle.step.specs.Steady.{midEpoch, steady, steadyTaken}
-use Rattle.step.specs.ByTable.{ownRulingWith, rulingInWith}
-use Rattle.step.specs.Words.{runAfter}
+use Rattle.rows.specs.Opened.{rows_open}
+use Rattle.packet.specs.Opened.{packet_open}
+use Rattle.step.specs.Arrival.{arrives, by_start, by_window, counts_on, distance_in, flagged, frame_dropped, in_step, joining, keeps, outside, readable, taken_of}
+use Rattle.step.specs.Carried.{other_number, reading_in}
+use Rattle.step.specs.OwnCount.{ends_odd, odd_packet, own_number, own_ruling, right_crc, ruling_in}
+use Rattle.step.specs.Run.{begun_run, breaks_after, ends_packet, further_run, gained_run, h4_run_on, in_step_at, loses, odd_after, run_on, second_run, stayed_run}
+use Rattle.step.specs.RunKept.{tag_by_first}
+use Rattle.step.specs.SentRuns.{h4_run_at, most_breaks, run_at, start_from, vc12_run_at}
+use Rattle.step.specs.Starts.{begun_packet, bits_after, count_after, fifth_bit, first_of_two, goes_on, starts_run}
+use Rattle.step.specs.Steady.{mid_epoch, steady, steady_taken}
+use Rattle.step.specs.ByTable.{own_ruling_with, ruling_in_with}
+use Rattle.step.specs.Words.{run_after}
 
-unfoldable pub stepOpen : ℕ
-unfolding rowsOpen packetOpen arrives byStart byWindow countsOn distanceIn flagged frameDropped inStep joining keeps outside readable taken_of endsOdd
-    oddPacket ownNumber ownRuling rightCrc rulingIn begunRun breaksAfter endsPacket furtherRun gainedRun h4RunOn inStepAt loses oddAfter runOn
-    secondRun stayedRun tagByFirst begunPacket bitsAfter countAfter fifthBit firstOfTwo goesOn startsRun midEpoch steady steadyTaken rulingInWith
-    ownRulingWith readingIn otherNumber startFrom h4RunAt vc12RunAt run_at mostBreaks runAfter
-stepOpen = 0
+unfoldable pub step_open : ℕ
+unfolding rows_open packet_open arrives by_start by_window counts_on distance_in flagged frame_dropped in_step joining keeps outside readable taken_of ends_odd
+    odd_packet own_number own_ruling right_crc ruling_in begun_run breaks_after ends_packet further_run gained_run h4_run_on in_step_at loses odd_after run_on
+    second_run stayed_run tag_by_first begun_packet bits_after count_after fifth_bit first_of_two goes_on starts_run mid_epoch steady steady_taken ruling_in_with
+    own_ruling_with reading_in other_number start_from h4_run_at vc12_run_at run_at most_breaks run_after
+step_open = 0

@@ -1,17 +1,17 @@
 -- What holds of a port's run of frames after any frames, by the kind of packet.
 use Rattle.std.specs.Prelude.{◌≡◌, true, ℕ, ◌*◌, ◌%◌, ◌≤◌, ◌<◌}
 use Rattle.ground.specs.Plain.{if◌then◌else◌, ◌==◌}
-use Rattle.packet.specs.Counts.{tagByHigh}
-use Rattle.packet.specs.Kinds.{frames, tags, vc12Kind}
+use Rattle.packet.specs.Counts.{tag_by_high}
+use Rattle.packet.specs.Kinds.{frames, tags, vc12_kind}
 use Rattle.step.specs.declared.run.Run.{Run}
 
 -- what the first frame of a run tells of the tag to come: of H4 MFI2's high nibble, of VC-12 nothing but the place
-unfoldable pub tagByFirst : ℕ → ℕ → ℕ
-tagByFirst kind byte = if kind == vc12Kind then 1 else tagByHigh kind byte
+unfoldable pub tag_by_first : ℕ → ℕ → ℕ
+tag_by_first kind byte = if kind == vc12_kind then 1 else tag_by_high kind byte
 
 pub record FirstTold (kind next : ℕ) : Type 0 where
   pub byte : ℕ
-  pub told : next ≡ tagByFirst kind byte
+  pub told : next ≡ tag_by_first kind byte
 
 -- what holds of every run
 pub record RunKept (kind : ℕ) (run : Run) : Type 0 where
@@ -29,4 +29,4 @@ pub record RunKept (kind : ℕ) (run : Run) : Type 0 where
   -- five bits of a count
   pub bits : run.bits < 32
   -- VC-12: before the fifth bit of its first packet the tag to come is the count of frames
-  pub early : (kind == vc12Kind) ≡ true → run.count < 5 → run.next ≡ run.count
+  pub early : (kind == vc12_kind) ≡ true → run.count < 5 → run.next ≡ run.count

@@ -1,6 +1,6 @@
 -- A frame that carries its tag as sent, and one of which what lines never change came as sent.
 use Rattle.std.specs.Prelude.{◌≡◌, true, ℕ}
-use Rattle.packet.specs.Changes.{keptPart}
+use Rattle.packet.specs.Changes.{kept_part}
 use Rattle.packet.specs.Counts.{counts}
 use Rattle.packet.specs.Kinds.{place_of, tag_of}
 
@@ -12,4 +12,4 @@ SentWith kind x h = counts kind (tag_of kind x) h ≡ true
 pub record KeptAs (kind x h : ℕ) : Type 0 where
   pub byte : ℕ
   pub sent : SentWith kind x byte
-  pub same : keptPart kind (place_of kind (tag_of kind x)) h ≡ keptPart kind (place_of kind (tag_of kind x)) byte
+  pub same : kept_part kind (place_of kind (tag_of kind x)) h ≡ kept_part kind (place_of kind (tag_of kind x)) byte

@@ -2,12 +2,12 @@
 -- Of the port's records it changes the next tag and one nibble alone.
 use Rattle.std.specs.Prelude.{Bool, true, false, not, ◌&&◌, ℕ}
 use Rattle.ground.specs.Plain.{◌==◌, ◌<?◌}
-use Rattle.packet.specs.Counts.{h4Counts}
-use Rattle.packet.specs.Kinds.{endsEpoch, tagAfter}
+use Rattle.packet.specs.Counts.{h4_counts}
+use Rattle.packet.specs.Kinds.{ends_epoch, tag_after}
 use Rattle.rows.specs.declared.group.Group.{Group}
 use Rattle.rows.specs.declared.step.Step.{Step}
 use Rattle.rows.specs.Step.{with_next}
-use Rattle.step.specs.Arrival.{distanceIn, flagOf, inStep}
+use Rattle.step.specs.Arrival.{distance_in, flag_of, in_step}
 use Rattle.step.specs.declared.arrival.Taken.{Taken}
 
 unfoldable pub steady : (g : Group) (s : Step) (flag : Bool) (h4 : ℕ) → Bool
@@ -16,23 +16,23 @@ steady g s flag h =
     && s.heard == 1
     && s.failed == 0
     && s.breaks == 0
-    && inStep g s
-    && h4Counts s.next h
-    && flagOf g.begun
-    && flagOf s.joined
+    && in_step g s
+    && h4_counts s.next h
+    && flag_of g.begun
+    && flag_of s.joined
 
 -- of a frame d after the window's first
-unfoldable pub midEpoch : Group → ℕ → Bool
-midEpoch g d = d <? g.window && not (endsEpoch g.kind d)
+unfoldable pub mid_epoch : Group → ℕ → Bool
+mid_epoch g d = d <? g.window && not (ends_epoch g.kind d)
 
-unfoldable pub steadyTaken : Group → Step → Taken
-steadyTaken g s =
+unfoldable pub steady_taken : Group → Step → Taken
+steady_taken g s =
     record {
-      step = with_next s (tagAfter g.kind s.next);
+      step = with_next s (tag_after g.kind s.next);
       answer = 0;
       counted = true;
       kept = true;
-      at = distanceIn g s.next;
+      at = distance_in g s.next;
       joins = false;
       settles = false;
     }

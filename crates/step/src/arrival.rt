@@ -1,6 +1,6 @@
 // What a frame does (01, 'Beginning', 'Window'), decided on the group's and the port's records.
 ghost use Rattle.std.specs.Prelude.{◌≡◌};
-ghost use Rattle.step.specs.Arrival.{arrives, frameDropped, byStart, byWindow, countsOn, distanceIn, flagged, inStep, joining, keeps, outside, readable, settlesAt, stepTo, taken_of};
+ghost use Rattle.step.specs.Arrival.{arrives, frame_dropped, by_start, by_window, counts_on, distance_in, flagged, in_step, joining, keeps, outside, readable, settles_at, step_to, taken_of};
 
 use crate::run::Run;
 use crate::{answers, run};
@@ -25,7 +25,7 @@ pub struct Taken {
 }
 
 pub fn in_step(group: Group, step: Step) -> bool
-    ensures { result ≡ inStep group step }
+    ensures { result ≡ in_step group step }
 {
     run::is_step(group.kind, step.count)
 }
@@ -39,14 +39,14 @@ pub fn is_readable(group: Group, step: Step) -> bool
 
 // How far a tag lies after the window's first.
 pub fn distance_in(group: Group, tag: u16) -> u16
-    ensures { result ≡ distanceIn group tag }
+    ensures { result ≡ distance_in group tag }
 {
     let first = kinds::first_tag(group.kind, group.oldest);
     kinds::distance(group.kind, tag, first)
 }
 
 fn step_to(step: Step, failed: u8, run: Run, joined: u8, since: u8, later: u8) -> Step
-    ensures { result ≡ stepTo step failed run joined since later }
+    ensures { result ≡ step_to step failed run joined since later }
 {
     let spare = step.spare;
     Step {
@@ -66,7 +66,7 @@ fn step_to(step: Step, failed: u8, run: Run, joined: u8, since: u8, later: u8) -
 }
 
 fn settles_at(group: Group, before: Step, now: Step) -> bool
-    ensures { result ≡ settlesAt group before now }
+    ensures { result ≡ settles_at group before now }
 {
     let was = in_step(group, before);
     let is = in_step(group, now);
@@ -97,7 +97,7 @@ fn flagged(group: Group, step: Step) -> Taken
 }
 
 fn counts_on(group: Group, step: Step, run: Run) -> Taken
-    ensures { result ≡ countsOn group step run }
+    ensures { result ≡ counts_on group step run }
 {
     let now = step_to(step, 0, run, 0, 0, 0);
     let settles = settles_at(group, step, now);
@@ -113,7 +113,7 @@ fn counts_on(group: Group, step: Step, run: Run) -> Taken
 }
 
 fn frame_dropped(group: Group, step: Step, run: Run) -> Taken
-    ensures { result ≡ frameDropped group step run }
+    ensures { result ≡ frame_dropped group step run }
 {
     let now = step_to(step, 0, run, step.joined, step.ever_since, step.joined_at);
     let settles = !is_set(group.begun);
@@ -178,7 +178,7 @@ fn joining(group: Group, step: Step, run: Run, at: u16) -> Taken
 
 // A frame in step of a joined port.
 fn by_window(group: Group, step: Step, run: Run, at: u16) -> Taken
-    ensures { result ≡ byWindow group step run at }
+    ensures { result ≡ by_window group step run at }
 {
     if at < group.window {
         return keeps(group, step, run, at);
@@ -188,7 +188,7 @@ fn by_window(group: Group, step: Step, run: Run, at: u16) -> Taken
 
 // A frame in step of a port that has not joined.
 fn by_start(group: Group, step: Step, run: Run, at: u16) -> Taken
-    ensures { result ≡ byStart group step run at }
+    ensures { result ≡ by_start group step run at }
 {
     let starts = kinds::starts_epoch(group.kind, step.next);
     if starts & (at < group.window) {

@@ -1,13 +1,13 @@
 // What a packet that rules carries, for the host to read.
 ghost use Rattle.std.specs.Prelude.{◌≡◌};
-ghost use Rattle.step.specs.Carried.{otherNumber, readingIn};
+ghost use Rattle.step.specs.Carried.{other_number, reading_in};
 
 use crate::own;
 use packet::{Reading, kinds};
 
 // A packet by its kind.
 pub fn reading_of(kind: u8, row: [u8; 16]) -> Reading
-    ensures { result ≡ readingIn kind row }
+    ensures { result ≡ reading_in kind row }
 {
     if kind == kinds::FIXED {
         return packet::read_fixed_nibbles(row);
@@ -18,7 +18,7 @@ pub fn reading_of(kind: u8, row: [u8; 16]) -> Reading
 
 // Whether it carries another number than the epoch's.
 pub fn is_other(kind: u8, epoch: u8, row: [u8; 16]) -> bool
-    ensures { result ≡ otherNumber kind epoch row }
+    ensures { result ≡ other_number kind epoch row }
 {
     let own = own::is_own(epoch, row);
     !((kind == kinds::VC12) | own)

@@ -1,6 +1,6 @@
 // The step rule (01, 'Step'; request 2026-04): frames that count rightly in a row, from one with MFI1 0 on, and in step the receiver's own count.
 ghost use Rattle.std.specs.Prelude.{◌≡◌, false, ◌<◌};
-ghost use Rattle.step.specs.Run.{begunRun, breaksAfter, endsPacket, furtherRun, gainedRun, h4RunOn, inStepAt, loses, oddAfter, runOn, secondRun, stayedRun};
+ghost use Rattle.step.specs.Run.{begun_run, breaks_after, ends_packet, further_run, gained_run, h4_run_on, in_step_at, loses, odd_after, run_on, second_run, stayed_run};
 
 use crate::starts;
 use packet::{counts, kinds};
@@ -21,7 +21,7 @@ pub struct Run {
 
 // How many frames in a row bring a port into step: two multiframes.
 pub(crate) fn is_step(kind: u8, count: u8) -> bool
-    ensures { result ≡ inStepAt kind count }
+    ensures { result ≡ in_step_at kind count }
 {
     let frames = kinds::epoch_frames(kind);
     frames as u16 * 2 <= count as u16
@@ -29,7 +29,7 @@ pub(crate) fn is_step(kind: u8, count: u8) -> bool
 
 // A frame as the first of a new run, if it can be.
 pub(crate) fn begun_run(kind: u8, h4: u8) -> Run
-    ensures { result ≡ begunRun kind h4 }
+    ensures { result ≡ begun_run kind h4 }
 {
     if counts::starts_count(kind, h4) {
         return Run {
@@ -50,7 +50,7 @@ pub(crate) fn begun_run(kind: u8, h4: u8) -> Run
 }
 
 fn second(kind: u8, run: Run, h4: u8) -> Run
-    ensures { result ≡ secondRun kind run h4 }
+    ensures { result ≡ second_run kind run h4 }
 {
     if counts::carries_low(kind, h4) {
         return Run {
@@ -65,8 +65,8 @@ fn second(kind: u8, run: Run, h4: u8) -> Run
 }
 
 fn further(kind: u8, run: Run, h4: u8) -> Run
-    requires { inStepAt kind run.count ≡ false }
-    ensures { result ≡ furtherRun kind run h4 }
+    requires { in_step_at kind run.count ≡ false }
+    ensures { result ≡ further_run kind run h4 }
 {
     if counts::is_counted(run.next, h4) {
         return Run {
@@ -82,8 +82,8 @@ fn further(kind: u8, run: Run, h4: u8) -> Run
 
 // Coming into step.
 fn gains(kind: u8, run: Run, h4: u8) -> Run
-    requires { inStepAt kind run.count ≡ false }
-    ensures { result ≡ gainedRun kind run h4 }
+    requires { in_step_at kind run.count ≡ false }
+    ensures { result ≡ gained_run kind run h4 }
 {
     let count = run.count;
     if count == 0 {
@@ -97,7 +97,7 @@ fn gains(kind: u8, run: Run, h4: u8) -> Run
 
 // The last frame of an epoch ends its packet.
 pub(crate) fn ends_packet(kind: u8, tag: u16) -> bool
-    ensures { result ≡ endsPacket kind tag }
+    ensures { result ≡ ends_packet kind tag }
 {
     let place = kinds::place_of(kind, tag);
     kinds::ends_epoch(kind, place as u16)
@@ -105,7 +105,7 @@ pub(crate) fn ends_packet(kind: u8, tag: u16) -> bool
 
 fn breaks_after(counted: bool, breaks: u8) -> u8
     requires { counted ≡ false → breaks < 3 }
-    ensures { result ≡ breaksAfter counted breaks }
+    ensures { result ≡ breaks_after counted breaks }
 {
     if counted {
         return 0;
@@ -114,7 +114,7 @@ fn breaks_after(counted: bool, breaks: u8) -> u8
 }
 
 fn odd_after(kind: u8, run: Run, odd: bool) -> u8
-    ensures { result ≡ oddAfter kind run odd }
+    ensures { result ≡ odd_after kind run odd }
 {
     if ends_packet(kind, run.next) {
         return ground::one_if(odd);
@@ -131,7 +131,7 @@ fn is_lost(counted: bool, run: Run, odd: bool) -> bool
 
 // In step.
 fn stays(kind: u8, run: Run, odd: bool, h4: u8) -> Run
-    ensures { result ≡ stayedRun kind run odd h4 }
+    ensures { result ≡ stayed_run kind run odd h4 }
 {
     let counted = counts::is_counted(run.next, h4);
     if is_lost(counted, run, odd) {
@@ -148,7 +148,7 @@ fn stays(kind: u8, run: Run, odd: bool, h4: u8) -> Run
 
 // A frame of H4 more, which ends an odd packet or not.
 fn h4_run_on(kind: u8, run: Run, odd: bool, h4: u8) -> Run
-    ensures { result ≡ h4RunOn kind run odd h4 }
+    ensures { result ≡ h4_run_on kind run odd h4 }
 {
     if is_step(kind, run.count) {
         return stays(kind, run, odd, h4);
@@ -158,7 +158,7 @@ fn h4_run_on(kind: u8, run: Run, odd: bool, h4: u8) -> Run
 
 // A frame more.
 pub(crate) fn run_on(kind: u8, run: Run, odd: bool, h4: u8) -> Run
-    ensures { result ≡ runOn kind run odd h4 }
+    ensures { result ≡ run_on kind run odd h4 }
 {
     if kind == kinds::VC12 {
         return starts::starts_run(run, h4);

@@ -1,12 +1,12 @@
 // VC-12's step rule (request 2026-01): two whole packets in a row whose counts differ by one, each start said where it is due.
 ghost use Rattle.std.specs.Prelude.{◌≡◌, ◌%◌};
-ghost use Rattle.step.specs.Starts.{begunPacket, bitsAfter, countAfter, fifthBit, firstOfTwo, goesOn, startsRun};
+ghost use Rattle.step.specs.Starts.{begun_packet, bits_after, count_after, fifth_bit, first_of_two, goes_on, starts_run};
 
 use crate::run::Run;
 use packet::counts;
 
 fn begun_packet(byte: u8) -> Run
-    ensures { result ≡ begunPacket byte }
+    ensures { result ≡ begun_packet byte }
 {
     if counts::says_start(byte) {
         return Run {
@@ -27,14 +27,14 @@ fn begun_packet(byte: u8) -> Run
 }
 
 fn count_after(count: u8) -> u8
-    ensures { result ≡ countAfter count }
+    ensures { result ≡ count_after count }
 {
     if count < 64 { count + 1 } else { count }
 }
 
 // What the bits of the count say with this one, at places 0 to 4; from place 5 on they stay.
 fn bits_after(bits: u8, place: u16, byte: u8) -> u8
-    ensures { result ≡ bitsAfter bits place (byte % 2) }
+    ensures { result ≡ bits_after bits place (byte % 2) }
 {
     if place == 0 {
         return byte % 2;
@@ -46,7 +46,7 @@ fn bits_after(bits: u8, place: u16, byte: u8) -> u8
 }
 
 fn goes_on(run: Run, bits: u8) -> Run
-    ensures { result ≡ goesOn run bits }
+    ensures { result ≡ goes_on run bits }
 {
     Run {
         count: count_after(run.count),
@@ -59,7 +59,7 @@ fn goes_on(run: Run, bits: u8) -> Run
 
 // The packet with this count as the first of a new two.
 fn first_of_two(bits: u8) -> Run
-    ensures { result ≡ firstOfTwo bits }
+    ensures { result ≡ first_of_two bits }
 {
     Run {
         count: 5,
@@ -72,7 +72,7 @@ fn first_of_two(bits: u8) -> Run
 
 // The fifth bit tells the count: the first packet's is taken, a later one is to be one more than the one before.
 fn fifth_bit(run: Run, bits: u8) -> Run
-    ensures { result ≡ fifthBit run bits }
+    ensures { result ≡ fifth_bit run bits }
 {
     if (run.count < 5) | (bits as u16 != run.next % 1024 / 32) {
         return first_of_two(bits);
@@ -81,7 +81,7 @@ fn fifth_bit(run: Run, bits: u8) -> Run
 }
 
 pub(crate) fn starts_run(run: Run, byte: u8) -> Run
-    ensures { result ≡ startsRun run byte }
+    ensures { result ≡ starts_run run byte }
 {
     let place = run.next % 32;
     let start = counts::says_start(byte);

@@ -1,33 +1,33 @@
 -- Frames in the lent store (01, 'Numbers that bound the work': 'exactly ports x W x (P+1) bytes, a frame's payload and its H4').
 use Rattle.std.specs.Prelude.{◌≡◌, List, ℕ, ◌+◌, ◌*◌, ◌%◌, ◌<◌, length, get_or}
-use Rattle.ground.specs.Drawn.{fillAt}
+use Rattle.ground.specs.Drawn.{fill_at}
 use Rattle.ground.specs.Plain.{if◌then◌else◌, ◌==◌, ◌<?◌}
 use Rattle.ground.specs.Types.{Bytes}
-use Rattle.packet.specs.Symbols.{rowFrom}
+use Rattle.packet.specs.Symbols.{row_from}
 use Rattle.rows.specs.declared.group.Group.{Group}
 
 -- a port's W places go round; the window's first frame stands at the origin
-unfoldable pub ringOf : (origin distance W : ℕ) → ℕ
-ringOf origin d W = if W == 0 then 0 else (origin + d) % W
+unfoldable pub ring_of : (origin distance W : ℕ) → ℕ
+ring_of origin d W = if W == 0 then 0 else (origin + d) % W
 
 -- where the frame of a port stands that lies d after the window's first
 unfoldable pub place_in : (g : Group) (port distance : ℕ) → ℕ
-place_in g port d = (port * g.window + ringOf g.origin d g.window) * (g.payload + 1)
+place_in g port d = (port * g.window + ring_of g.origin d g.window) * (g.payload + 1)
 
 -- a frame's payload, then its H4, from a place on; one that would go beyond the end is dropped
 unfoldable pub stored_at : (s : Bytes) (place : ℕ) (payload : Bytes) (h4 : ℕ) → Bytes
-stored_at s place payload h = if place + length payload <? length s then fillAt place (length payload + 1) (λ j. get_or payload j h) s else s
+stored_at s place payload h = if place + length payload <? length s then fill_at place (length payload + 1) (λ j. get_or payload j h) s else s
 
 unfoldable pub byte_at : Bytes → ℕ → ℕ
 byte_at s place = get_or s place 0
 
 -- the H4 byte of the frame that lies d after the window's first
-unfoldable pub h4At : (g : Group) (port distance : ℕ) (s : Bytes) → ℕ
-h4At g port d s = byte_at s (place_in g port d + g.payload)
+unfoldable pub h4_at : (g : Group) (port distance : ℕ) (s : Bytes) → ℕ
+h4_at g port d s = byte_at s (place_in g port d + g.payload)
 
 -- the packet that came with the frames of the oldest epoch
-unfoldable pub packetIn : (g : Group) (port : ℕ) (s : Bytes) → List ℕ
-packetIn g port s = rowFrom g.kind (λ k. h4At g port k s)
+unfoldable pub packet_in : (g : Group) (port : ℕ) (s : Bytes) → List ℕ
+packet_in g port s = row_from g.kind (λ k. h4_at g port k s)
 
 -- the frame of port i at distance d stands in the store with this payload and this H4
 pub record Stands (g : Group) (i d : ℕ) (payload : Bytes) (h : ℕ) (s : Bytes) : Type 0 where

@@ -6,32 +6,32 @@ use Rattle.ground.specs.Table.{tabulate}
 use Rattle.ground.specs.Types.{Bytes}
 
 -- bit i of a row: the lowest bit of the first byte is bit 0
-unfoldable pub markIn : Bytes → ℕ → Bool
-markIn row i = odd (get_or row (i / 8) 0 / 2 ^ (i % 8))
+unfoldable pub mark_in : Bytes → ℕ → Bool
+mark_in row i = odd (get_or row (i / 8) 0 / 2 ^ (i % 8))
 
-unfoldable pub firstMark : Bytes → Bool
-firstMark row = odd (get_or row 0 0)
+unfoldable pub first_mark : Bytes → Bool
+first_mark row = odd (get_or row 0 0)
 
-unfoldable pub markedByte : ℕ → ℕ → ℕ
-markedByte b i = if odd (b / 2 ^ (i % 8)) then b else b + 2 ^ (i % 8)
+unfoldable pub marked_byte : ℕ → ℕ → ℕ
+marked_byte b i = if odd (b / 2 ^ (i % 8)) then b else b + 2 ^ (i % 8)
 
 -- with epoch i marked too
-unfoldable pub markedAt : Bytes → ℕ → Bytes
-markedAt row i = if i / 8 <? 16 then set row (i / 8) (markedByte (get_or row (i / 8) 0) i) else row
+unfoldable pub marked_at : Bytes → ℕ → Bytes
+marked_at row i = if i / 8 <? 16 then set row (i / 8) (marked_byte (get_or row (i / 8) 0) i) else row
 
-unfoldable pub cutByte : (b k i : ℕ) → ℕ
-cutByte b k i = if k <? i / 8 then b else if i / 8 <? k then 0 else b % 2 ^ (i % 8)
+unfoldable pub cut_byte : (b k i : ℕ) → ℕ
+cut_byte b k i = if k <? i / 8 then b else if i / 8 <? k then 0 else b % 2 ^ (i % 8)
 
 -- without epoch i and all later ones
-unfoldable pub cutFrom : Bytes → ℕ → Bytes
-cutFrom row i = tabulate 16 (λ k. cutByte (get_or row k 0) k i)
+unfoldable pub cut_from : Bytes → ℕ → Bytes
+cut_from row i = tabulate 16 (λ k. cut_byte (get_or row k 0) k i)
 
-unfoldable pub passedByte : ℕ → ℕ → ℕ
-passedByte b next = b / 2 + next % 2 * 128
+unfoldable pub passed_byte : ℕ → ℕ → ℕ
+passed_byte b next = b / 2 + next % 2 * 128
 
 -- as the window passes its oldest epoch: each bit moves down by one
-unfoldable pub passedMarks : Bytes → Bytes
-passedMarks row = tabulate 16 (λ k. if k <? 15 then passedByte (get_or row k 0) (get_or row (k + 1) 0) else get_or row k 0 / 2)
+unfoldable pub passed_marks : Bytes → Bytes
+passed_marks row = tabulate 16 (λ k. if k <? 15 then passed_byte (get_or row k 0) (get_or row (k + 1) 0) else get_or row k 0 / 2)
 
 -- a row of sixteen bytes
 pub record Sixteen (row : Bytes) : Type 0 where

@@ -1,14 +1,14 @@
 // Frames in the lent store: each has its payload, then its H4 byte.
 ghost use Rattle.std.specs.Prelude.{◌≡◌};
-ghost use Rattle.packet.specs.Symbols.{rowFrom};
-ghost use Rattle.store.specs.Frames.{byte_at, h4At, packetIn, place_in, ringOf, stored_at};
+ghost use Rattle.packet.specs.Symbols.{row_from};
+ghost use Rattle.store.specs.Frames.{byte_at, h4_at, packet_in, place_in, ring_of, stored_at};
 
 use packet::{kinds, symbols};
 use rows::Group;
 
 // With origin and distance below the window, as a running receiver has them, it takes no division.
 fn ring(origin: u16, at: u16, window: u16) -> usize
-    ensures { result ≡ ringOf origin at window }
+    ensures { result ≡ ring_of origin at window }
 {
     if window == 0 {
         return 0;
@@ -52,7 +52,7 @@ fn byte_at(store: &[u8], place: usize) -> u8
 }
 
 fn packet_by(kind: u8, group: Group, port: u8, store: &[u8]) -> [u8; 16]
-    ensures { result ≡ rowFrom kind (λ k. h4At group port k store.now) }
+    ensures { result ≡ row_from kind (λ k. h4_at group port k store.now) }
 {
     let frames = kinds::epoch_frames(kind);
     let mut row = [0; 16];
@@ -70,7 +70,7 @@ fn packet_by(kind: u8, group: Group, port: u8, store: &[u8]) -> [u8; 16]
 
 // The packet that came with the frames of the oldest epoch, out of their H4 bytes. The kind is asked for once, so that the loop knows it.
 pub fn packet_in(group: Group, port: u8, store: &[u8]) -> [u8; 16]
-    ensures { result ≡ packetIn group port store.now }
+    ensures { result ≡ packet_in group port store.now }
 {
     if group.kind == kinds::VC12 {
         return packet_by(kinds::VC12, group, port, store);

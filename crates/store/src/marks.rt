@@ -1,6 +1,6 @@
 // A port's marks: 128 bits in one row. Bit i says that all frames of the i-th epoch of the window, counted from the oldest, stand in the store.
 ghost use Rattle.std.specs.Prelude.{◌≡◌, ◌*◌, ◌/◌, ◌%◌, ◌^◌};
-ghost use Rattle.store.specs.Marks.{cutByte, cutFrom, firstMark, markedAt, markedByte, passedByte, passedMarks};
+ghost use Rattle.store.specs.Marks.{cut_byte, cut_from, first_mark, marked_at, marked_byte, passed_byte, passed_marks};
 
 fn power(i: u8) -> u8
     ensures { result ≡ 2 ^ (i % 8) }
@@ -10,7 +10,7 @@ fn power(i: u8) -> u8
 }
 
 fn marked_byte(byte: u8, i: u8) -> u8
-    ensures { result ≡ markedByte byte i }
+    ensures { result ≡ marked_byte byte i }
 {
     let bit = power(i);
     if byte / bit % 2 == 1 {
@@ -21,7 +21,7 @@ fn marked_byte(byte: u8, i: u8) -> u8
 
 // With epoch i marked too.
 pub fn mark(row: [u8; 16], i: u8) -> [u8; 16]
-    ensures { result ≡ markedAt row i }
+    ensures { result ≡ marked_at row i }
 {
     let at = (i / 8) as usize;
     if 16 <= at {
@@ -33,7 +33,7 @@ pub fn mark(row: [u8; 16], i: u8) -> [u8; 16]
 }
 
 fn cut_byte(byte: u8, k: u8, i: u8) -> u8
-    ensures { result ≡ cutByte byte k i }
+    ensures { result ≡ cut_byte byte k i }
 {
     if k < i / 8 {
         return byte;
@@ -46,7 +46,7 @@ fn cut_byte(byte: u8, k: u8, i: u8) -> u8
 
 // Without epoch i and all later ones.
 pub fn cut(row: [u8; 16], i: u8) -> [u8; 16]
-    ensures { result ≡ cutFrom row i }
+    ensures { result ≡ cut_from row i }
 {
     let mut marks = [0; 16];
     let mut k = 0;
@@ -58,14 +58,14 @@ pub fn cut(row: [u8; 16], i: u8) -> [u8; 16]
 }
 
 fn passed_byte(byte: u8, next: u8) -> u8
-    ensures { result ≡ passedByte byte next }
+    ensures { result ≡ passed_byte byte next }
 {
     byte / 2 + next % 2 * 128
 }
 
 // As the window passes its oldest epoch: each bit moves down by one.
 pub fn pass(row: [u8; 16]) -> [u8; 16]
-    ensures { result ≡ passedMarks row }
+    ensures { result ≡ passed_marks row }
 {
     let mut marks = [0; 16];
     let mut k = 0;
@@ -79,7 +79,7 @@ pub fn pass(row: [u8; 16]) -> [u8; 16]
 
 // Whether the oldest epoch stands whole.
 pub fn first(row: [u8; 16]) -> bool
-    ensures { result ≡ firstMark row }
+    ensures { result ≡ first_mark row }
 {
     row[0] % 2 == 1
 }

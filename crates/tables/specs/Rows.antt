@@ -24,9 +24,9 @@ abbrev pub Equal : List Row → Type 0
 Equal [] = Unit {0}
 Equal (r ∷ rs) = (r.given ≡ r.said) × Equal rs
 
-pub equal-rows : (rs : List Row) → Equal rs
-equal-rows [] = tt
-equal-rows (r ∷ rs) = (r.holds.equal, equal-rows rs)
+pub equal_rows : (rs : List Row) → Equal rs
+equal_rows [] = tt
+equal_rows (r ∷ rs) = (r.holds.equal, equal_rows rs)
 
 -- rows that pin the clauses of one sentence, which is 01's, a request's or the header's
 pub record Pinned : Type 1 where

@@ -8,24 +8,24 @@ use Rattle.packet.specs.Words.{ADD, DNU, EOS, NORM}
 use Rattle.text.specs.Ascii.{ascii}
 
 -- a byte in decimal, with no zero before it
-unfoldable pub decimalText : ℕ → Bytes
-decimalText n =
+unfoldable pub decimal_text : ℕ → Bytes
+decimal_text n =
     if n <? 10 then (48 + n) ∷ []
     else if n <? 100 then (48 + n / 10) ∷ (48 + n % 10) ∷ []
     else (48 + n / 100) ∷ (48 + n / 10 % 10) ∷ (48 + n % 10) ∷ []
 
 -- the digits of a number before a text, none for 0, and at most so many
-abbrev pub digitsBefore : (most n : ℕ) (text : Bytes) → Bytes
-digitsBefore zero n text = text
-digitsBefore (suc most) n text = if 0 <? n then digitsBefore most (n / 10) ((48 + n % 10) ∷ text) else text
+abbrev pub digits_before : (most n : ℕ) (text : Bytes) → Bytes
+digits_before zero n text = text
+digits_before (suc most) n text = if 0 <? n then digits_before most (n / 10) ((48 + n % 10) ∷ text) else text
 
 -- a number of at most twenty digits in decimal, with no zero before it
-unfoldable pub numberText : ℕ → Bytes
-numberText n = digitsBefore 19 (n / 10) ((48 + n % 10) ∷ [])
+unfoldable pub number_text : ℕ → Bytes
+number_text n = digits_before 19 (n / 10) ((48 + n % 10) ∷ [])
 
 -- five control words by name: ADD, NORM, EOS, DNU, IDLE
-unfoldable pub wordText : Word → Bytes
-wordText w =
+unfoldable pub word_text : Word → Bytes
+word_text w =
     if w.0 == ADD then ascii "ADD"
     else if w.0 == NORM then ascii "NORM"
     else if w.0 == EOS then ascii "EOS"
@@ -43,11 +43,11 @@ pub record Put (text : List ℕ) (at : ℕ) (out : List ℕ) (next : ℕ) (new :
   pub kept : length new ≡ length out
 
 -- the same for any place and any buffer: a text that does not fit is left out
-abbrev pub textFits : (text : Bytes) (at : ℕ) (out : Bytes) → Bool
-textFits text at out = at + length text ≤? length out
+abbrev pub text_fits : (text : Bytes) (at : ℕ) (out : Bytes) → Bool
+text_fits text at out = at + length text ≤? length out
 
-unfoldable pub putNext : (text : Bytes) (at : ℕ) (out : Bytes) → ℕ
-putNext text at out = if textFits text at out then at + length text else at
+unfoldable pub put_next : (text : Bytes) (at : ℕ) (out : Bytes) → ℕ
+put_next text at out = if text_fits text at out then at + length text else at
 
-unfoldable pub putBytes : (text : Bytes) (at : ℕ) (out : Bytes) → Bytes
-putBytes text at out = if textFits text at out then sets out at text else out
+unfoldable pub put_bytes : (text : Bytes) (at : ℕ) (out : Bytes) → Bytes
+put_bytes text at out = if text_fits text at out then sets out at text else out

@@ -3,7 +3,7 @@ ghost use Rattle.std.specs.Prelude.{◌≡◌, true, ◌+◌, ◌^◌, ◌≤◌
 ghost use Rattle.std.proofs.Math.Seq.{slice};
 ghost use Rattle.ground.specs.Plain.{◌<?◌};
 ghost use Rattle.bytes.specs.Bytes.{index_of};
-ghost use Rattle.text.specs.Fields.{areDigits, digitOf, hexOf, number_of, sameBytes, value_of};
+ghost use Rattle.text.specs.Fields.{are_digits, digit_of, hex_of, number_of, same_bytes, value_of};
 
 #[derive(Drop)]
 pub enum Number {
@@ -48,7 +48,7 @@ pub(crate) fn field_size(text: &[u8], at: usize, limit: usize) -> usize
 // branch goes by them here, nor in their value.
 fn is_digit(byte: u8, base: u8) -> bool
     requires { base ≤ 16 }
-    ensures { result ≡ (digitOf byte <? base) }
+    ensures { result ≡ (digit_of byte <? base) }
 {
     ((48 <= byte) & (byte <= 57) & (byte < 48 + base))
         | ((65 <= byte) & (byte <= 70) & (byte < 55 + base))
@@ -57,8 +57,8 @@ fn is_digit(byte: u8, base: u8) -> bool
 
 // The value of a digit: its low four bits, and nine more for a letter.
 pub(crate) fn digit_of(byte: u8) -> u8
-    requires { digitOf byte < 16 }
-    ensures { result ≡ digitOf byte }
+    requires { digit_of byte < 16 }
+    ensures { result ≡ digit_of byte }
 {
     byte % 16 + byte / 64 * 9
 }
@@ -66,7 +66,7 @@ pub(crate) fn digit_of(byte: u8) -> u8
 // Whether the field has digits below the base alone.
 pub(crate) fn are_digits(text: &[u8], at: usize, limit: usize, base: u8) -> bool
     requires { base ≤ 16 }
-    ensures { result ≡ areDigits base (slice at limit text.now) }
+    ensures { result ≡ are_digits base (slice at limit text.now) }
 {
     let count = field_size(text, at, limit);
     let mut good = true;
@@ -80,7 +80,7 @@ pub(crate) fn are_digits(text: &[u8], at: usize, limit: usize, base: u8) -> bool
 
 // Digits by value, so few of them that it fits.
 fn value_of(text: &[u8], at: usize, limit: usize, base: u8) -> u32
-    requires { (areDigits base (slice at limit text.now) ≡ true) × (0 < base) × (base ^ length (slice at limit text.now) ≤ 4294967296) × (base ≤ 16) }
+    requires { (are_digits base (slice at limit text.now) ≡ true) × (0 < base) × (base ^ length (slice at limit text.now) ≤ 4294967296) × (base ≤ 16) }
     ensures { result ≡ value_of base 0 (slice at limit text.now) }
 {
     let count = field_size(text, at, limit);
@@ -122,7 +122,7 @@ pub fn read_number(text: &[u8], at: usize, limit: usize, most: usize) -> Number
 
 // A number of that many hex digits, one to eight.
 pub fn read_hex(text: &[u8], at: usize, limit: usize, digits: usize) -> Number
-    ensures { result ≡ hexOf digits (slice at limit text.now) }
+    ensures { result ≡ hex_of digits (slice at limit text.now) }
 {
     let count = field_size(text, at, limit);
     if count == 0 {
@@ -143,7 +143,7 @@ pub fn read_hex(text: &[u8], at: usize, limit: usize, digits: usize) -> Number
 // Whether a word stands in a text at a place.
 fn agrees(text: &[u8], at: usize, word: &[u8]) -> bool
     requires { at + length word.now ≤ length text.now }
-    ensures { result ≡ sameBytes (slice at (at + length word.now) text.now) word.now }
+    ensures { result ≡ same_bytes (slice at (at + length word.now) text.now) word.now }
 {
     let mut r = true;
     let mut i = 0;
@@ -156,7 +156,7 @@ fn agrees(text: &[u8], at: usize, word: &[u8]) -> bool
 
 // Whether the field is the given word.
 pub fn same(text: &[u8], at: usize, limit: usize, word: &[u8]) -> bool
-    ensures { result ≡ sameBytes (slice at limit text.now) word.now }
+    ensures { result ≡ same_bytes (slice at limit text.now) word.now }
 {
     let end = end_of(text, limit);
     if end < at {

@@ -1,13 +1,13 @@
 // Fields of hex digits, two for each byte.
 ghost use Rattle.std.specs.Prelude.{◌≡◌, true, ◌+◌, ◌*◌, ◌<◌, length};
 ghost use Rattle.std.proofs.Math.Seq.{slice};
-ghost use Rattle.text.specs.Fields.{bytesIn, bytes_of, digitOf, isHex};
+ghost use Rattle.text.specs.Fields.{bytes_in, bytes_of, digit_of, is_hex};
 
 use crate::fields;
 
 // Whether the field is that many hex digits.
 pub fn is_hex(text: &[u8], at: usize, limit: usize, digits: usize) -> bool
-    ensures { result ≡ isHex digits (slice at limit text.now) }
+    ensures { result ≡ is_hex digits (slice at limit text.now) }
 {
     if fields::field_size(text, at, limit) != digits {
         return false;
@@ -17,14 +17,14 @@ pub fn is_hex(text: &[u8], at: usize, limit: usize, digits: usize) -> bool
 
 // A byte by its two digits.
 fn byte_of(high: u8, low: u8) -> u8
-    requires { (digitOf high < 16) × (digitOf low < 16) }
-    ensures { result ≡ digitOf high * 16 + digitOf low }
+    requires { (digit_of high < 16) × (digit_of low < 16) }
+    ensures { result ≡ digit_of high * 16 + digit_of low }
 {
     fields::digit_of(high) * 16 + fields::digit_of(low)
 }
 
 fn fill(text: &[u8], at: usize, limit: usize, out: &mut [u8])
-    requires { isHex (2 * length out.old) (slice at limit text.now) ≡ true }
+    requires { is_hex (2 * length out.old) (slice at limit text.now) ≡ true }
     ensures { out.new ≡ bytes_of (slice at limit text.now) }
 {
     let mut i = 0;
@@ -37,7 +37,7 @@ fn fill(text: &[u8], at: usize, limit: usize, out: &mut [u8])
 
 // The bytes that a field of hex digits stands for, two digits for each byte of the lent slice; where it is no such field nothing is written.
 pub fn read_bytes(text: &[u8], at: usize, limit: usize, out: &mut [u8]) -> bool
-    ensures { (result ≡ isHex (2 * length out.old) (slice at limit text.now)) × (out.new ≡ bytesIn (slice at limit text.now) out.old) }
+    ensures { (result ≡ is_hex (2 * length out.old) (slice at limit text.now)) × (out.new ≡ bytes_in (slice at limit text.now) out.old) }
 {
     let is = is_hex(text, at, limit, 2 * out.len());
     if is {

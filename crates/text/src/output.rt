@@ -1,7 +1,7 @@
 // Texts, numbers and words put one behind the other into a lent buffer. Each gives the place where the next one goes; where one does not
 // fit nothing is written and that place is its own.
 ghost use Rattle.std.specs.Prelude.{◌≡◌, ◌+◌, ◌%◌, ◌≤◌, drop, length};
-ghost use Rattle.text.specs.Output.{Put, decimalText, ended, numberText, putBytes, putNext, wordText};
+ghost use Rattle.text.specs.Output.{Put, decimal_text, ended, number_text, put_bytes, put_next, word_text};
 ghost use Rattle.text.specs.Text.{TAB};
 
 use packet::Word;
@@ -20,7 +20,7 @@ fn copy(text: &[u8], out: &mut [u8], at: usize) -> usize
 }
 
 pub fn put(text: &[u8], out: &mut [u8], at: usize) -> usize
-    ensures { (result ≡ putNext text.now at out.old) × (out.new ≡ putBytes text.now at out.old) }
+    ensures { (result ≡ put_next text.now at out.old) × (out.new ≡ put_bytes text.now at out.old) }
 {
     if out.len() < at {
         return at;
@@ -33,7 +33,7 @@ pub fn put(text: &[u8], out: &mut [u8], at: usize) -> usize
 
 // A byte in decimal and the mark behind it.
 pub fn put_number(n: u8, mark: u8, out: &mut [u8], at: usize) -> usize
-    ensures { (result ≡ putNext (ended (decimalText n) mark) at out.old) × (out.new ≡ putBytes (ended (decimalText n) mark) at out.old) }
+    ensures { (result ≡ put_next (ended (decimal_text n) mark) at out.old) × (out.new ≡ put_bytes (ended (decimal_text n) mark) at out.old) }
 {
     if n < 10 {
         return put(&[48 + n, mark], out, at);
@@ -62,7 +62,7 @@ fn last_digit(n: u64) -> u8
 }
 
 fn digits_of(n: u64, mark: u8) -> Digits
-    ensures { (result.start ≤ 21) × (length result.bytes ≡ 21) × (drop result.start result.bytes ≡ ended (numberText n) mark) }
+    ensures { (result.start ≤ 21) × (length result.bytes ≡ 21) × (drop result.start result.bytes ≡ ended (number_text n) mark) }
 {
     let mut bytes = [0u8; 21];
     bytes[20] = mark;
@@ -79,7 +79,7 @@ fn digits_of(n: u64, mark: u8) -> Digits
 
 // A number of any size in decimal and the mark behind it.
 pub fn put_decimal(n: u64, mark: u8, out: &mut [u8], at: usize) -> usize
-    ensures { (result ≡ putNext (ended (numberText n) mark) at out.old) × (out.new ≡ putBytes (ended (numberText n) mark) at out.old) }
+    ensures { (result ≡ put_next (ended (number_text n) mark) at out.old) × (out.new ≡ put_bytes (ended (number_text n) mark) at out.old) }
 {
     let digits = digits_of(n, mark);
     let bytes = digits.bytes;
@@ -89,7 +89,7 @@ pub fn put_decimal(n: u64, mark: u8, out: &mut [u8], at: usize) -> usize
 
 // A control word and a tab.
 pub fn put_word(word: Word, out: &mut [u8], at: usize) -> usize
-    ensures { (result ≡ putNext (ended (wordText word) TAB) at out.old) × (out.new ≡ putBytes (ended (wordText word) TAB) at out.old) }
+    ensures { (result ≡ put_next (ended (word_text word) TAB) at out.old) × (out.new ≡ put_bytes (ended (word_text word) TAB) at out.old) }
 {
     let code = word.0;
     if code == Word::ADD.0 {

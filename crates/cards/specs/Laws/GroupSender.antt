@@ -1,22 +1,22 @@
 -- A group's sender on the card: its answer has one number for the card and for the sender, and a sender put back where it was leaves the card.
 use Rattle.std.specs.Prelude.{◌≡◌, refl, Bool, true, false, cond, ℕ, eqb}
 use Rattle.sender.specs.declared.table.Answer as S
-use Rattle.sender.specs.Table.{answerNumber as senderNumber}
+use Rattle.sender.specs.Table.{answer_number as sender_number}
 use Rattle.cards.specs.declared.card.Card.{Card}
-use Rattle.cards.specs.Answers.{answerNumber, fromSender}
-use Rattle.cards.specs.Parts.{senderOf, withSender}
+use Rattle.cards.specs.Answers.{answer_number, from_sender}
+use Rattle.cards.specs.Parts.{sender_of, with_sender}
 
-pub sender-number : (a : S.Answer) → answerNumber (fromSender a) ≡ senderNumber a
-sender-number S.Answer.Done = refl
-sender-number S.Answer.NoSlot = refl
-sender-number S.Answer.NotAllowed = refl
-sender-number S.Answer.WaitOpen = refl
-sender-number S.Answer.OutOfRange = refl
-sender-number S.Answer.Field = refl
-sender-number S.Answer.Length = refl
+pub sender_number_lem : (a : S.Answer) → answer_number (from_sender a) ≡ sender_number a
+sender_number_lem S.Answer.Done = refl
+sender_number_lem S.Answer.NoSlot = refl
+sender_number_lem S.Answer.NotAllowed = refl
+sender_number_lem S.Answer.WaitOpen = refl
+sender_number_lem S.Answer.OutOfRange = refl
+sender_number_lem S.Answer.Field = refl
+sender_number_lem S.Answer.Length = refl
 
-pub put_back : (c : Card) (g : ℕ) → withSender c g (senderOf c g) ≡ c
-unfolding withSender senderOf
+pub put_back : (c : Card) (g : ℕ) → with_sender c g (sender_of c g) ≡ c
+unfolding with_sender sender_of
 put_back c g = go (eqb g 0)
   where
     go : (b : Bool)

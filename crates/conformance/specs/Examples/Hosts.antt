@@ -2,16 +2,16 @@
 use Rattle.std.specs.Prelude.{Bool, true, false, List, [], ◌∷◌, ℕ, zero, suc, ◌+◌, ◌*◌, ◌/◌, ◌%◌, get_or, replicate}
 use Rattle.ground.specs.Plain.{if◌then◌else◌, ◌==◌}
 use Rattle.ground.specs.Types.{Bytes}
-use Rattle.packet.specs.Kinds.{epochOf, place_of}
-use Rattle.packet.specs.Layout.{h4Of, nibblesOf}
+use Rattle.packet.specs.Kinds.{epoch_of, place_of}
+use Rattle.packet.specs.Layout.{h4_of, nibbles_of}
 use Rattle.packet.specs.Words.{IDLE}
-use Rattle.phases.specs.Sizes.{portsIn}
-use Rattle.receiver.specs.Fetch.{fetchOf}
+use Rattle.phases.specs.Sizes.{ports_in}
+use Rattle.receiver.specs.Fetch.{fetch_of}
 use Rattle.receiver.specs.Frame.{frame_of}
-use Rattle.receiver.specs.Starting.{startAnswer, startRows}
-use Rattle.rows.specs.Group.{groupAt}
-use Rattle.rows.specs.Rows.{rowsFor}
-use Rattle.rows.specs.Step.{stepAt}
+use Rattle.receiver.specs.Starting.{start_answer, start_rows}
+use Rattle.rows.specs.Group.{group_at}
+use Rattle.rows.specs.Rows.{rows_for}
+use Rattle.rows.specs.Step.{step_at}
 
 -- what the host keeps between calls, and the last call's answer
 pub record Host : Type 0 where
@@ -23,22 +23,22 @@ pub record Host : Type 0 where
 abbrev pub opened : ℕ → ℕ → Host
 opened n W =
     record {
-      answer = startAnswer 0 n 1 W (n * W * 2) (rowsFor n);
-      rows = startRows 0 n 1 W (n * W * 2) (replicate (rowsFor n) (replicate 16 0));
+      answer = start_answer 0 n 1 W (n * W * 2) (rows_for n);
+      rows = start_rows 0 n 1 W (n * W * 2) (replicate (rows_for n) (replicate 16 0));
       store = replicate (n * W * 2) 0;
     }
 
 -- the H4 byte of the frame with tag t: MFI1, and MFI2's nibbles at MFI1 0 and 1
-abbrev h4With : ℕ → ℕ
-h4With t = (if t % 16 == 0 then t / 256 else if t % 16 == 1 then t / 16 % 16 else 0) * 16 + t % 16
+abbrev h4_with : ℕ → ℕ
+h4_with t = (if t % 16 == 0 then t / 256 else if t % 16 == 1 then t / 16 % 16 else 0) * 16 + t % 16
 
 -- its payload
-abbrev payloadWith : ℕ → List ℕ
-payloadWith t = t % 256 ∷ []
+abbrev payload_with : ℕ → List ℕ
+payload_with t = t % 256 ∷ []
 
 -- the frame of a port with an H4 byte, flagged as failed or not
-abbrev handedAs : (failed : Bool) (port h4 : ℕ) (payload : Bytes) (h : Host) → Host
-handedAs failed port h4 payload h =
+abbrev handed_as : (failed : Bool) (port h4 : ℕ) (payload : Bytes) (h : Host) → Host
+handed_as failed port h4 payload h =
     record {
       answer = (frame_of h.rows port failed h4 payload h.store).answer;
       rows = (frame_of h.rows port failed h4 payload h.store).rows;
@@ -47,10 +47,10 @@ handedAs failed port h4 payload h =
 
 -- the frame with tag t
 abbrev pub handed : (port t : ℕ) (h : Host) → Host
-handed port t h = handedAs false port (h4With t) (payloadWith t) h
+handed port t h = handed_as false port (h4_with t) (payload_with t) h
 
 abbrev pub flagged : (port t : ℕ) (h : Host) → Host
-flagged port t h = handedAs true port (h4With t) (payloadWith t) h
+flagged port t h = handed_as true port (h4_with t) (payload_with t) h
 
 -- n frames of a port, the first with tag t
 abbrev pub fed : (port n t : ℕ) (h : Host) → Host
@@ -58,38 +58,38 @@ fed port zero t h = h
 fed port (suc n) t h = fed port n ((t + 1) % 4096) (handed port t h)
 
 -- the H4 byte of the frame with tag t of a whole packet: IDLE under 255, with its CRC
-abbrev pub packetWith : ℕ → ℕ
-packetWith t = get_or (h4Of (nibblesOf (record { epoch = epochOf 0 t; word = record { 0 = IDLE }; gid = 0; mst = 255; rs_ack = 0; sq = 255; reserved = 0 }))) (place_of 0 t) 0
+abbrev pub packet_with : ℕ → ℕ
+packet_with t = get_or (h4_of (nibbles_of (record { epoch = epoch_of 0 t; word = record { 0 = IDLE }; gid = 0; mst = 255; rs_ack = 0; sq = 255; reserved = 0 }))) (place_of 0 t) 0
 
 -- the same with a reserved bit changed, at MFI1 4
-abbrev pub damagedWith : ℕ → ℕ
-damagedWith t = packetWith t + (if t % 16 == 4 then 16 else 0)
+abbrev pub damaged_with : ℕ → ℕ
+damaged_with t = packet_with t + (if t % 16 == 4 then 16 else 0)
 
 -- A byte is handed on as a number. The checker would work out a packet's byte, with its CRC, again at each place that reads it.
-abbrev byNumber : ℕ → (ℕ → Host) → Host
-byNumber zero next = next zero
-byNumber (suc b) next = next (suc b)
+abbrev by_number : ℕ → (ℕ → Host) → Host
+by_number zero next = next zero
+by_number (suc b) next = next (suc b)
 
 -- n frames of a port with such bytes, the first with tag t
-abbrev pub fedWith : (h4 : ℕ → ℕ) (port n t : ℕ) (h : Host) → Host
-fedWith h4 port zero t h = h
-fedWith h4 port (suc n) t h = byNumber (h4 t) (λ b. fedWith h4 port n ((t + 1) % 4096) (handedAs false port b (payloadWith t) h))
+abbrev pub fed_with : (h4 : ℕ → ℕ) (port n t : ℕ) (h : Host) → Host
+fed_with h4 port zero t h = h
+fed_with h4 port (suc n) t h = by_number (h4 t) (λ b. fed_with h4 port n ((t + 1) % 4096) (handed_as false port b (payload_with t) h))
 
 -- one fetch, whose answer is left out
 abbrev pub fetched : Host → Host
-fetched h = record { answer = h.answer; rows = (fetchOf h.rows h.store (replicate 16 0) (replicate 8 0)).rows; store = h.store }
+fetched h = record { answer = h.answer; rows = (fetch_of h.rows h.store (replicate 16 0) (replicate 8 0)).rows; store = h.store }
 
 -- the answer, and of a port the tag to come, the frames counted, and the breaks in a row
 abbrev pub counting : ℕ → Host → List ℕ
-counting port h = let s = stepAt h.rows port in h.answer ∷ s.next ∷ s.count ∷ s.breaks ∷ []
+counting port h = let s = step_at h.rows port in h.answer ∷ s.next ∷ s.count ∷ s.breaks ∷ []
 
 -- the answer, and how many ports there are
-abbrev pub openedWith : ℕ → List ℕ
-openedWith n = let h = opened n 16 in h.answer ∷ portsIn (groupAt h.rows) ∷ []
+abbrev pub opened_with : ℕ → List ℕ
+opened_with n = let h = opened n 16 in h.answer ∷ ports_in (group_at h.rows) ∷ []
 
 -- the answer, and whether receiving has begun
 abbrev pub begun : Host → List ℕ
-begun h = h.answer ∷ (groupAt h.rows).begun ∷ []
+begun h = h.answer ∷ (group_at h.rows).begun ∷ []
 
 -- the answer, and the payload and H4 at a place in the store
 abbrev pub stored : ℕ → Host → List ℕ

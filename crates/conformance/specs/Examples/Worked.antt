@@ -2,30 +2,30 @@
 use Rattle.std.specs.Prelude.{true, false, List, [], ◌∷◌, ◌++◌, ℕ, get_or, length, replicate, take}
 use Rattle.ground.specs.Table.{tabulate}
 use Rattle.packet.specs.Kinds.{epochs}
-use Rattle.rows.specs.Group.{groupAt}
-use Rattle.rows.specs.Member.{memberOf}
-use Rattle.rows.specs.Step.{stepAt}
-use Rattle.sender.specs.Board.{boardOf}
+use Rattle.rows.specs.Group.{group_at}
+use Rattle.rows.specs.Member.{member_of}
+use Rattle.rows.specs.Step.{step_at}
+use Rattle.sender.specs.Board.{board_of}
 use Rattle.sender.specs.Calls.{Call}
 use Rattle.sender.specs.Calls.Call.{AddSlot, Lapse, RemoveSlot, Report}
-use Rattle.sender.specs.Epochs.{beginOf, onTable, packetBytes, payloadBytes, ranksOf, senderRun, xOf}
+use Rattle.sender.specs.Epochs.{begin_of, on_table, packet_bytes, payload_bytes, ranks_of, sender_run, x_of}
 use Rattle.sender.specs.Shown.{after, shown}
-use Rattle.step.specs.Arrival.{stepTo}
-use Rattle.c_face.specs.Boards.{boardBytesOf, ranksBytesOf}
+use Rattle.step.specs.Arrival.{step_to}
+use Rattle.c_face.specs.Boards.{board_bytes_of, ranks_bytes_of}
 use Rattle.judge.specs.declared.seen.Seen.{Seen}
 use Rattle.judge.specs.Order.{order_of}
-use Rattle.judge.specs.Verdict.{judgeOf}
-use Rattle.receiver.specs.Fetch.{recordOf}
-use Rattle.receiver.specs.Shown.{portShown, portsOut}
+use Rattle.judge.specs.Verdict.{judge_of}
+use Rattle.receiver.specs.Fetch.{record_of}
+use Rattle.receiver.specs.Shown.{port_shown, ports_out}
 use Rattle.reply.specs.declared.members.Port.{Port}
-use Rattle.reply.specs.Waiting.{noStanding, standing, standingsOf}
-use Rattle.reply.specs.Telling.{mstOf}
+use Rattle.reply.specs.Waiting.{no_standing, standing, standings_of}
+use Rattle.reply.specs.Telling.{mst_of}
 use Rattle.sender.specs.declared.epochs.Sender.{Sender}
 use Rattle.sender.specs.Epochs.SenderCall.{StartEpoch}
 use Rattle.conformance.specs.Examples.Hosts.{Host, begun, fed, flagged, opened}
-use Rattle.tables.specs.Waits.{seenPort}
-use Rattle.tables.specs.Rows.{Equal, Row, equal-rows, row, same}
-use Rattle.conformance.specs.Opened.{allOpen}
+use Rattle.tables.specs.Waits.{seen_port}
+use Rattle.tables.specs.Rows.{Equal, Row, equal_rows, row, same}
+use Rattle.conformance.specs.Opened.{all_open}
 
 -- The sender's table. A member added and made active, its wait lapsed:
 abbrev active : ℕ → List Call
@@ -62,7 +62,7 @@ four = active 4 ++ (AddSlot 3 ∷ AddSlot 2 ∷ AddSlot 1 ∷ AddSlot 0 ∷ [])
 
 -- Two members of three slots, and epochs started from number 200 on.
 abbrev sending : ℕ → Sender
-sending epochs = senderRun (beginOf 0 3 200).sender (onTable two ++ replicate epochs (StartEpoch 1 0xA5 1))
+sending epochs = sender_run (begin_of 0 3 200).sender (on_table two ++ replicate epochs (StartEpoch 1 0xA5 1))
 
 -- A port with a whole good packet and all its frames: word, number and GID. One with no whole packet.
 abbrev saw : (word number gid : ℕ) → Seen
@@ -78,7 +78,7 @@ abbrev lacking : ℕ → ℕ → Seen
 lacking word number = record { whole = true; good = true; word = word; number = number; gid = 0; here = false }
 
 abbrev verdict : List Seen → ℕ
-verdict ports = judgeOf 0 ports (length ports)
+verdict ports = judge_of 0 ports (length ports)
 
 -- X, and the ports by rank
 abbrev ranked : List Seen → List ℕ
@@ -86,13 +86,13 @@ ranked ports = let o = order_of ports (length ports) in o.x ∷ take o.x o.ports
 
 -- a port of the reply: word, number, and the state and number of the last report
 abbrev port : (word number state was : ℕ) → Port
-port word number state was = seenPort word number true (standing state was 0) 0 0
+port word number state was = seen_port word number true (standing state was 0) 0 0
 
 abbrev gone : ℕ → ℕ → Port
-gone word number = seenPort word number false (standing 0 255 0) 0 0
+gone word number = seen_port word number false (standing 0 255 0) 0 0
 
 abbrev worked : List Port → List ℕ
-worked ports = tabulate (length ports) (λ i. (get_or (standingsOf ports (length ports)) i noStanding).state)
+worked ports = tabulate (length ports) (λ i. (get_or (standings_of ports (length ports)) i no_standing).state)
 
 abbrev oks : List Port
 oks = port 2 9 2 9 ∷ port 5 255 0 255 ∷ port 3 0 2 0 ∷ port 1 2 1 2 ∷ []
@@ -102,7 +102,7 @@ abbrev receiving : Host
 receiving = fed 0 48 0 (opened 1 16)
 
 pub table : List Row
-unfolding allOpen
+unfolding all_open
 table =
     row "a bit is remembered as a wait closes" (shown (after 3 (three ++ (RemoveSlot 2 ∷ Report 0 0x00 1 ∷ RemoveSlot 1 ∷ Report 0 0x00 1 ∷ [])))) (3 ∷ 0 ∷ 5 ∷ 255 ∷ 5 ∷ 255 ∷ 1 ∷ []) same
     ∷ row "a bit is remembered with no wait open" (shown (after 2 (two ++ (Report 0 0x00 1 ∷ RemoveSlot 1 ∷ Report 0 0x00 1 ∷ [])))) (3 ∷ 0 ∷ 5 ∷ 255 ∷ 1 ∷ []) same
@@ -115,12 +115,12 @@ table =
     ∷ row "added members take the next numbers, the ADD members left follow" (shown (after 5 (four ++ (Report 0 0x50 0 ∷ [])))) (3 ∷ 2 ∷ 1 ∷ 4 ∷ 2 ∷ 1 ∷ 1 ∷ 3 ∷ 2 ∷ 0 ∷ 1 ∷ []) same
     ∷ row "an ADD member removed" (shown (after 2 (AddSlot 0 ∷ AddSlot 1 ∷ RemoveSlot 0 ∷ []))) (5 ∷ 255 ∷ 1 ∷ 0 ∷ 1 ∷ []) same
     ∷ row "a DNU member removed" (shown (after 3 (three ++ (Report 0 0x80 0 ∷ RemoveSlot 0 ∷ [])))) (5 ∷ 255 ∷ 2 ∷ 0 ∷ 3 ∷ 1 ∷ 1 ∷ []) same
-    ∷ row "a sender's epochs 255, 0 and 1" ((senderRun (beginOf 0 1 255).sender (StartEpoch 0 0xFF 0 ∷ [])).epoch ∷ (senderRun (beginOf 0 1 255).sender (replicate 2 (StartEpoch 0 0xFF 0))).epoch ∷ (senderRun (beginOf 0 1 255).sender (replicate 3 (StartEpoch 0 0xFF 0))).epoch ∷ []) (255 ∷ 0 ∷ 1 ∷ []) same
-    ∷ row "what slots 0 and 1 send in epoch 200" (packetBytes (sending 1) 0 (replicate 16 0) ++ packetBytes (sending 1) 1 (replicate 16 0)) (0xA8 ∷ 0x59 ∷ 0x1A ∷ 0x0B ∷ 0x0C ∷ 0x0D ∷ 0x0E ∷ 0x0F ∷ 0xC0 ∷ 0x81 ∷ 0x22 ∷ 0x13 ∷ 0x04 ∷ 0x05 ∷ 0x76 ∷ 0x87 ∷ 0xA8 ∷ 0x59 ∷ 0x1A ∷ 0x0B ∷ 0x0C ∷ 0x0D ∷ 0x0E ∷ 0x1F ∷ 0xC0 ∷ 0x81 ∷ 0x32 ∷ 0x13 ∷ 0x04 ∷ 0x05 ∷ 0x36 ∷ 0x97 ∷ []) same
-    ∷ row "X of the first epoch and of the second" (xOf (sending 1) ∷ xOf (sending 2) ∷ []) (0 ∷ 2 ∷ []) same
-    ∷ row "the payload of slots 0, 1 and 2, the last with no rank" (payloadBytes (sending 2) 0 2 (10 ∷ 11 ∷ 12 ∷ 13 ∷ []) (9 ∷ 9 ∷ []) ++ (payloadBytes (sending 2) 1 2 (10 ∷ 11 ∷ 12 ∷ 13 ∷ []) (9 ∷ 9 ∷ []) ++ payloadBytes (sending 2) 2 2 (10 ∷ 11 ∷ 12 ∷ 13 ∷ []) (9 ∷ 9 ∷ []))) (10 ∷ 12 ∷ 11 ∷ 13 ∷ 0 ∷ 0 ∷ []) same
-    ∷ row "the board's first bytes for C" (take 8 (boardBytesOf (boardOf (after 3 (three ++ (RemoveSlot 1 ∷ [])))))) (3 ∷ 1 ∷ 2 ∷ 0 ∷ 5 ∷ 255 ∷ 3 ∷ 1 ∷ []) same
-    ∷ row "the ranks' first bytes for C" (take 7 (ranksBytesOf (ranksOf (sending 2)))) (3 ∷ 1 ∷ 201 ∷ 2 ∷ 0 ∷ 1 ∷ 255 ∷ []) same
+    ∷ row "a sender's epochs 255, 0 and 1" ((sender_run (begin_of 0 1 255).sender (StartEpoch 0 0xFF 0 ∷ [])).epoch ∷ (sender_run (begin_of 0 1 255).sender (replicate 2 (StartEpoch 0 0xFF 0))).epoch ∷ (sender_run (begin_of 0 1 255).sender (replicate 3 (StartEpoch 0 0xFF 0))).epoch ∷ []) (255 ∷ 0 ∷ 1 ∷ []) same
+    ∷ row "what slots 0 and 1 send in epoch 200" (packet_bytes (sending 1) 0 (replicate 16 0) ++ packet_bytes (sending 1) 1 (replicate 16 0)) (0xA8 ∷ 0x59 ∷ 0x1A ∷ 0x0B ∷ 0x0C ∷ 0x0D ∷ 0x0E ∷ 0x0F ∷ 0xC0 ∷ 0x81 ∷ 0x22 ∷ 0x13 ∷ 0x04 ∷ 0x05 ∷ 0x76 ∷ 0x87 ∷ 0xA8 ∷ 0x59 ∷ 0x1A ∷ 0x0B ∷ 0x0C ∷ 0x0D ∷ 0x0E ∷ 0x1F ∷ 0xC0 ∷ 0x81 ∷ 0x32 ∷ 0x13 ∷ 0x04 ∷ 0x05 ∷ 0x36 ∷ 0x97 ∷ []) same
+    ∷ row "X of the first epoch and of the second" (x_of (sending 1) ∷ x_of (sending 2) ∷ []) (0 ∷ 2 ∷ []) same
+    ∷ row "the payload of slots 0, 1 and 2, the last with no rank" (payload_bytes (sending 2) 0 2 (10 ∷ 11 ∷ 12 ∷ 13 ∷ []) (9 ∷ 9 ∷ []) ++ (payload_bytes (sending 2) 1 2 (10 ∷ 11 ∷ 12 ∷ 13 ∷ []) (9 ∷ 9 ∷ []) ++ payload_bytes (sending 2) 2 2 (10 ∷ 11 ∷ 12 ∷ 13 ∷ []) (9 ∷ 9 ∷ []))) (10 ∷ 12 ∷ 11 ∷ 13 ∷ 0 ∷ 0 ∷ []) same
+    ∷ row "the board's first bytes for C" (take 8 (board_bytes_of (board_of (after 3 (three ++ (RemoveSlot 1 ∷ [])))))) (3 ∷ 1 ∷ 2 ∷ 0 ∷ 5 ∷ 255 ∷ 3 ∷ 1 ∷ []) same
+    ∷ row "the ranks' first bytes for C" (take 7 (ranks_bytes_of (ranks_of (sending 2)))) (3 ∷ 1 ∷ 201 ∷ 2 ∷ 0 ∷ 1 ∷ 255 ∷ []) same
     ∷ row "32 frames make the step, 31 don't" ((fed 0 31 0 (opened 1 16)).answer ∷ (fed 0 32 0 (opened 1 16)).answer ∷ []) (12 ∷ 0 ∷ []) same
     ∷ row "the count starts at MFI1 0" ((fed 0 42 5 (opened 1 16)).answer ∷ (fed 0 43 5 (opened 1 16)).answer ∷ []) (12 ∷ 0 ∷ []) same
     ∷ row "a second MFI2 that is not the first plus one loses the count, and MFI1 0 starts the next" ((fed 0 47 32 (fed 0 16 0 (opened 1 16))).answer ∷ (fed 0 48 32 (fed 0 16 0 (opened 1 16))).answer ∷ []) (12 ∷ 0 ∷ []) same
@@ -143,12 +143,12 @@ table =
     ∷ row "all IDLE is sure" (verdict (saw 5 255 0 ∷ saw 5 255 0 ∷ []) ∷ []) (3 ∷ []) same
     ∷ row "IDLE, OK and FAIL" (worked (port 255 255 0 255 ∷ port 5 255 0 255 ∷ port 1 3 0 255 ∷ port 1 64 0 255 ∷ port 2 63 0 255 ∷ gone 2 5 ∷ port 15 3 0 255 ∷ [])) (0 ∷ 0 ∷ 2 ∷ 1 ∷ 2 ∷ 1 ∷ 1 ∷ []) same
     ∷ row "OK under the same number chooses first, under another it does not" (worked (port 2 4 0 255 ∷ port 3 4 2 4 ∷ port 15 4 2 9 ∷ [])) (1 ∷ 2 ∷ 1 ∷ []) same
-    ∷ row "MST in epochs 0, 1, 33 and 8 with 0 and 9 OK" (mstOf 0 oks 4 0 ∷ mstOf 0 oks 4 1 ∷ mstOf 0 oks 4 33 ∷ mstOf 0 oks 4 8 ∷ []) (0x7F ∷ 0xBF ∷ 0xBF ∷ 0xFF ∷ []) same
-    ∷ row "what is shown of a port" (get_or (portsOut receiving.rows (replicate 8 9 ∷ [])) 0 [] ++ get_or (portsOut (flagged 0 48 receiving).rows (replicate 8 9 ∷ [])) 0 []) (0 ∷ 255 ∷ 1 ∷ 1 ∷ 1 ∷ 0 ∷ 255 ∷ 0 ∷ 0 ∷ 255 ∷ 0 ∷ 0 ∷ 0 ∷ 1 ∷ 255 ∷ 0 ∷ []) same
-    ∷ row "what is shown of a port in step that has not joined, readable and not" (portShown (groupAt receiving.rows) (stepTo (stepAt receiving.rows 0) 0 (record { count = 32; next = 5; breaks = 0; odd = 0; bits = 0 }) 0 1 0) (memberOf (2 ∷ 7 ∷ 1 ∷ 5 ∷ replicate 12 0)) ++ portShown (groupAt receiving.rows) (stepTo (stepAt receiving.rows 0) 0 (record { count = 32; next = 5; breaks = 0; odd = 0; bits = 0 }) 0 0 0) (memberOf (2 ∷ 7 ∷ 1 ∷ 5 ∷ replicate 12 0))) (1 ∷ 5 ∷ 1 ∷ 0 ∷ 1 ∷ 0 ∷ 2 ∷ 0 ∷ 1 ∷ 5 ∷ 1 ∷ 0 ∷ 0 ∷ 0 ∷ 2 ∷ 0 ∷ []) same
-    ∷ row "the record of a report" (recordOf (record { mark = 3; epoch = 200; x = 2; cause = 0; bytes = 24192 })) (3 ∷ 200 ∷ 2 ∷ 0 ∷ 0 ∷ 0 ∷ 0x5E ∷ 0x80 ∷ []) same
-    ∷ row "the record of a report that is held since numbers repeat" (recordOf (record { mark = 1; epoch = 200; x = 0; cause = 3; bytes = 0 })) (1 ∷ 200 ∷ 0 ∷ 3 ∷ 0 ∷ 0 ∷ 0 ∷ 0 ∷ []) same
+    ∷ row "MST in epochs 0, 1, 33 and 8 with 0 and 9 OK" (mst_of 0 oks 4 0 ∷ mst_of 0 oks 4 1 ∷ mst_of 0 oks 4 33 ∷ mst_of 0 oks 4 8 ∷ []) (0x7F ∷ 0xBF ∷ 0xBF ∷ 0xFF ∷ []) same
+    ∷ row "what is shown of a port" (get_or (ports_out receiving.rows (replicate 8 9 ∷ [])) 0 [] ++ get_or (ports_out (flagged 0 48 receiving).rows (replicate 8 9 ∷ [])) 0 []) (0 ∷ 255 ∷ 1 ∷ 1 ∷ 1 ∷ 0 ∷ 255 ∷ 0 ∷ 0 ∷ 255 ∷ 0 ∷ 0 ∷ 0 ∷ 1 ∷ 255 ∷ 0 ∷ []) same
+    ∷ row "what is shown of a port in step that has not joined, readable and not" (port_shown (group_at receiving.rows) (step_to (step_at receiving.rows 0) 0 (record { count = 32; next = 5; breaks = 0; odd = 0; bits = 0 }) 0 1 0) (member_of (2 ∷ 7 ∷ 1 ∷ 5 ∷ replicate 12 0)) ++ port_shown (group_at receiving.rows) (step_to (step_at receiving.rows 0) 0 (record { count = 32; next = 5; breaks = 0; odd = 0; bits = 0 }) 0 0 0) (member_of (2 ∷ 7 ∷ 1 ∷ 5 ∷ replicate 12 0))) (1 ∷ 5 ∷ 1 ∷ 0 ∷ 1 ∷ 0 ∷ 2 ∷ 0 ∷ 1 ∷ 5 ∷ 1 ∷ 0 ∷ 0 ∷ 0 ∷ 2 ∷ 0 ∷ []) same
+    ∷ row "the record of a report" (record_of (record { mark = 3; epoch = 200; x = 2; cause = 0; bytes = 24192 })) (3 ∷ 200 ∷ 2 ∷ 0 ∷ 0 ∷ 0 ∷ 0x5E ∷ 0x80 ∷ []) same
+    ∷ row "the record of a report that is held since numbers repeat" (record_of (record { mark = 1; epoch = 200; x = 0; cause = 3; bytes = 0 })) (1 ∷ 200 ∷ 0 ∷ 3 ∷ 0 ∷ 0 ∷ 0 ∷ 0 ∷ []) same
     ∷ []
 
-pub worked-out : Equal table
-worked-out = equal-rows table
+pub worked_out : Equal table
+worked_out = equal_rows table

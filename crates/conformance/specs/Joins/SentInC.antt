@@ -5,50 +5,50 @@ use Rattle.std.proofs.Common.{sym, ap, ◌∙◌, ⊎_elim, arith}
 use Rattle.std.specs.Prelude.{Bool, not, ◌&&◌, ◌||◌, List, [], ◌∷◌, ℕ, ◌≤◌, ◌<◌, get_or, length}
 use Rattle.std.proofs.Math.Bool.{true, false}
 use borrow.Author.Tests.{eq-eqb, lt-ltb, ltb-false, ltb-true}
-use Rattle.c_face.specs.Keeping.{senderOf}
-use Rattle.c_face.specs.Runs.{numbersFit, meant, run_c}
-use Rattle.c_face.specs.Senders.{are_bytes, isEpoch, isState, outside, packetAnswerC, packetBytesC, sends, startAnswerC, startStateC}
-use Rattle.c_face.specs.Theorems.CratesOwn.{packet-own}
-use Rattle.c_face.specs.Theorems.Runs.{runs_own, runs-sized}
+use Rattle.c_face.specs.Keeping.{sender_of}
+use Rattle.c_face.specs.Runs.{numbers_fit, meant, run_c}
+use Rattle.c_face.specs.Senders.{are_bytes, is_epoch, is_state, outside, packet_answer_c, packet_bytes_c, sends, start_answer_c, start_state_c}
+use Rattle.c_face.specs.Theorems.CratesOwn.{packet_own}
+use Rattle.c_face.specs.Theorems.Runs.{runs_own, runs_sized}
 use Rattle.ground.specs.Plain.{if◌then◌else◌, ◌==◌, ◌<?◌}
-use Rattle.ground.specs.Truth.{and_left, and_right, le-or-lt, neither}
+use Rattle.ground.specs.Truth.{and_left, and_right, le_or_lt, neither}
 use Rattle.packet.specs.AsSent.{Sent}
 use Rattle.packet.specs.Counts.{counts}
-use Rattle.packet.specs.Kinds.{epochOf, epochs, frames, place_of, tag_of}
-use Rattle.packet.specs.Theorems.Sent.{sent-as}
+use Rattle.packet.specs.Kinds.{epoch_of, epochs, frames, place_of, tag_of}
+use Rattle.packet.specs.Theorems.Sent.{sent_as}
 use Rattle.packet.specs.declared.reader.Reading.TheVariants.{Packet}
-use Rattle.packet.specs.Ruling.{readRow}
-use Rattle.packet.specs.Sent.{sentAnswer, sentBytes, sentFits}
-use Rattle.packet.specs.Symbols.{packetRow}
+use Rattle.packet.specs.Ruling.{read_row}
+use Rattle.packet.specs.Sent.{sent_answer, sent_bytes, sent_fits}
+use Rattle.packet.specs.Symbols.{packet_row}
 use Rattle.packet.specs.declared.writer.Writing.TheVariants as W
 use Rattle.sender.specs.Commands.{fresh_of, start_of}
-use Rattle.sender.specs.Epochs.{SenderCall, beginOf, freshSender, packetAnswer, packetBytes, packetFields, senderAfter, senderOutcomeOf, senderRun, startEpochOf, startedSender}
+use Rattle.sender.specs.Epochs.{SenderCall, begin_of, fresh_sender, packet_answer, packet_bytes, packet_fields, sender_after, sender_outcome_of, sender_run, start_epoch_of, started_sender}
 use Rattle.sender.specs.SenderRuns.{AllGiven}
-use Rattle.sender.specs.Theorems.Packets.{packet-done, written-done}
+use Rattle.sender.specs.Theorems.Packets.{packet_done, written_done}
 use Rattle.sender.specs.declared.epochs.Sender.{Sender}
 use Rattle.sender.specs.declared.epochs.SenderOutcome.{SenderOutcome}
 use Rattle.sender.specs.Epochs.SenderCall.{OnTable, StartEpoch}
 use Rattle.sender.specs.declared.table.Answer.TheVariants.{Done, Field}
-use Rattle.sender.specs.Laws.Kept.{group-call, start-kind}
-use Rattle.sender.specs.Laws.Sizes.{size-large, size_small}
-use Rattle.sender.specs.Table.{answerNumber, slotCount}
+use Rattle.sender.specs.Laws.Kept.{group_call, start_kind}
+use Rattle.sender.specs.Laws.Sizes.{size_large, size_small}
+use Rattle.sender.specs.Table.{answer_number, slot_count}
 
 pub record WrittenC (kind : ℕ) (state : List ℕ) (slot : ℕ) (bytes : List ℕ) : Type 0 where
-  pub answer : packetAnswerC state slot bytes ≡ 0
-  pub fields : sentFits kind (packetFields (senderOf state) slot) ≡ true
-  pub long : length (packetBytesC state slot bytes) ≡ frames kind
-  pub told : (x : ℕ) → (packetFields (senderOf state) slot).epoch ≡ epochOf kind (tag_of kind x) → counts kind (tag_of kind x) (get_or (packetBytesC state slot bytes) (place_of kind (tag_of kind x)) 0) ≡ true
-  pub reads : readRow kind (packetRow kind (packetBytesC state slot bytes)) ≡ Packet (packetFields (senderOf state) slot)
+  pub answer : packet_answer_c state slot bytes ≡ 0
+  pub fields : sent_fits kind (packet_fields (sender_of state) slot) ≡ true
+  pub long : length (packet_bytes_c state slot bytes) ≡ frames kind
+  pub told : (x : ℕ) → (packet_fields (sender_of state) slot).epoch ≡ epoch_of kind (tag_of kind x) → counts kind (tag_of kind x) (get_or (packet_bytes_c state slot bytes) (place_of kind (tag_of kind x)) 0) ≡ true
+  pub reads : read_row kind (packet_row kind (packet_bytes_c state slot bytes)) ≡ Packet (packet_fields (sender_of state) slot)
 
 -- the calls of an epoch that are not refused for a number that is no byte are given bytes
-meant-given : (cs : List SenderCall) → AllGiven (meant cs)
-meant-given [] = tt
-meant-given (OnTable c ∷ cs) = go (numbersFit (OnTable c)) (meant-given cs)
+meant_given : (cs : List SenderCall) → AllGiven (meant cs)
+meant_given [] = tt
+meant_given (OnTable c ∷ cs) = go (numbers_fit (OnTable c)) (meant_given cs)
   where
     go : (b : Bool) → AllGiven (meant cs) → AllGiven (if b then OnTable c ∷ meant cs else meant cs)
     go true rest = (tt, rest)
     go false rest = rest
-meant-given (StartEpoch gid mst ack ∷ cs) = go (are_bytes gid mst ack) refl (meant-given cs)
+meant_given (StartEpoch gid mst ack ∷ cs) = go (are_bytes gid mst ack) refl (meant_given cs)
   where
     go : (b : Bool) → are_bytes gid mst ack ≡ b → AllGiven (meant cs) → AllGiven (if b then StartEpoch gid mst ack ∷ meant cs else meant cs)
     go true e rest = (ltb-true mst 256 (and_right (gid <? 256) (mst <? 256) (and_left (gid <? 256 && mst <? 256) (ack <? 256) e)), rest)
@@ -59,12 +59,12 @@ record Same (s r : Sender) : Type 0 where
   kind : r.table.kind ≡ s.table.kind
   count : r.table.count ≡ s.table.count
 
-same_start : (s : Sender) (gid mst ack : ℕ) → Same s (startEpochOf s gid mst ack).sender
-unfolding startEpochOf startedSender
+same_start : (s : Sender) (gid mst ack : ℕ) → Same s (start_epoch_of s gid mst ack).sender
+unfolding start_epoch_of started_sender
 same_start s gid mst ack = go (gid <? 2 && ack <? 2)
   where
     started : SenderOutcome
-    started = record { sender = startedSender s gid mst ack; answer = Done }
+    started = record { sender = started_sender s gid mst ack; answer = Done }
 
     refused : SenderOutcome
     refused = record { sender = s; answer = Field }
@@ -73,15 +73,15 @@ same_start s gid mst ack = go (gid <? 2 && ack <? 2)
     go true = record { kind = refl; count = refl }
     go false = record { kind = refl; count = refl }
 
-same-run : (s : Sender) (cs : List SenderCall) → Same s (senderRun s cs)
-same-run s [] = record { kind = refl; count = refl }
-same-run s (OnTable c ∷ cs) =
-    let g = group-call s.table c in
-    let o = same-run (senderOutcomeOf s (OnTable c)).sender cs in
+same_run : (s : Sender) (cs : List SenderCall) → Same s (sender_run s cs)
+same_run s [] = record { kind = refl; count = refl }
+same_run s (OnTable c ∷ cs) =
+    let g = group_call s.table c in
+    let o = same_run (sender_outcome_of s (OnTable c)).sender cs in
     record { kind = o.kind ∙ g.kind; count = o.count ∙ g.count }
-same-run s (StartEpoch gid mst ack ∷ cs) =
+same_run s (StartEpoch gid mst ack ∷ cs) =
     let g = same_start s gid mst ack in
-    let o = same-run (senderOutcomeOf s (StartEpoch gid mst ack)).sender cs in
+    let o = same_run (sender_outcome_of s (StartEpoch gid mst ack)).sender cs in
     record { kind = o.kind ∙ g.kind; count = o.count ∙ g.count }
 
 -- what the last of three tests gives, where all hold
@@ -93,20 +93,20 @@ module _ {A : Type 0} (a b c : Bool) (ea : a ≡ true) (eb : b ≡ true) (ec : c
   three x y = rw (ea, eb, ec) refl
 
 -- a slot's packet, once it is answered 0
-module _ (s : Sender) (slot : ℕ) (bytes : List ℕ) (below : slot < slotCount s.table.count) (room : length bytes ≡ frames s.table.kind) (begun : s.begun ≡ true) where
-  sent-done : packetAnswer s slot bytes ≡ Done → sentAnswer s.table.kind (packetFields s slot) bytes ≡ W.Done
-  unfolding packetAnswer
-  sent-done e =
-      written-done (sentAnswer s.table.kind (packetFields s slot) bytes)
-      (third _ _ _ (lt-ltb slot (slotCount s.table.count) below) (eq-eqb (length bytes) (frames s.table.kind) room) begun _ _ _ _ Done e)
+module _ (s : Sender) (slot : ℕ) (bytes : List ℕ) (below : slot < slot_count s.table.count) (room : length bytes ≡ frames s.table.kind) (begun : s.begun ≡ true) where
+  sent_done : packet_answer s slot bytes ≡ Done → sent_answer s.table.kind (packet_fields s slot) bytes ≡ W.Done
+  unfolding packet_answer
+  sent_done e =
+      written_done (sent_answer s.table.kind (packet_fields s slot) bytes)
+      (third _ _ _ (lt-ltb slot (slot_count s.table.count) below) (eq-eqb (length bytes) (frames s.table.kind) room) begun _ _ _ _ Done e)
 
-  sent-bytes : packetBytes s slot bytes ≡ sentBytes s.table.kind (packetFields s slot) bytes
-  unfolding packetBytes
-  sent-bytes = three _ _ _ (lt-ltb slot (slotCount s.table.count) below) (eq-eqb (length bytes) (frames s.table.kind) room) begun _ bytes
+  sent_bytes_lem : packet_bytes s slot bytes ≡ sent_bytes s.table.kind (packet_fields s slot) bytes
+  unfolding packet_bytes
+  sent_bytes_lem = three _ _ _ (lt-ltb slot (slot_count s.table.count) below) (eq-eqb (length bytes) (frames s.table.kind) room) begun _ bytes
 
-module _ (kind count first : ℕ) (state : List ℕ) (done : startAnswerC kind count first state ≡ 0) where
+module _ (kind count first : ℕ) (state : List ℕ) (done : start_answer_c kind count first state ≡ 0) where
   abbrev after : List SenderCall → List ℕ
-  after calls = run_c (startStateC kind count first state) calls
+  after calls = run_c (start_state_c kind count first state) calls
 
   -- what a start that was done was asked for
   record Asked : Type 0 where
@@ -114,83 +114,83 @@ module _ (kind count first : ℕ) (state : List ℕ) (done : startAnswerC kind c
     epoch : first < epochs kind
 
   asked : Asked
-  unfolding startAnswerC
-  asked = go (outside count) (not (sends kind)) (isState state) (isEpoch kind first) refl refl done
+  unfolding start_answer_c
+  asked = go (outside count) (not (sends kind)) (is_state state) (is_epoch kind first) refl refl done
     where
-      go : (o n l f : Bool) → outside count ≡ o → isEpoch kind first ≡ f → ◌≡◌ {A = ℕ} (if o || n then 4 else if l then (if f then 0 else 8) else 9) 0 → Asked
+      go : (o n l f : Bool) → outside count ≡ o → is_epoch kind first ≡ f → ◌≡◌ {A = ℕ} (if o || n then 4 else if l then (if f then 0 else 8) else 9) 0 → Asked
       go true n l f eo ef e = absurd (omega arith)
       go false true l f eo ef e = absurd (omega arith)
       go false false false f eo ef e = absurd (omega arith)
       go false false true false eo ef e = absurd (omega arith)
       go false false true true eo ef e = record { inside = eo; epoch = ltb-true first (epochs kind) ef }
 
-  table-kind : (beginOf kind count first).sender.table.kind ≡ kind
-  unfolding beginOf freshSender
-  table-kind = start-kind kind count
+  table_kind : (begin_of kind count first).sender.table.kind ≡ kind
+  unfolding begin_of fresh_sender
+  table_kind = start_kind kind count
 
-  table-count : (beginOf kind count first).sender.table.count ≡ count
-  unfolding beginOf freshSender start_of fresh_of
-  table-count = rw asked.inside refl
+  table_count : (begin_of kind count first).sender.table.count ≡ count
+  unfolding begin_of fresh_sender start_of fresh_of
+  table_count = rw asked.inside refl
 
-  size_is : slotCount count ≡ count
+  size_is : slot_count count ≡ count
   size_is =
       let n = neither (count == 0) (64 <? count) asked.inside in
       let most : count ≤ 64 = ltb-false 64 count n.1 in
-      ⊎_elim (λ (l : 64 ≤ count). size-large count l ∙ (omega arith)) (λ (l : count < 64). size_small count l) (le-or-lt 64 count)
+      ⊎_elim (λ (l : 64 ≤ count). size_large count l ∙ (omega arith)) (λ (l : count < 64). size_small count l) (le_or_lt 64 count)
 
-  pub packets-written : (calls : List SenderCall) → (senderOf (after calls)).begun ≡ true → (slot : ℕ) → slot < count → (bytes : List ℕ) → length bytes ≡ frames kind → WrittenC kind (after calls) slot bytes
-  packets-written calls begun slot below bytes room =
-      record { answer = own.0 ∙ ap answerNumber answered; fields = w.fits; long = rw bytes-are w.long; told = λ x e. rw bytes-are (w.told x e); reads = rw bytes-are w.reads }
+  pub packets_written : (calls : List SenderCall) → (sender_of (after calls)).begun ≡ true → (slot : ℕ) → slot < count → (bytes : List ℕ) → length bytes ≡ frames kind → WrittenC kind (after calls) slot bytes
+  packets_written calls begun slot below bytes room =
+      record { answer = own.0 ∙ ap answer_number answered; fields = w.fits; long = rw bytes_are w.long; told = λ x e. rw bytes_are (w.told x e); reads = rw bytes_are w.reads }
     where
       s : Sender
-      s = senderOf (after calls)
+      s = sender_of (after calls)
 
       run : Sender
-      run = senderAfter kind count first (meant calls)
+      run = sender_after kind count first (meant calls)
 
       is : s ≡ run
       is = runs_own kind count first state calls done
 
-      same : Same (beginOf kind count first).sender run
-      same = same-run (beginOf kind count first).sender (meant calls)
+      same : Same (begin_of kind count first).sender run
+      same = same_run (begin_of kind count first).sender (meant calls)
 
-      run-kind : run.table.kind ≡ kind
-      run-kind = same.kind ∙ table-kind
+      run_kind : run.table.kind ≡ kind
+      run_kind = same.kind ∙ table_kind
 
-      run-size : slotCount run.table.count ≡ count
-      run-size = ap slotCount (same.count ∙ table-count) ∙ size_is
+      run_size : slot_count run.table.count ≡ count
+      run_size = ap slot_count (same.count ∙ table_count) ∙ size_is
 
-      kind-is : s.table.kind ≡ kind
-      kind-is = ap (λ (r : Sender). r.table.kind) is ∙ run-kind
+      kind_is : s.table.kind ≡ kind
+      kind_is = ap (λ (r : Sender). r.table.kind) is ∙ run_kind
 
-      size : slotCount s.table.count ≡ count
-      size = ap (λ (r : Sender). slotCount r.table.count) is ∙ run-size
+      size : slot_count s.table.count ≡ count
+      size = ap (λ (r : Sender). slot_count r.table.count) is ∙ run_size
 
-      begun-run : run.begun ≡ true
-      begun-run = sym (ap (λ (r : Sender). r.begun) is) ∙ begun
+      begun_run_lem : run.begun ≡ true
+      begun_run_lem = sym (ap (λ (r : Sender). r.begun) is) ∙ begun
 
-      below-run : slot < slotCount run.table.count
-      below-run = rw run-size below
+      below_run : slot < slot_count run.table.count
+      below_run = rw run_size below
 
-      own : (packetAnswerC (after calls) slot bytes ≡ answerNumber (packetAnswer s slot bytes)) × (packetBytesC (after calls) slot bytes ≡ packetBytes s slot bytes)
-      own = packet-own (after calls) slot bytes (runs-sized kind count first state calls done)
+      own : (packet_answer_c (after calls) slot bytes ≡ answer_number (packet_answer s slot bytes)) × (packet_bytes_c (after calls) slot bytes ≡ packet_bytes s slot bytes)
+      own = packet_own (after calls) slot bytes (runs_sized kind count first state calls done)
 
-      answered : packetAnswer s slot bytes ≡ Done
+      answered : packet_answer s slot bytes ≡ Done
       answered =
-          ap (λ (r : Sender). packetAnswer r slot bytes) is
-          ∙ packet-done kind count first (meant calls) asked.epoch (meant-given calls) begun-run slot below-run bytes (room ∙ ap frames (sym run-kind))
+          ap (λ (r : Sender). packet_answer r slot bytes) is
+          ∙ packet_done kind count first (meant calls) asked.epoch (meant_given calls) begun_run_lem slot below_run bytes (room ∙ ap frames (sym run_kind))
 
-      there : slot < slotCount s.table.count
+      there : slot < slot_count s.table.count
       there = rw size below
 
-      room-is : length bytes ≡ frames s.table.kind
-      room-is = room ∙ ap frames (sym kind-is)
+      room_is : length bytes ≡ frames s.table.kind
+      room_is = room ∙ ap frames (sym kind_is)
 
-      sent : sentAnswer kind (packetFields s slot) bytes ≡ W.Done
-      sent = ap (λ (k : ℕ). sentAnswer k (packetFields s slot) bytes) (sym kind-is) ∙ sent-done s slot bytes there room-is begun answered
+      sent : sent_answer kind (packet_fields s slot) bytes ≡ W.Done
+      sent = ap (λ (k : ℕ). sent_answer k (packet_fields s slot) bytes) (sym kind_is) ∙ sent_done s slot bytes there room_is begun answered
 
-      w : Sent kind (packetFields s slot) bytes
-      w = sent-as kind (packetFields s slot) bytes sent
+      w : Sent kind (packet_fields s slot) bytes
+      w = sent_as kind (packet_fields s slot) bytes sent
 
-      bytes-are : packetBytesC (after calls) slot bytes ≡ sentBytes kind (packetFields s slot) bytes
-      bytes-are = own.1 ∙ sent-bytes s slot bytes there room-is begun ∙ ap (λ (k : ℕ). sentBytes k (packetFields s slot) bytes) kind-is
+      bytes_are : packet_bytes_c (after calls) slot bytes ≡ sent_bytes kind (packet_fields s slot) bytes
+      bytes_are = own.1 ∙ sent_bytes_lem s slot bytes there room_is begun ∙ ap (λ (k : ℕ). sent_bytes k (packet_fields s slot) bytes) kind_is

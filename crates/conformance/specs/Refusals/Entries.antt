@@ -4,7 +4,7 @@ use Rattle.std.proofs.Common.{◌∙◌, sym, arith, ne_eqb}
 use Rattle.std.proofs.lemmas.Bool.{false≢true}
 use Prim.Native.String.{String}
 use Rattle.ground.specs.Plain.{if◌then◌else◌, ◌==◌}
-use Rattle.ground.specs.Truth.{cond-by}
+use Rattle.ground.specs.Truth.{cond_by}
 
 -- a number of 01, and the condition under which it is given or not given
 pub data Refusal : Type 0 where
@@ -39,14 +39,14 @@ stateful {S} rs answer lent left given returned empty =
     record { refusals = rs; answer = answer; lent = lent; left = left; State = S; given = given; returned = returned; empty = empty }
 
 -- 'state as given' is returned under every number but 0, 4, 10 and 12
-abbrev pub keepsState : ℕ → Bool
-keepsState n = not (n == 0 || n == 4 || n == 10 || n == 12)
+abbrev pub keeps_state : ℕ → Bool
+keeps_state n = not (n == 0 || n == 4 || n == 10 || n == 12)
 
 -- what 01 says under the number n: 'Lent bytes change only under 0', the state, and under 4 'an empty group'
 pub record Under (c : Call) (n : ℕ) : Type 0 where
   pub answers : c.answer ≡ n
   pub untouched : (n ≡ 0 → ⊥) → c.left ≡ c.lent
-  pub as-given : keepsState n ≡ true → c.returned ≡ c.given
+  pub as_given : keeps_state n ≡ true → c.returned ≡ c.given
   pub emptied : n ≡ 4 → c.returned ≡ c.empty
 
 abbrev pub Copes : Call → Type 0
@@ -81,13 +81,13 @@ choice false A B = B
 -- what is to be shown where the call is refused with n
 abbrev pub Refused : Call → ℕ → Type 0
 Refused c n =
-    (c.answer ≡ n) × (c.left ≡ c.lent) × choice (keepsState n) (c.returned ≡ c.given) (choice (n == 4) (c.returned ≡ c.empty) (Unit {0}))
+    (c.answer ≡ n) × (c.left ≡ c.lent) × choice (keeps_state n) (c.returned ≡ c.given) (choice (n == 4) (c.returned ≡ c.empty) (Unit {0}))
 
 pub refused : (c : Call) (n : ℕ) → Refused c n → Under c n
-refused c n r = record { answers = r.0; untouched = λ d. r.1; as-given = λ k. rw k at r.2; emptied = λ e. rw e at r.2 }
+refused c n r = record { answers = r.0; untouched = λ d. r.1; as_given = λ k. rw k at r.2; emptied = λ e. rw e at r.2 }
 
 pub done : (c : Call) → c.answer ≡ 0 → Under c 0
-done c e = record { answers = e; untouched = λ d. absurd (d refl); as-given = λ k. absurd (false≢true k); emptied = λ f. absurd (omega arith) }
+done c e = record { answers = e; untouched = λ d. absurd (d refl); as_given = λ k. absurd (false≢true k); emptied = λ f. absurd (omega arith) }
 
 abbrev pub Ladder : Call → List Refusal → Type 0
 Ladder c [] = c.answer ≡ 0
@@ -96,32 +96,32 @@ Ladder c (Unless n b ∷ rs) = (b ≡ true → Ladder c rs) × (b ≡ false → 
 
 descends : (c : Call) (rs : List Refusal) → Ladder c rs → Under c (first rs)
 descends c [] w = done c w
-descends c (If n b ∷ rs) w = cond-by (Under c) b n (first rs) (λ t. refused c n (w.0 t)) (λ f. descends c rs (w.1 f))
-descends c (Unless n b ∷ rs) w = cond-by (Under c) b (first rs) n (λ t. descends c rs (w.0 t)) (λ f. refused c n (w.1 f))
+descends c (If n b ∷ rs) w = cond_by (Under c) b n (first rs) (λ t. refused c n (w.0 t)) (λ f. descends c rs (w.1 f))
+descends c (Unless n b ∷ rs) w = cond_by (Under c) b (first rs) n (λ t. descends c rs (w.0 t)) (λ f. refused c n (w.1 f))
 
 pub copes : (c : Call) → Ladder c c.refusals → Copes c
 copes c w = descends c c.refusals w
 
 -- where nothing is lent and there is no state, the answer is all
-pub answers-alone : (rs : List Refusal) (n : ℕ) → n ≡ first rs → Copes (stateless rs n [] [])
-answers-alone rs n e = record { answers = e; untouched = λ d. refl; as-given = λ k. refl; emptied = λ f. refl }
+pub answers_alone : (rs : List Refusal) (n : ℕ) → n ≡ first rs → Copes (stateless rs n [] [])
+answers_alone rs n e = record { answers = e; untouched = λ d. refl; as_given = λ k. refl; emptied = λ f. refl }
 
 -- a call behind a test of its own: the number m unless it holds, then what the call behind it does with its lent slice
 pub behind : (m : ℕ) (b : Bool) (rs : List Refusal) (n : ℕ) (new old : List ℕ) → Copes (stateless rs n (old ∷ []) (new ∷ []))
     → Copes (stateless (Unless m b ∷ rs) (if b then n else m) (old ∷ []) ((if b then new else old) ∷ []))
-behind m true rs n new old c = record { answers = c.answers; untouched = c.untouched; as-given = c.as-given; emptied = c.emptied }
-behind m false rs n new old c = record { answers = refl; untouched = λ d. refl; as-given = λ k. refl; emptied = λ f. refl }
+behind m true rs n new old c = record { answers = c.answers; untouched = c.untouched; as_given = c.as_given; emptied = c.emptied }
+behind m false rs n new old c = record { answers = refl; untouched = λ d. refl; as_given = λ k. refl; emptied = λ f. refl }
 
 -- the same of a call with a state
 pub tested : {S : Type 0} (m : ℕ) (b : Bool) (rs : List Refusal) (n : ℕ) (new old : S) → Copes (stateful rs n [] [] old new old)
     → Copes (stateful (Unless m b ∷ rs) (if b then n else m) [] [] old (if b then new else old) old)
-tested m true rs n new old c = record { answers = c.answers; untouched = c.untouched; as-given = c.as-given; emptied = c.emptied }
-tested m false rs n new old c = record { answers = refl; untouched = λ d. refl; as-given = λ k. refl; emptied = λ f. refl }
+tested m true rs n new old c = record { answers = c.answers; untouched = c.untouched; as_given = c.as_given; emptied = c.emptied }
+tested m false rs n new old c = record { answers = refl; untouched = λ d. refl; as_given = λ k. refl; emptied = λ f. refl }
 
 -- a state that is put anew under 0 alone
-pub put-anew : (rs : List Refusal) (n : ℕ) (new old : List ℕ) → n ≡ first rs → Copes (stateful rs n [] [] old (if n == 0 then new else old) old)
-put-anew rs n new old e =
-    record { answers = e; untouched = λ d. refl; as-given = λ k. stays (λ z. false≢true (rw (sym e ∙ z) at k)); emptied = λ f. stays (λ z. omega arith) }
+pub put_anew : (rs : List Refusal) (n : ℕ) (new old : List ℕ) → n ≡ first rs → Copes (stateful rs n [] [] old (if n == 0 then new else old) old)
+put_anew rs n new old e =
+    record { answers = e; untouched = λ d. refl; as_given = λ k. stays (λ z. false≢true (rw (sym e ∙ z) at k)); emptied = λ f. stays (λ z. omega arith) }
   where
     stays : (n ≡ 0 → ⊥) → (if n == 0 then new else old) ≡ old
     stays d = rw (ne_eqb n 0 d)

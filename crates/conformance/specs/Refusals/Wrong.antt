@@ -16,24 +16,24 @@ spoils n = stateful {S = ℕ} (If n true ∷ []) n [] [] 0 1 1
 
 pub spoiled : Each (λ n. Copes (spoils n) → ⊥) (1 ∷ 2 ∷ 3 ∷ 5 ∷ 6 ∷ 7 ∷ 8 ∷ 9 ∷ 11 ∷ 13 ∷ 14 ∷ 15 ∷ [])
 spoiled = (
-  λ c. apart (c.as-given refl),
+  λ c. apart (c.as_given refl),
   (
-    λ c. apart (c.as-given refl),
+    λ c. apart (c.as_given refl),
     (
-      λ c. apart (c.as-given refl),
+      λ c. apart (c.as_given refl),
       (
-        λ c. apart (c.as-given refl),
+        λ c. apart (c.as_given refl),
         (
-          λ c. apart (c.as-given refl),
+          λ c. apart (c.as_given refl),
           (
-            λ c. apart (c.as-given refl),
+            λ c. apart (c.as_given refl),
             (
-              λ c. apart (c.as-given refl),
+              λ c. apart (c.as_given refl),
               (
-                λ c. apart (c.as-given refl),
+                λ c. apart (c.as_given refl),
                 (
-                  λ c. apart (c.as-given refl),
-                  (λ c. apart (c.as-given refl), (λ c. apart (c.as-given refl), (λ c. apart (c.as-given refl), tt))),
+                  λ c. apart (c.as_given refl),
+                  (λ c. apart (c.as_given refl), (λ c. apart (c.as_given refl), (λ c. apart (c.as_given refl), tt))),
                 ),
               ),
             ),
@@ -76,5 +76,5 @@ ignored c = let e = c.answers in omega arith
 abbrev pub refuses : Call
 refuses = stateless (If 9 false ∷ []) 9 [] []
 
-pub refusedAll : Copes refuses → ⊥
-refusedAll c = let e = c.answers in omega arith
+pub refused_all : Copes refuses → ⊥
+refused_all c = let e = c.answers in omega arith

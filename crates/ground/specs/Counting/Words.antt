@@ -18,9 +18,9 @@ count zero f = 0
 count (suc n) f = count n f + (if f n then 1 else 0)
 
 -- the last number below n at which the test f holds, 0 where it holds at none
-abbrev pub lastThat : ℕ → (ℕ → Bool) → ℕ
-lastThat zero f = 0
-lastThat (suc n) f = if f n then n else lastThat n f
+abbrev pub last_that : ℕ → (ℕ → Bool) → ℕ
+last_that zero f = 0
+last_that (suc n) f = if f n then n else last_that n f
 
 -- the greatest m of a number below n at which the test f holds, 0 where it holds at none
 abbrev pub greatest : (n : ℕ) (f : ℕ → Bool) (m : ℕ → ℕ) → ℕ

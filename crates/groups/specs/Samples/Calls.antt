@@ -4,13 +4,13 @@ use Rattle.std.proofs.Common.{◌∙◌, sym, ap, ⊎_elim, arith, le-ltb, ne_eq
 use Rattle.std.proofs.Math.ListN.{get_or-eq_default}
 use Rattle.ground.specs.Finite.{below, below_at}
 use Rattle.ground.specs.Plain.{if◌then◌else◌, ◌==◌, ◌<?◌}
-use Rattle.ground.specs.Truth.{le-or-lt}
+use Rattle.ground.specs.Truth.{le_or_lt}
 use Rattle.cards.specs.Calls.Call.{AddSlot, Claim, Lapse, Release, RemoveSlot, Report, StartEpoch}
 use Rattle.cards.specs.Shown.{by}
 use Rattle.cards.specs.Views.{Made}
 use Rattle.cards.specs.Views.Asked.{Board}
 use Rattle.groups.specs.Cards.{CardHistory}
-use Rattle.groups.specs.Projected.{Starts, is_move, isStart}
+use Rattle.groups.specs.Projected.{Starts, is_move, is_start}
 
 abbrev pub rounds : List (List Made)
 rounds =
@@ -59,9 +59,9 @@ not_so : (b : Bool) → not b ≡ true → b ≡ false
 not_so true e = sym e
 not_so false e = refl
 
-each-call : (f : Made → Bool) → f quiet ≡ false → below 9 (λ j. below 8 (λ k. not (f (get_or (get_or rounds j []) k quiet)))) ≡ true
+each_call : (f : Made → Bool) → f quiet ≡ false → below 9 (λ j. below 8 (λ k. not (f (get_or (get_or rounds j []) k quiet)))) ≡ true
     → (j k : ℕ) → k < 8 → f (get_or (get_or rounds j []) k quiet) ≡ false
-each-call f q t j k b = ⊎_elim late early (le-or-lt 9 j)
+each_call f q t j k b = ⊎_elim late early (le_or_lt 9 j)
   where
     late : 9 ≤ j → f (get_or (get_or rounds j []) k quiet) ≡ false
     late l = ap (λ (row : List Made). f (get_or row k quiet)) (get_or-eq_default rounds [] l) ∙ q
@@ -72,19 +72,19 @@ each-call f q t j k b = ⊎_elim late early (le-or-lt 9 j)
         (below_at 8 (λ i. not (f (get_or (get_or rounds j []) i quiet))) (below_at 9 (λ i. below 8 (λ m. not (f (get_or (get_or rounds i []) m quiet)))) t j l) k b)
 
 -- from the call numbered 72 on nothing is done but to start epochs
-pub made-late : (n : ℕ) → 72 ≤ n → made n ≡ (if n % 8 == 6 then start₀ else if n % 8 == 7 then start₁ else quiet)
-made-late n h =
+pub made_late : (n : ℕ) → 72 ≤ n → made n ≡ (if n % 8 == 6 then start₀ else if n % 8 == 7 then start₁ else quiet)
+made_late n h =
     let late : 9 ≤ n / 8 = omega arith in
     ap (λ (row : List Made). if n % 8 == 6 then start₀ else if n % 8 == 7 then start₁ else get_or row (n % 8) quiet) (get_or-eq_default rounds [] late)
 
 -- the starts of each group's epochs are at their places, and nowhere else
 
-pub placed-last : (n : ℕ) → n % 8 ≢ 6 → isStart 0 (made n) ≡ false
-placed-last n d =
-    ap (λ (b : Bool). isStart 0 (if b then start₀ else if n % 8 == 7 then start₁ else get_or (get_or rounds (n / 8) []) (n % 8) quiet)) (ne_eqb (n % 8) 6 d)
-    ∙ go (n % 8 == 7) (get_or (get_or rounds (n / 8) []) (n % 8) quiet) (each-call (isStart 0) refl refl (n / 8) (n % 8) (omega arith))
+pub placed_last : (n : ℕ) → n % 8 ≢ 6 → is_start 0 (made n) ≡ false
+placed_last n d =
+    ap (λ (b : Bool). is_start 0 (if b then start₀ else if n % 8 == 7 then start₁ else get_or (get_or rounds (n / 8) []) (n % 8) quiet)) (ne_eqb (n % 8) 6 d)
+    ∙ go (n % 8 == 7) (get_or (get_or rounds (n / 8) []) (n % 8) quiet) (each_call (is_start 0) refl refl (n / 8) (n % 8) (omega arith))
   where
-    go : (b : Bool) (m : Made) → isStart 0 m ≡ false → isStart 0 (if b then start₁ else m) ≡ false
+    go : (b : Bool) (m : Made) → is_start 0 m ≡ false → is_start 0 (if b then start₁ else m) ≡ false
     go true m e = refl
     go false m e = e
 
@@ -96,20 +96,20 @@ starts₀ =
       mst = λ i. 255;
       ack = λ i. 0;
       is = λ i. (let e : (i * 8 + 6) % 8 ≡ 6 = omega arith in ap (placed ((i * 8 + 6) / 8)) e);
-      gid-bit = λ i. omega arith;
-      mst-byte = λ i. omega arith;
-      ack-bit = λ i. omega arith;
+      gid_bit = λ i. omega arith;
+      mst_byte = λ i. omega arith;
+      ack_bit = λ i. omega arith;
       rising = λ i. omega arith;
-      none_before = λ n h. placed-last n (λ e. omega arith);
-      none_between = λ i n h l. placed-last n (λ e. omega arith);
+      none_before = λ n h. placed_last n (λ e. omega arith);
+      none_between = λ i n h l. placed_last n (λ e. omega arith);
     }
 
-pub placed-very-last : (n : ℕ) → n % 8 ≢ 7 → isStart 1 (made n) ≡ false
-placed-very-last n d =
-    ap (λ (b : Bool). isStart 1 (if n % 8 == 6 then start₀ else if b then start₁ else get_or (get_or rounds (n / 8) []) (n % 8) quiet)) (ne_eqb (n % 8) 7 d)
-    ∙ go (n % 8 == 6) (get_or (get_or rounds (n / 8) []) (n % 8) quiet) (each-call (isStart 1) refl refl (n / 8) (n % 8) (omega arith))
+pub placed_very_last : (n : ℕ) → n % 8 ≢ 7 → is_start 1 (made n) ≡ false
+placed_very_last n d =
+    ap (λ (b : Bool). is_start 1 (if n % 8 == 6 then start₀ else if b then start₁ else get_or (get_or rounds (n / 8) []) (n % 8) quiet)) (ne_eqb (n % 8) 7 d)
+    ∙ go (n % 8 == 6) (get_or (get_or rounds (n / 8) []) (n % 8) quiet) (each_call (is_start 1) refl refl (n / 8) (n % 8) (omega arith))
   where
-    go : (b : Bool) (m : Made) → isStart 1 m ≡ false → isStart 1 (if b then start₀ else m) ≡ false
+    go : (b : Bool) (m : Made) → is_start 1 m ≡ false → is_start 1 (if b then start₀ else m) ≡ false
     go true m e = refl
     go false m e = e
 
@@ -121,25 +121,25 @@ starts₁ =
       mst = λ i. 255;
       ack = λ i. 1;
       is = λ i. (let e : (i * 8 + 7) % 8 ≡ 7 = omega arith in ap (placed ((i * 8 + 7) / 8)) e);
-      gid-bit = λ i. omega arith;
-      mst-byte = λ i. omega arith;
-      ack-bit = λ i. omega arith;
+      gid_bit = λ i. omega arith;
+      mst_byte = λ i. omega arith;
+      ack_bit = λ i. omega arith;
       rising = λ i. omega arith;
-      none_before = λ n h. placed-very-last n (λ e. omega arith);
-      none_between = λ i n h l. placed-very-last n (λ e. omega arith);
+      none_before = λ n h. placed_very_last n (λ e. omega arith);
+      none_between = λ i n h l. placed_very_last n (λ e. omega arith);
     }
 
 -- after slot 2 is released group 0 makes no claim and no release, and after its claim group 1 makes none
 
 module _ (g from : ℕ) (early : below 72 (λ n. n <? from || not (is_move g (made n))) ≡ true) (late : (a b : Bool) → is_move g (if a then start₀ else if b then start₁ else quiet) ≡ false) where
-  no-moves : (n : ℕ) → from ≤ n → is_move g (made n) ≡ false
-  no-moves n h =
-      ⊎_elim (λ (l : 72 ≤ n). ap (is_move g) (made-late n l) ∙ late (n % 8 == 6) (n % 8 == 7))
+  no_moves : (n : ℕ) → from ≤ n → is_move g (made n) ≡ false
+  no_moves n h =
+      ⊎_elim (λ (l : 72 ≤ n). ap (is_move g) (made_late n l) ∙ late (n % 8 == 6) (n % 8 == 7))
       (λ (l : n < 72). not_so (is_move g (made n)) (sym (ap (λ (b : Bool). b || not (is_move g (made n))) (le-ltb n from h)) ∙ below_at 72 (λ i. i <? from || not (is_move g (made i))) early n l))
-      (le-or-lt 72 n)
+      (le_or_lt 72 n)
 
 pub still₀ : (n : ℕ) → 34 ≤ n → is_move 0 (made n) ≡ false
-still₀ = no-moves 0 34 refl go
+still₀ = no_moves 0 34 refl go
   where
     go : (a b : Bool) → is_move 0 (if a then start₀ else if b then start₁ else quiet) ≡ false
     go true b = refl
@@ -147,7 +147,7 @@ still₀ = no-moves 0 34 refl go
     go false false = refl
 
 pub still₁ : (n : ℕ) → 35 ≤ n → is_move 1 (made n) ≡ false
-still₁ = no-moves 1 35 refl go
+still₁ = no_moves 1 35 refl go
   where
     go : (a b : Bool) → is_move 1 (if a then start₀ else if b then start₁ else quiet) ≡ false
     go true b = refl

@@ -2,17 +2,17 @@
 use Rattle.std.specs.Prelude.{List, [], ◌∷◌, ℕ, ◌+◌, ◌-◌, ◌*◌, ◌%◌}
 use Rattle.ground.specs.Plain.{if◌then◌else◌, ◌==◌}
 use Rattle.ground.specs.Table.{tabulate}
-use Rattle.link.specs.History.{History, packetSent, sendingOf, xAt}
+use Rattle.link.specs.History.{History, packet_sent, sending_of, x_at}
 use Rattle.link.specs.Link.{Link}
 use Rattle.link.specs.Samples.Members.{lent, output, unranked}
-use Rattle.link.specs.Sending.{Client, epochAt}
+use Rattle.link.specs.Sending.{Client, epoch_at}
 use Rattle.groups.specs.Samples.Histories.{history₀, history₁}
 
 abbrev pub client₀ : Client
-client₀ x = tabulate (xAt history₀ (epochAt 0 x) * 1) (λ j. (x * 2 + j) % 256)
+client₀ x = tabulate (x_at history₀ (epoch_at 0 x) * 1) (λ j. (x * 2 + j) % 256)
 
 abbrev pub client₁ : Client
-client₁ x = tabulate (xAt history₁ (epochAt 0 x) * 1) (λ j. (x * 3 + j + 100) % 256)
+client₁ x = tabulate (x_at history₁ (epoch_at 0 x) * 1) (λ j. (x * 3 + j + 100) % 256)
 
 -- slot 1 reaches port 0 of group 0's receiver, and slot 0 its port 1
 abbrev pub pairing₀ : ℕ → ℕ
@@ -35,13 +35,13 @@ order t = if t % 2 == 0 then 0 ∷ 1 ∷ [] else 1 ∷ 0 ∷ []
 abbrev pub link_of : (history : History) (client : Client) (pairing first : ℕ → ℕ) → Link
 link_of history client pairing first =
     record {
-      sending = sendingOf history 1 client unranked;
+      sending = sending_of history 1 client unranked;
       ports = 2;
       payload = 1;
       window = 20;
       client = client;
       pairing = pairing;
-      came = λ i p. packetSent history i (pairing p);
+      came = λ i p. packet_sent history i (pairing p);
       delay = λ p. if p == 0 then 4 else 0;
       first = first;
       order = order;

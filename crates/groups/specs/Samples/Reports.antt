@@ -4,7 +4,7 @@ use Rattle.ground.specs.Table.{tabulate}
 use Rattle.link.specs.Link.{expected}
 use Rattle.link.specs.Samples.Computing.{outcome}
 use Rattle.link.specs.Samples.Reports.{sure}
-use Rattle.link.specs.Samples.Tracing.{course, outcome-by}
+use Rattle.link.specs.Samples.Tracing.{course, outcome_by_lem}
 use Rattle.link.specs.Told.{Told}
 use Rattle.groups.specs.Samples.Links.{link₀, link₁}
 
@@ -17,7 +17,7 @@ reports₀ =
 
 run₀ : outcome link₀ 164 ≡ record { begun = 1; told = reports₀; strange = [] }
 unfolding outcome course
-run₀ = outcome-by link₀ 164 _ refl
+run₀ = outcome_by_lem link₀ 164 _ refl
 
 -- group 1: two members, slot 2 among them, in epochs numbered from 250 on
 abbrev reports₁ : List Told
@@ -28,9 +28,9 @@ reports₁ =
 
 run₁ : outcome link₁ 164 ≡ record { begun = 1; told = reports₁; strange = [] }
 unfolding outcome course
-run₁ = outcome-by link₁ 164 _ refl
+run₁ = outcome_by_lem link₁ 164 _ refl
 
 -- the reports that demand 3 says are to come
-as-expected : (tabulate 2 (λ j. expected link₀ (7 + j) (link₀.output j)) ≡ reports₀) × (tabulate 2 (λ j. expected link₁ (7 + j) (link₁.output j)) ≡ reports₁)
+as_expected : (tabulate 2 (λ j. expected link₀ (7 + j) (link₀.output j)) ≡ reports₀) × (tabulate 2 (λ j. expected link₁ (7 + j) (link₁.output j)) ≡ reports₁)
 unfolding outcome
-as-expected = (refl, refl)
+as_expected = (refl, refl)

@@ -6,8 +6,8 @@ use Rattle.cards.specs.Calls.Call.{AddSlot, Claim, Lapse, Release, RemoveSlot, R
 use Rattle.cards.specs.declared.card.Card.{Card}
 use Rattle.cards.specs.Shown.{after, by}
 use Rattle.cards.specs.Views.Asked.{Board, Do, Outgoing, Owned, Packet, Payload, Ranks}
-use Rattle.groups.specs.Cards.{CardHistory, cardAt}
-use Rattle.groups.specs.Projected.{Starts, begins, is_move, isStart, madeFrom, reaching, tableCall, tableCalls}
+use Rattle.groups.specs.Cards.{CardHistory, card_at}
+use Rattle.groups.specs.Projected.{Starts, begins, is_move, is_start, made_from, reaching, table_call, table_calls}
 use Rattle.groups.specs.Samples.Calls.{card}
 use Rattle.groups.specs.Samples.Histories.{computed}
 
@@ -29,10 +29,10 @@ starting :
     × (begins Outgoing ≡ false)
     × (begins Ranks ≡ false)
     × (begins Owned ≡ false)
-    × (isStart 1 (by 1 (StartEpoch 1 0 0)) ≡ true)
-    × (isStart 0 (by 1 (StartEpoch 1 0 0)) ≡ false)
-    × (isStart 1 (by 0 (StartEpoch 1 0 0)) ≡ false)
-    × (isStart 1 (by 1 Lapse) ≡ false)
+    × (is_start 1 (by 1 (StartEpoch 1 0 0)) ≡ true)
+    × (is_start 0 (by 1 (StartEpoch 1 0 0)) ≡ false)
+    × (is_start 1 (by 0 (StartEpoch 1 0 0)) ≡ false)
+    × (is_start 1 (by 1 Lapse) ≡ false)
 starting = (refl, refl, refl, refl, refl, refl, refl, refl, refl, refl, refl, refl, refl, refl, refl, refl, refl, refl, refl, refl)
 
 -- claims and releases of the group itself move its slots
@@ -59,47 +59,47 @@ abbrev claimed : Card
 claimed = after 4 (by 0 (Claim 3) ∷ [])
 
 -- what a command is answered 1 or 14 for reaches no table, nor does another group's; a report and a lapse do in any case, with their numbers
-reaching-tables :
-    (tableCall claimed 0 (Do (AddSlot 3)) ≡ T.AddSlot 3 ∷ [])
-    × (tableCall claimed 0 (Do (RemoveSlot 3)) ≡ T.RemoveSlot 3 ∷ [])
-    × (tableCall claimed 0 (Do (AddSlot 0)) ≡ [])
-    × (tableCall claimed 0 (Do (RemoveSlot 4)) ≡ [])
-    × (tableCall claimed 1 (Do (AddSlot 3)) ≡ [])
-    × (tableCall claimed 0 (Do (Report 3 4 1)) ≡ T.Report 3 4 1 ∷ [])
-    × (tableCall claimed 0 (Do Lapse) ≡ T.Lapse ∷ [])
-    × (tableCall claimed 0 (Do (Claim 3)) ≡ [])
-    × (tableCall claimed 0 (Do (Release 3)) ≡ [])
-    × (tableCall claimed 0 (Do (StartEpoch 0 0 0)) ≡ [])
-    × (tableCall claimed 0 Board ≡ [])
+reaching_tables :
+    (table_call claimed 0 (Do (AddSlot 3)) ≡ T.AddSlot 3 ∷ [])
+    × (table_call claimed 0 (Do (RemoveSlot 3)) ≡ T.RemoveSlot 3 ∷ [])
+    × (table_call claimed 0 (Do (AddSlot 0)) ≡ [])
+    × (table_call claimed 0 (Do (RemoveSlot 4)) ≡ [])
+    × (table_call claimed 1 (Do (AddSlot 3)) ≡ [])
+    × (table_call claimed 0 (Do (Report 3 4 1)) ≡ T.Report 3 4 1 ∷ [])
+    × (table_call claimed 0 (Do Lapse) ≡ T.Lapse ∷ [])
+    × (table_call claimed 0 (Do (Claim 3)) ≡ [])
+    × (table_call claimed 0 (Do (Release 3)) ≡ [])
+    × (table_call claimed 0 (Do (StartEpoch 0 0 0)) ≡ [])
+    × (table_call claimed 0 Board ≡ [])
     × (reaching 0 claimed (by 1 Lapse) ≡ [])
     × (reaching 1 claimed (by 0 Lapse) ≡ [])
     × (reaching 1 claimed (by 1 Lapse) ≡ T.Lapse ∷ [])
-    × (tableCalls 0 (after 2 []) (by 0 (AddSlot 1) ∷ by 0 (Claim 1) ∷ by 0 (AddSlot 1) ∷ by 1 Lapse ∷ by 0 (Report 5 6 0) ∷ []) ≡ T.AddSlot 1 ∷ T.Report 5 6 0 ∷ [])
-    × (madeFrom card 3 5 ≡ by 0 (Claim 2) ∷ by 1 (Claim 2) ∷ [])
+    × (table_calls 0 (after 2 []) (by 0 (AddSlot 1) ∷ by 0 (Claim 1) ∷ by 0 (AddSlot 1) ∷ by 1 Lapse ∷ by 0 (Report 5 6 0) ∷ []) ≡ T.AddSlot 1 ∷ T.Report 5 6 0 ∷ [])
+    × (made_from card 3 5 ≡ by 0 (Claim 2) ∷ by 1 (Claim 2) ∷ [])
 unfolding computed
-reaching-tables = (refl, refl, refl, refl, refl, refl, refl, refl, refl, refl, refl, refl, refl, refl, refl, refl)
+reaching_tables = (refl, refl, refl, refl, refl, refl, refl, refl, refl, refl, refl, refl, refl, refl, refl, refl)
 
 -- A card on which every call starts an epoch of group 0: what is lent to the starts may be any bits and any byte.
 abbrev busy : CardHistory
 busy = record { kind = 0; slots = 1; first = λ g. g + 7; made = λ n. by 0 (StartEpoch (n % 2) (n % 256) ((n + 1) % 2)) }
 
-any-numbers : Starts busy 0
-any-numbers =
+any_numbers : Starts busy 0
+any_numbers =
     record {
       at = λ i. i;
       gid = λ i. i % 2;
       mst = λ i. i % 256;
       ack = λ i. (i + 1) % 2;
       is = λ i. refl;
-      gid-bit = λ i. omega arith;
-      mst-byte = λ i. omega arith;
-      ack-bit = λ i. omega arith;
+      gid_bit = λ i. omega arith;
+      mst_byte = λ i. omega arith;
+      ack_bit = λ i. omega arith;
       rising = λ i. omega arith;
       none_before = λ n h. absurd (omega arith);
       none_between = λ i n h l. absurd (omega arith);
     }
 
 -- each group begins with its own first epoch, and the first call has started one of group 0
-firsts : ((cardAt busy 0).first.epoch ≡ 7) × ((cardAt busy 0).second.epoch ≡ 8) × ((cardAt busy 1).first.begun ≡ true) × ((cardAt busy 1).second.begun ≡ false)
+firsts : ((card_at busy 0).first.epoch ≡ 7) × ((card_at busy 0).second.epoch ≡ 8) × ((card_at busy 1).first.begun ≡ true) × ((card_at busy 1).second.begun ≡ false)
 unfolding computed
 firsts = (refl, refl, refl, refl)

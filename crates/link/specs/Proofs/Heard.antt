@@ -7,165 +7,165 @@ use mathlib.Core.List.{List, []}
 use Prim.Native.Nat.{ℕ, suc, ◌+◌, ◌-◌, ◌/◌, ◌≤◌, ◌<◌}
 use Rattle.packet.specs.declared.ruling.Ruling.{Ruling}
 use borrow.Author.Tests.{eq-eqb}
-use Rattle.ground.specs.Counting.Laws.Tests.{none-at, some_at, some-none, some_one}
+use Rattle.ground.specs.Counting.Laws.Tests.{none_at, some_at, some_none, some_one}
 use Rattle.ground.specs.Counting.Words.{some}
-use Rattle.ground.specs.Finite.{same_bytes}
-use Rattle.ground.specs.Table.{length-tabulate}
+use Rattle.ground.specs.Finite.{same_bytes_lem}
+use Rattle.ground.specs.Table.{length_tabulate}
 use Rattle.ground.specs.Truth.{clash}
-use Rattle.packet.specs.Symbols.{packetRow}
-use Rattle.packet.specs.Theorems.Tags.{epoch-before}
+use Rattle.packet.specs.Symbols.{packet_row}
+use Rattle.packet.specs.Theorems.Tags.{epoch_before}
 use Rattle.receiver.specs.declared.seeing.Carried.{Carried}
-use Rattle.receiver.specs.Heard.{goodAt, heardAnswer, heardFit, heardOf, heardOut, lowest, saidAt, saidBy, silence}
-use Rattle.receiver.specs.Laws.Heard.{lowest-holds}
-use Rattle.receiver.specs.Lengths.{rowsFit}
-use Rattle.receiver.specs.Report.{rulingEpoch, seenOf}
-use Rattle.receiver.specs.Seen.{carriedAt, carriedBy}
+use Rattle.receiver.specs.Heard.{good_at, heard_answer, heard_fit, heard_of, heard_out, lowest, said_at, said_by, silence}
+use Rattle.receiver.specs.Laws.Heard.{lowest_holds}
+use Rattle.receiver.specs.Lengths.{rows_fit}
+use Rattle.receiver.specs.Report.{ruling_epoch, seen_of}
+use Rattle.receiver.specs.Seen.{carried_at, carried_by}
 use Rattle.rows.specs.declared.group.Group.{Group}
-use Rattle.rows.specs.Group.{groupAt}
-use Rattle.rows.specs.Rows.{rowsFor}
-use Rattle.step.specs.Carried.{readingIn}
-use Rattle.step.specs.OwnCount.{ownRuling}
-use Rattle.link.specs.Demand3.{Reported, Started, Time, ownRun, standing}
-use Rattle.link.specs.Heard.{Hears, SaysBack, carriedIn, expectedHeard, someAsSent}
-use Rattle.link.specs.Link.{AssumedOver, Damaged, Link, epochFrames, expected, kind_of, roadOf, sameBytes, sentTo}
+use Rattle.rows.specs.Group.{group_at}
+use Rattle.rows.specs.Rows.{rows_for}
+use Rattle.step.specs.Carried.{reading_in}
+use Rattle.step.specs.OwnCount.{own_ruling}
+use Rattle.link.specs.Demand3.{Reported, Started, Time, own_run, standing}
+use Rattle.link.specs.Heard.{Hears, SaysBack, carried_in, expected_heard, some_as_sent}
+use Rattle.link.specs.Link.{AssumedOver, Damaged, Link, epoch_frames, expected, kind_of, road_of, same_bytes, sent_to}
 use Rattle.link.specs.Moments.{coming}
-use Rattle.link.specs.Proofs.Alike.{one-beginning}
-use Rattle.link.specs.Proofs.Contents.{number_of, packetOf, reportAfter}
+use Rattle.link.specs.Proofs.Alike.{one_beginning}
+use Rattle.link.specs.Proofs.Contents.{number_of, packet_of, report_after}
 use Rattle.link.specs.Proofs.Fair.{Fair}
 use Rattle.link.specs.Proofs.Judged.Fairness.{fair}
 use Rattle.link.specs.Proofs.Judged.Reports.{same_self}
-use Rattle.link.specs.Proofs.Judged.Seen.{number-of, packet-of}
+use Rattle.link.specs.Proofs.Judged.Seen.{number_of_lem, packet_of_lem}
 use Rattle.link.specs.Proofs.Over.{from_start}
 use Rattle.link.specs.Proofs.Standing.{Later}
-use Rattle.link.specs.Proofs.Transport.Call.{ports-are}
-use Rattle.link.specs.Proofs.Transport.EachCall.{calls-do}
+use Rattle.link.specs.Proofs.Transport.Call.{ports_are}
+use Rattle.link.specs.Proofs.Transport.EachCall.{calls_do}
 use Rattle.link.specs.Proofs.Transport.Times.{Phase, phase}
 use Rattle.link.specs.Proofs.Transport.Times.Phase.{before, first, later}
 use Rattle.link.specs.Road.{Road}
 use Rattle.link.specs.Running.{Moment}
-use Rattle.link.specs.Sending.{epochNumber}
+use Rattle.link.specs.Sending.{epoch_number}
 
-said_same : (e d m n a b : ℕ) → e ≡ d → m ≡ n → a ≡ b → saidBy e m a ≡ saidBy d n b
+said_same : (e d m n a b : ℕ) → e ≡ d → m ≡ n → a ≡ b → said_by e m a ≡ said_by d n b
 said_same e d m n a b p q r = rw (p, q, r) refl
 
 -- On a road: the packets that rule are those that came in epoch i.
 module _ (r : Road) (f : Fair r) (m : Moment) (coming : ℕ → ℕ) (j i : ℕ) (o : Later r m coming j i) where
   abbrev g : Group
-  g = groupAt m.rows
+  g = group_at m.rows
 
-  ruled-by : rulingEpoch g ≡ number_of r i
-  unfolding rulingEpoch number_of
-  ruled-by = rw (o.open_at.lined.kind-is, o.open_at.oldest) (epoch-before r.kind r.offset i f.starts)
+  ruled_by_lem : ruling_epoch g ≡ number_of r i
+  unfolding ruling_epoch number_of
+  ruled_by_lem = rw (o.open_at.lined.kind_is, o.open_at.oldest) (epoch_before r.kind r.offset i f.starts)
 
-  whole-now : (p : ℕ) → p < r.ports → (seenOf g m.rows p).whole ≡ true
-  unfolding seenOf
-  whole-now p b = rw (o.whole p b) refl
+  whole_now : (p : ℕ) → p < r.ports → (seen_of g m.rows p).whole ≡ true
+  unfolding seen_of
+  whole_now p b = rw (o.whole p b) refl
 
-  good-now : (p : ℕ) → p < r.ports → (seenOf g m.rows p).good ≡ (ownRuling r.kind (number_of r i) (packetOf r i p)).good
-  unfolding seenOf
-  good-now p b = rw (ruled-by, o.open_at.lined.kind-is, o.ruling p b) refl
+  good_now : (p : ℕ) → p < r.ports → (seen_of g m.rows p).good ≡ (own_ruling r.kind (number_of r i) (packet_of r i p)).good
+  unfolding seen_of
+  good_now p b = rw (ruled_by_lem, o.open_at.lined.kind_is, o.ruling p b) refl
 
 -- Over a link.
-module _ (k : Link) (a : AssumedOver k) (mst ack : ℕ → ℕ) (says : SaysBack k.sending mst ack) (m : Moment) (coming : ℕ → ℕ) (j i : ℕ) (o : Later (roadOf k) m coming j i) where
+module _ (k : Link) (a : AssumedOver k) (mst ack : ℕ → ℕ) (says : SaysBack k.sending mst ack) (m : Moment) (coming : ℕ → ℕ) (j i : ℕ) (o : Later (road_of k) m coming j i) where
   abbrev h : Group
-  h = groupAt m.rows
+  h = group_at m.rows
 
   abbrev epoch : ℕ
-  epoch = epochNumber (kind_of k) k.sending.first i
+  epoch = epoch_number (kind_of k) k.sending.first i
 
-  good-as : (p : ℕ) → p < k.ports → goodAt h m.rows p ≡ (ownRuling (kind_of k) epoch (packetRow (kind_of k) (k.came i p))).good
-  unfolding roadOf
-  good-as p b =
-      rw (whole-now (roadOf k) (fair k a) m coming j i o p b)
-      (good-now (roadOf k) (fair k a) m coming j i o p b ∙ ap₂ (λ (e : ℕ) (row : List ℕ). (ownRuling (kind_of k) e row).good) (number-of k i) (packet-of k i p))
+  good_as : (p : ℕ) → p < k.ports → good_at h m.rows p ≡ (own_ruling (kind_of k) epoch (packet_row (kind_of k) (k.came i p))).good
+  unfolding road_of
+  good_as p b =
+      rw (whole_now (road_of k) (fair k a) m coming j i o p b)
+      (good_now (road_of k) (fair k a) m coming j i o p b ∙ ap₂ (λ (e : ℕ) (row : List ℕ). (own_ruling (kind_of k) e row).good) (number_of_lem k i) (packet_of_lem k i p))
 
-  good-sent : (p : ℕ) → p < k.ports → k.came i p ≡ sentTo k i p → goodAt h m.rows p ≡ true
-  good-sent p b e =
-      good-as p b
-      ∙ ap (λ (l : List ℕ). (ownRuling (kind_of k) epoch (packetRow (kind_of k) l)).good) e
+  good_sent : (p : ℕ) → p < k.ports → k.came i p ≡ sent_to k i p → good_at h m.rows p ≡ true
+  good_sent p b e =
+      good_as p b
+      ∙ ap (λ (l : List ℕ). (own_ruling (kind_of k) epoch (packet_row (kind_of k) l)).good) e
       ∙ ap (λ (q : Ruling). q.good) (a.lawful.reads i (k.pairing p) (a.paired.below p b))
 
-  good-damaged : (p : ℕ) → p < k.ports → Damaged (kind_of k) k.sending.changes (sentTo k i p) (k.came i p) → goodAt h m.rows p ≡ false
-  good-damaged p b d = good-as p b ∙ a.lawful.refused i (k.pairing p) (k.came i p) (a.paired.below p b) d.least d.most
+  good_damaged : (p : ℕ) → p < k.ports → Damaged (kind_of k) k.sending.changes (sent_to k i p) (k.came i p) → good_at h m.rows p ≡ false
+  good_damaged p b d = good_as p b ∙ a.lawful.refused i (k.pairing p) (k.came i p) (a.paired.below p b) d.least d.most
 
-  carried-now : (p : ℕ) → p < k.ports → k.came i p ≡ sentTo k i p → carriedAt h m.rows p ≡ carriedIn (kind_of k) (sentTo k i p)
-  unfolding carriedAt roadOf
-  carried-now p b e =
-      ap₂ (λ (kind : ℕ) (row : List ℕ). carriedBy (readingIn kind row)) o.open_at.lined.kind-is (o.ruling p b ∙ packet-of k i p ∙ ap (packetRow (kind_of k)) e)
+  carried_now : (p : ℕ) → p < k.ports → k.came i p ≡ sent_to k i p → carried_at h m.rows p ≡ carried_in (kind_of k) (sent_to k i p)
+  unfolding carried_at road_of
+  carried_now p b e =
+      ap₂ (λ (kind : ℕ) (row : List ℕ). carried_by (reading_in kind row)) o.open_at.lined.kind_is (o.ruling p b ∙ packet_of_lem k i p ∙ ap (packet_row (kind_of k)) e)
 
-  said-sent : (p : ℕ) → p < k.ports → k.came i p ≡ sentTo k i p → saidAt h m.rows p ≡ saidBy epoch (mst i) (ack i)
-  unfolding saidAt
-  said-sent p b e =
+  said_sent : (p : ℕ) → p < k.ports → k.came i p ≡ sent_to k i p → said_at h m.rows p ≡ said_by epoch (mst i) (ack i)
+  unfolding said_at
+  said_sent p b e =
       let slot : k.pairing p < k.sending.slots = a.paired.below p b in
-      ap (λ (c : Carried). saidBy c.epoch c.mst c.rs_ack) (carried-now p b e)
+      ap (λ (c : Carried). said_by c.epoch c.mst c.rs_ack) (carried_now p b e)
       ∙ said_same _ epoch _ (mst i) _ (ack i) (says.numbered i (k.pairing p) slot) (says.states i (k.pairing p) slot) (says.turns i (k.pairing p) slot)
 
   -- a good packet came as sent
-  sent-good : (p : ℕ) → p < k.ports → goodAt h m.rows p ≡ true → k.came i p ≡ sentTo k i p
-  sent-good p b t =
-      ⊎_elim (λ (e : k.came i p ≡ sentTo k i p). e)
-      (λ (d : Damaged (kind_of k) k.sending.changes (sentTo k i p) (k.came i p)). absurd (clash (goodAt h m.rows p) t (good-damaged p b d)))
+  sent_good : (p : ℕ) → p < k.ports → good_at h m.rows p ≡ true → k.came i p ≡ sent_to k i p
+  sent_good p b t =
+      ⊎_elim (λ (e : k.came i p ≡ sent_to k i p). e)
+      (λ (d : Damaged (kind_of k) k.sending.changes (sent_to k i p) (k.came i p)). absurd (clash (good_at h m.rows p) t (good_damaged p b d)))
       (a.lines.arrived i p b)
 
-  heard-is : heardOf h m.rows k.ports ≡ expectedHeard k mst ack i
-  unfolding expectedHeard someAsSent heardOf
-  heard-is = go (some k.ports asSent) refl
+  heard_is : heard_of h m.rows k.ports ≡ expected_heard k mst ack i
+  unfolding expected_heard some_as_sent heard_of
+  heard_is = go (some k.ports as_sent) refl
     where
-      asSent : ℕ → Bool
-      asSent p = sameBytes (k.came i p) (sentTo k i p)
+      as_sent : ℕ → Bool
+      as_sent p = same_bytes (k.came i p) (sent_to k i p)
 
-      go : (b : Bool) → some k.ports asSent ≡ b
-          → cond (some k.ports (goodAt h m.rows)) (saidAt h m.rows (lowest k.ports (goodAt h m.rows))) silence ≡ cond b (saidBy epoch (mst i) (ack i)) silence
+      go : (b : Bool) → some k.ports as_sent ≡ b
+          → cond (some k.ports (good_at h m.rows)) (said_at h m.rows (lowest k.ports (good_at h m.rows))) silence ≡ cond b (said_by epoch (mst i) (ack i)) silence
       go true e =
-          let q = some_one k.ports asSent e in
-          let t : some k.ports (goodAt h m.rows) ≡ true =
-          some_at k.ports (goodAt h m.rows) q.at q.below (good-sent q.at q.below (same_bytes (k.came i q.at) (sentTo k i q.at) q.holds)) in
-          let l = lowest-holds k.ports (goodAt h m.rows) t in
-          rw t (said-sent (lowest k.ports (goodAt h m.rows)) l.below (sent-good (lowest k.ports (goodAt h m.rows)) l.below l.holds))
-      go false e = rw (some-none k.ports (goodAt h m.rows) none) refl
+          let q = some_one k.ports as_sent e in
+          let t : some k.ports (good_at h m.rows) ≡ true =
+          some_at k.ports (good_at h m.rows) q.at q.below (good_sent q.at q.below (same_bytes_lem (k.came i q.at) (sent_to k i q.at) q.holds)) in
+          let l = lowest_holds k.ports (good_at h m.rows) t in
+          rw t (said_sent (lowest k.ports (good_at h m.rows)) l.below (sent_good (lowest k.ports (good_at h m.rows)) l.below l.holds))
+      go false e = rw (some_none k.ports (good_at h m.rows) none) refl
         where
-          none : (p : ℕ) → p < k.ports → goodAt h m.rows p ≡ false
+          none : (p : ℕ) → p < k.ports → good_at h m.rows p ≡ false
           none p b =
               ⊎_elim
-              (λ (w : k.came i p ≡ sentTo k i p). absurd (clash (asSent p) (rw w (same_self (sentTo k i p))) (none-at k.ports asSent e p b)))
-              (λ (d : Damaged (kind_of k) k.sending.changes (sentTo k i p) (k.came i p)). good-damaged p b d)
+              (λ (w : k.came i p ≡ sent_to k i p). absurd (clash (as_sent p) (rw w (same_self (sent_to k i p))) (none_at k.ports as_sent e p b)))
+              (λ (d : Damaged (kind_of k) k.sending.changes (sent_to k i p) (k.came i p)). good_damaged p b d)
               (a.lines.arrived i p b)
 
-  fits : (out : List ℕ) → length out ≡ 4 → heardFit k.ports (length m.rows) (length out) ≡ true
-  unfolding heardFit rowsFit roadOf
-  fits out e = rw (eq-eqb (length m.rows) (rowsFor k.ports) o.open_at.lined.rows_long, eq-eqb (length out) 4 e, or-true (eqb k.ports 0)) refl
+  fits : (out : List ℕ) → length out ≡ 4 → heard_fit k.ports (length m.rows) (length out) ≡ true
+  unfolding heard_fit rows_fit road_of
+  fits out e = rw (eq-eqb (length m.rows) (rows_for k.ports) o.open_at.lined.rows_long, eq-eqb (length out) 4 e, or-true (eqb k.ports 0)) refl
 
-  pub hears-now : Hears m (expectedHeard k mst ack i)
-  unfolding heardAnswer heardOut roadOf
-  hears-now =
+  pub hears_now : Hears m (expected_heard k mst ack i)
+  unfolding heard_answer heard_out road_of
+  hears_now =
       record {
-        answer = λ out e. rw (ports-are (roadOf k) (fair k a) m o.open_at.lined, fits out e) refl;
-        bytes = λ out e. rw (ports-are (roadOf k) (fair k a) m o.open_at.lined, fits out e) heard-is;
+        answer = λ out e. rw (ports_are (road_of k) (fair k a) m o.open_at.lined, fits out e) refl;
+        bytes = λ out e. rw (ports_are (road_of k) (fair k a) m o.open_at.lined, fits out e) heard_is;
       }
 
 -- At every moment at which a report has been made.
-pub heard-over : (k : Link) → AssumedOver k → (mst ack : ℕ → ℕ) → SaysBack k.sending mst ack → (m₀ : Moment) → Started k m₀ → (at : Time k) (o : Reported k (ownRun k m₀) at) → 0 < o.many
-    → Hears (standing k (ownRun k m₀) at) (expectedHeard k mst ack (suc (o.F / epochFrames k) + o.many))
-unfolding roadOf
-heard-over k a mst ack says m₀ s at o some = go (phase (roadOf k) m₀ (fair k a) (calls-do (roadOf k) (fair k a)) (from_start k a m₀ s) at.t at.done at.rest at.is-order)
+pub heard_over : (k : Link) → AssumedOver k → (mst ack : ℕ → ℕ) → SaysBack k.sending mst ack → (m₀ : Moment) → Started k m₀ → (at : Time k) (o : Reported k (own_run k m₀) at) → 0 < o.many
+    → Hears (standing k (own_run k m₀) at) (expected_heard k mst ack (suc (o.F / epoch_frames k) + o.many))
+unfolding road_of
+heard_over k a mst ack says m₀ s at o some = go (phase (road_of k) m₀ (fair k a) (calls_do (road_of k) (fair k a)) (from_start k a m₀ s) at.t at.done at.rest at.is_order)
   where
     m : Moment
-    m = standing k (ownRun k m₀) at
+    m = standing k (own_run k m₀) at
 
-    count-is : length m.told ≡ o.many
-    count-is = ap length o.are ∙ length-tabulate o.many (λ j. expected k (suc (o.F / epochFrames k) + j) (k.output j))
+    count_is : length m.told ≡ o.many
+    count_is = ap length o.are ∙ length_tabulate o.many (λ j. expected k (suc (o.F / epoch_frames k) + j) (k.output j))
 
     none : m.told ≡ [] → ⊥
-    none e = let z : length m.told ≡ 0 = ap length e in let c = count-is in omega arith
+    none e = let z : length m.told ≡ 0 = ap length e in let c = count_is in omega arith
 
-    go : Phase (roadOf k) m₀ at.t at.done (standing k (ownRun k m₀) at) (coming (roadOf k) at.t at.rest) → Hears m (expectedHeard k mst ack (suc (o.F / epochFrames k) + o.many))
+    go : Phase (road_of k) m₀ at.t at.done (standing k (own_run k m₀) at) (coming (road_of k) at.t at.rest) → Hears m (expected_heard k mst ack (suc (o.F / epoch_frames k) + o.many))
     go (before b un) = absurd (none b.told)
     go (first F b since c) = absurd (none c.told)
     go (later F i b since c w) =
-        let same : F ≡ o.F = one-beginning k (ownRun k m₀) F o.F b o.beginning in
-        let many : length m.told ≡ i - suc (F / epochFrames k) = ap length c.told ∙ length-tabulate (i - suc (F / epochFrames k)) (λ j. reportAfter (roadOf k) (suc (F / epochFrames k) + j) (k.output j)) in
-        let here : i ≡ suc (o.F / epochFrames k) + o.many = last (F / epochFrames k) (o.F / epochFrames k) i (ap (λ (n : ℕ). n / epochFrames k) same) c.come many in
-        subst (λ (n : ℕ). Hears m (expectedHeard k mst ack n)) here (hears-now k a mst ack says m (coming (roadOf k) at.t at.rest) (suc (F / epochFrames k)) i c)
+        let same : F ≡ o.F = one_beginning k (own_run k m₀) F o.F b o.beginning in
+        let many : length m.told ≡ i - suc (F / epoch_frames k) = ap length c.told ∙ length_tabulate (i - suc (F / epoch_frames k)) (λ j. report_after (road_of k) (suc (F / epoch_frames k) + j) (k.output j)) in
+        let here : i ≡ suc (o.F / epoch_frames k) + o.many = last (F / epoch_frames k) (o.F / epoch_frames k) i (ap (λ (n : ℕ). n / epoch_frames k) same) c.come many in
+        subst (λ (n : ℕ). Hears m (expected_heard k mst ack n)) here (hears_now k a mst ack says m (coming (road_of k) at.t at.rest) (suc (F / epoch_frames k)) i c)
       where
         last : (e d i : ℕ) → e ≡ d → suc e ≤ i → length m.told ≡ i - suc e → i ≡ suc d + o.many
-        last e d i q l n = let c = count-is in omega arith
+        last e d i q l n = let c = count_is in omega arith

@@ -1,27 +1,27 @@
 -- What the runs of a link come to. Everything that they are made of is opened here, for the checker to compute.
 use Rattle.std.specs.Prelude.{refl, ◌||◌, List, [], ◌∷◌, ℕ, ◌+◌, ◌*◌, replicate}
 use Rattle.ground.specs.Plain.{if◌then◌else◌, ◌==◌}
-use Rattle.receiver.specs.Starting.{timesWithin}
-use Rattle.rows.specs.Group.{groupAt}
-use Rattle.rows.specs.Rows.{rowsFor}
+use Rattle.receiver.specs.Starting.{times_within}
+use Rattle.rows.specs.Group.{group_at}
+use Rattle.rows.specs.Rows.{rows_for}
 use Rattle.link.specs.Demand3.{Times}
-use Rattle.link.specs.Link.{Link, roadOf}
+use Rattle.link.specs.Link.{Link, road_of}
 use Rattle.link.specs.Running.{Moment, fresh, through}
 use Rattle.link.specs.Told.{Told}
-use Rattle.link.specs.Opened.{linkOpen}
+use Rattle.link.specs.Opened.{link_open}
 
 -- started over rows and a store that hold anything but zeros
 abbrev pub started : Link → Moment
-started k = fresh (roadOf k) [] [] (replicate (rowsFor k.ports) (replicate 16 0xFF)) (replicate (k.ports * k.window * (k.payload + 1)) 0xFF)
+started k = fresh (road_of k) [] [] (replicate (rows_for k.ports) (replicate 16 0xFF)) (replicate (k.ports * k.window * (k.payload + 1)) 0xFF)
 
 -- no times, and some
-pub no-times : (ports : ℕ) → Times [] ports
-unfolding timesWithin
-no-times ports = record { within = refl; fits = refl }
+pub no_times : (ports : ℕ) → Times [] ports
+unfolding times_within
+no_times ports = record { within = refl; fits = refl }
 
-pub some-times : Times (0 ∷ 5000 ∷ []) 2
-unfolding timesWithin
-some-times = record { within = refl; fits = refl }
+pub some_times : Times (0 ∷ 5000 ∷ []) 2
+unfolding times_within
+some_times = record { within = refl; fits = refl }
 
 -- of some answers those that are neither 0 nor 12
 abbrev pub strange : List ℕ → List ℕ
@@ -34,10 +34,10 @@ pub record Outcome : Type 0 where
   pub told : List Told
   pub strange : List ℕ
 
-abbrev pub outcomeOf : Moment → Outcome
-outcomeOf m = record { begun = (groupAt m.rows).begun; told = m.told; strange = strange m.answers }
+abbrev pub outcome_of : Moment → Outcome
+outcome_of m = record { begun = (group_at m.rows).begun; told = m.told; strange = strange m.answers }
 
 -- after all frame times before t
 unfoldable pub outcome : Link → ℕ → Outcome
-unfolding linkOpen
-outcome k t = outcomeOf (through (roadOf k) t (started k))
+unfolding link_open
+outcome k t = outcome_of (through (road_of k) t (started k))

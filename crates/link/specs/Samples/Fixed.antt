@@ -5,16 +5,16 @@ use Rattle.std.proofs.lemmas.List.{length-replicate}
 use Rattle.ground.specs.Table.{tabulate}
 use Rattle.ground.specs.Types.{Epoch}
 use Rattle.judge.specs.Verdict.{SURE}
-use Rattle.packet.specs.Kinds.{epochs, frames, payloadRight, tags}
-use Rattle.phases.specs.Sizes.{knownKind, sized, startSized}
+use Rattle.packet.specs.Kinds.{epochs, frames, payload_right, tags}
+use Rattle.phases.specs.Sizes.{known_kind, sized, start_sized}
 use Rattle.link.specs.Demand3.{Demand3}
-use Rattle.link.specs.FixedGroup.{AssumedFixed, FixedGroup, Numbered, fixedSent, sendingFixed}
+use Rattle.link.specs.FixedGroup.{AssumedFixed, FixedGroup, Numbered, fixed_sent, sending_fixed}
 use Rattle.link.specs.Link.{Link, expected}
 use Rattle.link.specs.Road.{times}
 use Rattle.link.specs.Samples.Computing.{outcome}
-use Rattle.link.specs.Samples.Tracing.{course, outcome-by}
+use Rattle.link.specs.Samples.Tracing.{course, outcome_by_lem}
 use Rattle.link.specs.Sending.{Client}
-use Rattle.link.specs.Theorems.{demand3-fixed}
+use Rattle.link.specs.Theorems.{demand3_fixed}
 use Rattle.link.specs.Told.{Told}
 
 abbrev group : FixedGroup
@@ -32,13 +32,13 @@ output = replicate 48 0xEE
 abbrev link : Link
 link =
     record {
-      sending = sendingFixed group 1 client;
+      sending = sending_fixed group 1 client;
       ports = 3;
       payload = 1;
       window = 20;
       client = client;
       pairing = λ p. 2 - p;
-      came = λ i p. fixedSent group i (2 - p);
+      came = λ i p. fixed_sent group i (2 - p);
       delay = λ p. 4 - p * 2;
       first = λ p. p * 5;
       order = λ t. 0 ∷ 1 ∷ 2 ∷ [];
@@ -57,7 +57,7 @@ once (suc (suc zero)) h = refl
 once (suc (suc (suc p))) h = absurd (omega arith)
 
 met : AssumedFixed link
-unfolding knownKind sized frames tags payloadRight startSized
+unfolding known_kind sized frames tags payload_right start_sized
 met =
     record {
       group = group;
@@ -72,19 +72,19 @@ met =
         once = λ t p h. once p h;
         only = λ t. (omega arith, (omega arith, (omega arith, tt)));
         arrived = λ i p h. inl refl;
-        spared = λ t p done rest h is-order come un brings. refl;
+        spared = λ t p done rest h is_order come un brings. refl;
         room = λ j. omega (arith, length-replicate {A = ℕ} 48 0xEE);
         eight = λ a j. refl;
       };
     }
 
 -- 'not looked at in reading': what the neighbour puts there is sent, here from 6 on and, behind the word, from 1 on
-unread-sent : fixedSent group 1 1 ≡ 0x68 ∷ 0x79 ∷ 0x8A ∷ 0x9B ∷ 0xAC ∷ 0xBD ∷ 0x0E ∷ 0x0F ∷ 0xF0 ∷ 0xA1 ∷ 0x02 ∷ 0x13 ∷ 0x24 ∷ 0x35 ∷ 0x46 ∷ 0x57 ∷ []
+unread_sent : fixed_sent group 1 1 ≡ 0x68 ∷ 0x79 ∷ 0x8A ∷ 0x9B ∷ 0xAC ∷ 0xBD ∷ 0x0E ∷ 0x0F ∷ 0xF0 ∷ 0xA1 ∷ 0x02 ∷ 0x13 ∷ 0x24 ∷ 0x35 ∷ 0x46 ∷ 0x57 ∷ []
 unfolding outcome
-unread-sent = refl
+unread_sent = refl
 
 pub demanded : Demand3 link
-demanded = demand3-fixed link met
+demanded = demand3_fixed link met
 
 -- a sure report with 48 bytes, each one more than the one before
 abbrev sure : Epoch → ℕ → Told
@@ -93,9 +93,9 @@ sure e from = record { epoch = e; mark = SURE; bytes = tabulate 48 (λ b. (from 
 -- The epochs 254, 255 and 0 come out in the order of the numbers. No frame is answered otherwise than by 0 or 12.
 run : outcome link 132 ≡ record { begun = 1; told = sure 254 240 ∷ sure 255 32 ∷ sure 0 80 ∷ []; strange = [] }
 unfolding outcome course
-run = outcome-by link 132 _ refl
+run = outcome_by_lem link 132 _ refl
 
 -- the reports that demand 3 says are to come
-as-expected : tabulate 3 (λ j. expected link (4 + j) (link.output j)) ≡ sure 254 240 ∷ sure 255 32 ∷ sure 0 80 ∷ []
+as_expected : tabulate 3 (λ j. expected link (4 + j) (link.output j)) ≡ sure 254 240 ∷ sure 255 32 ∷ sure 0 80 ∷ []
 unfolding outcome
-as-expected = refl
+as_expected = refl

@@ -4,9 +4,9 @@ use Rattle.ground.specs.Plain.{if◌then◌else◌, ◌==◌}
 use Rattle.ground.specs.Table.{tabulate}
 use Rattle.sender.specs.Calls.{Call}
 use Rattle.sender.specs.Calls.Call.{AddSlot, Lapse, RemoveSlot, Report}
-use Rattle.link.specs.History.{History, packetSent, sendingOf, xAt}
+use Rattle.link.specs.History.{History, packet_sent, sending_of, x_at}
 use Rattle.link.specs.Link.{Link}
-use Rattle.link.specs.Sending.{Client, epochAt}
+use Rattle.link.specs.Sending.{Client, epoch_at}
 
 -- the commands and reports before each epoch's start
 abbrev pub calls : List (List Call)
@@ -36,7 +36,7 @@ history = record { kind = 0; slots = 2; first = 249; before = λ i. get_or calls
 
 -- P is 1: X bytes to a group frame
 abbrev pub client : Client
-client x = tabulate (xAt history (epochAt history.kind x) * 1) (λ j. (x * 2 + j) % 256)
+client x = tabulate (x_at history (epoch_at history.kind x) * 1) (λ j. (x * 2 + j) % 256)
 
 -- what a slot carries that has no rank
 abbrev pub unranked : ℕ → ℕ → List ℕ
@@ -47,7 +47,7 @@ abbrev pub pairing : ℕ → ℕ
 pairing p = 1 - p
 
 abbrev pub sent : ℕ → ℕ → List ℕ
-sent i p = packetSent history i (pairing p)
+sent i p = packet_sent history i (pairing p)
 
 -- Of the packet EOS 1 of the eighth epoch three bits came otherwise: it says NORM 0, and a reserved bit is set.
 abbrev pub damaged : List ℕ
@@ -64,10 +64,10 @@ abbrev pub lent : List ℕ
 lent = replicate 8 0xAA
 
 -- A client's group frames, and the packets as they came. Port 0 is late by some frames, and comes first in the frame times that are named.
-abbrev pub link_of : (came : ℕ → ℕ → List ℕ) (client : Client) (late : ℕ) (lateFirst : ℕ → Bool) → Link
-link_of came client late lateFirst =
+abbrev pub link_of : (came : ℕ → ℕ → List ℕ) (client : Client) (late : ℕ) (late_first : ℕ → Bool) → Link
+link_of came client late late_first =
     record {
-      sending = sendingOf history 1 client unranked;
+      sending = sending_of history 1 client unranked;
       ports = 2;
       payload = 1;
       window = 20;
@@ -76,17 +76,17 @@ link_of came client late lateFirst =
       came = came;
       delay = λ p. if p == 0 then late else 0;
       first = λ p. if p == 0 then 3 else 21;
-      order = λ t. if lateFirst t then 0 ∷ 1 ∷ [] else 1 ∷ 0 ∷ [];
+      order = λ t. if late_first t then 0 ∷ 1 ∷ [] else 1 ∷ 0 ∷ [];
       output = λ j. output;
       lent = λ a j. lent;
     }
 
-abbrev pub linkBy : (client : Client) (late : ℕ) (lateFirst : ℕ → Bool) → Link
-linkBy client late lateFirst = link_of came client late lateFirst
+abbrev pub link_by : (client : Client) (late : ℕ) (late_first : ℕ → Bool) → Link
+link_by client late late_first = link_of came client late late_first
 
-abbrev pub linkWith : ℕ → (ℕ → Bool) → Link
-linkWith late lateFirst = linkBy client late lateFirst
+abbrev pub link_with : ℕ → (ℕ → Bool) → Link
+link_with late late_first = link_by client late late_first
 
 -- W is 20, so port 0 is as late as demand 3 lets it be.
 abbrev pub link : Link
-link = linkWith 4 (λ t. t % 2 == 0)
+link = link_with 4 (λ t. t % 2 == 0)

@@ -8,7 +8,7 @@ use Rattle.link.specs.Link.{expected}
 use Rattle.link.specs.Told.{Told}
 use Rattle.link.specs.Samples.Computing.{outcome}
 use Rattle.link.specs.Samples.Members.{link, output}
-use Rattle.link.specs.Samples.Tracing.{Course, begun-by, course, outcome-by}
+use Rattle.link.specs.Samples.Tracing.{Course, begun_by, course, outcome_by_lem}
 
 abbrev pub sure : Epoch → Bytes → Told
 sure e bytes = record { epoch = e; mark = SURE; bytes = bytes; rest = drop (length bytes) output }
@@ -17,8 +17,8 @@ abbrev pub held : Epoch → Told
 held e = record { epoch = e; mark = HELD; bytes = []; rest = output }
 
 -- six reports, of which the second is given
-abbrev pub reportsWith : Told → List Told
-reportsWith second =
+abbrev pub reports_with : Told → List Told
+reports_with second =
     sure 254 (160 ∷ 162 ∷ 164 ∷ 166 ∷ 168 ∷ 170 ∷ 172 ∷ 174 ∷ 176 ∷ 178 ∷ 180 ∷ 182 ∷ 184 ∷ 186 ∷ 188 ∷ 190 ∷ [])
     ∷ second
     ∷ sure 0 (224 ∷ 226 ∷ 228 ∷ 230 ∷ 232 ∷ 234 ∷ 236 ∷ 238 ∷ 240 ∷ 242 ∷ 244 ∷ 246 ∷ 248 ∷ 250 ∷ 252 ∷ 254 ∷ [])
@@ -28,7 +28,7 @@ reportsWith second =
     ∷ []
 
 unfoldable pub reports : List Told
-reports = reportsWith (sure 255 (192 ∷ 193 ∷ 194 ∷ 195 ∷ 196 ∷ 197 ∷ 198 ∷ 199 ∷ 200 ∷ 201 ∷ 202 ∷ 203 ∷ 204 ∷ 205 ∷ 206 ∷ 207 ∷ 208 ∷ 209 ∷ 210 ∷ 211 ∷ 212 ∷ 213 ∷ 214 ∷ 215 ∷ 216 ∷ 217 ∷ 218 ∷ 219 ∷ 220 ∷ 221 ∷ 222 ∷ 223 ∷ []))
+reports = reports_with (sure 255 (192 ∷ 193 ∷ 194 ∷ 195 ∷ 196 ∷ 197 ∷ 198 ∷ 199 ∷ 200 ∷ 201 ∷ 202 ∷ 203 ∷ 204 ∷ 205 ∷ 206 ∷ 207 ∷ 208 ∷ 209 ∷ 210 ∷ 211 ∷ 212 ∷ 213 ∷ 214 ∷ 215 ∷ 216 ∷ 217 ∷ 218 ∷ 219 ∷ 220 ∷ 221 ∷ 222 ∷ 223 ∷ []))
 
 -- The run, computed once: its outcome after frame time 179, and before which frame times receiving had begun, the last one first.
 whole : course link 180 ≡ record { outcome = record { begun = 1; told = reports; strange = [] }; begun = replicate 125 1 ++ replicate 56 0 }
@@ -38,15 +38,15 @@ whole = refl
 -- The last port's first frame comes in frame time 21. Receiving begins in frame time 55, at the 35th frame from that one.
 begins : ((outcome link 55).begun ≡ 0) × ((outcome link 56).begun ≡ 1)
 begins = (
-  begun-by link 180 55 0 (omega arith) (ap (λ (c : Course). get_or c.begun 125 0) whole),
-  begun-by link 180 56 1 (omega arith) (ap (λ (c : Course). get_or c.begun 124 0) whole),
+  begun_by link 180 55 0 (omega arith) (ap (λ (c : Course). get_or c.begun 125 0) whole),
+  begun_by link 180 56 1 (omega arith) (ap (λ (c : Course). get_or c.begun 124 0) whole),
 )
 
 -- One member, two, one that has failed left out, two again, one held, and one after the removal. The output beyond their bytes is as it was lent, and where one is held all of it. No frame is answered otherwise than by 0 or 12.
 pub run : outcome link 180 ≡ record { begun = 1; told = reports; strange = [] }
-run = outcome-by link 180 _ (ap (λ (c : Course). c.outcome) whole)
+run = outcome_by_lem link 180 _ (ap (λ (c : Course). c.outcome) whole)
 
 -- the reports that demand 3 says are to come
-pub as-expected : tabulate 6 (λ j. expected link (4 + j) (link.output j)) ≡ reports
+pub as_expected : tabulate 6 (λ j. expected link (4 + j) (link.output j)) ≡ reports
 unfolding outcome reports
-as-expected = refl
+as_expected = refl

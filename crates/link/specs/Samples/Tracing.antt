@@ -7,19 +7,19 @@ use mathlib.Core.List.{List, [], ◌∷◌}
 use Prim.Native.Nat.{ℕ, zero, suc, ◌+◌, ◌-◌, ◌≤◌}
 use native.Mathlib.Omega.{arith}
 use Rattle.ground.specs.Plain.{if◌then◌else◌, ◌==◌, ◌≤?◌}
-use Rattle.ground.specs.Truth.{eq-or-ne}
-use Rattle.link.specs.Link.{Link, roadOf}
+use Rattle.ground.specs.Truth.{eq_or_ne}
+use Rattle.link.specs.Link.{Link, road_of}
 use Rattle.link.specs.Road.{Road}
-use Rattle.link.specs.Running.{Moment, drained, fetched, framed, hasBegun, recordAt, through, turn, turns}
-use Rattle.link.specs.Samples.Computing.{Outcome, outcome, outcomeOf, started}
+use Rattle.link.specs.Running.{Moment, drained, fetched, framed, has_begun, record_at, through, turn, turns}
+use Rattle.link.specs.Samples.Computing.{Outcome, outcome, outcome_of, started}
 
 first_by : (b : Bool) (m x y : Moment) → x ≡ y → (if b then m else x) ≡ elim b [ true ↦ m | false ↦ y ]
 first_by true m x y e = refl
 first_by false m x y e = e
 
-second-by : (b : Bool) (m x y : Moment) → x ≡ y → (if b then x else m) ≡ elim b [ true ↦ y | false ↦ m ]
-second-by true m x y e = e
-second-by false m x y e = refl
+second_by : (b : Bool) (m x y : Moment) → x ≡ y → (if b then x else m) ≡ elim b [ true ↦ y | false ↦ m ]
+second_by true m x y e = e
+second_by false m x y e = refl
 
 -- a moment, and whether receiving had begun then and before each frame time up to it, the last one first
 pub record Trace : Type 0 where
@@ -27,50 +27,50 @@ pub record Trace : Type 0 where
   pub begun : List ℕ
 
 module _ (r : Road) where
-  unfoldable pub drainedBy : ℕ → Moment → Moment
-  drainedBy zero m = m
-  drainedBy (suc k) m = elim (get_or (recordAt r m) 0 0 == 0) [ true ↦ m | false ↦ drainedBy k (fetched r m) ]
+  unfoldable pub drained_by : ℕ → Moment → Moment
+  drained_by zero m = m
+  drained_by (suc k) m = elim (get_or (record_at r m) 0 0 == 0) [ true ↦ m | false ↦ drained_by k (fetched r m) ]
 
-  drained-by : (k : ℕ) (m : Moment) → drained r k m ≡ drainedBy k m
-  unfolding drained drainedBy
-  drained-by zero m = refl
-  drained-by (suc k) m = first_by (get_or (recordAt r m) 0 0 == 0) m (drained r k (fetched r m)) (drainedBy k (fetched r m)) (drained-by k (fetched r m))
+  drained_by_lem : (k : ℕ) (m : Moment) → drained r k m ≡ drained_by k m
+  unfolding drained drained_by
+  drained_by_lem zero m = refl
+  drained_by_lem (suc k) m = first_by (get_or (record_at r m) 0 0 == 0) m (drained r k (fetched r m)) (drained_by k (fetched r m)) (drained_by_lem k (fetched r m))
 
-  unfoldable pub turnBy : (t port : ℕ) (m : Moment) → Moment
-  turnBy t p m = elim (r.delay p + r.first p ≤? t) [ true ↦ drainedBy r.window (framed r p (t - r.delay p) m) | false ↦ m ]
+  unfoldable pub turn_by : (t port : ℕ) (m : Moment) → Moment
+  turn_by t p m = elim (r.delay p + r.first p ≤? t) [ true ↦ drained_by r.window (framed r p (t - r.delay p) m) | false ↦ m ]
 
-  turn_by : (t p : ℕ) (m : Moment) → turn r t p m ≡ turnBy t p m
-  unfolding turn turnBy
-  turn_by t p m =
-      second-by (r.delay p + r.first p ≤? t) m (drained r r.window (framed r p (t - r.delay p) m)) (drainedBy r.window (framed r p (t - r.delay p) m))
-      (drained-by r.window (framed r p (t - r.delay p) m))
+  turn_by_lem : (t p : ℕ) (m : Moment) → turn r t p m ≡ turn_by t p m
+  unfolding turn turn_by
+  turn_by_lem t p m =
+      second_by (r.delay p + r.first p ≤? t) m (drained r r.window (framed r p (t - r.delay p) m)) (drained_by r.window (framed r p (t - r.delay p) m))
+      (drained_by_lem r.window (framed r p (t - r.delay p) m))
 
-  unfoldable pub turnsBy : (t : ℕ) (ports : List ℕ) (m : Moment) → Moment
-  turnsBy t [] m = m
-  turnsBy t (p ∷ ps) m = turnsBy t ps (turnBy t p m)
+  unfoldable pub turns_by : (t : ℕ) (ports : List ℕ) (m : Moment) → Moment
+  turns_by t [] m = m
+  turns_by t (p ∷ ps) m = turns_by t ps (turn_by t p m)
 
-  pub turns-by : (t : ℕ) (ps : List ℕ) (m : Moment) → turns r t ps m ≡ turnsBy t ps m
-  unfolding turns turnsBy
-  turns-by t [] m = refl
-  turns-by t (p ∷ ps) m = ap (λ (n : Moment). turns r t ps n) (turn_by t p m) ∙ turns-by t ps (turnBy t p m)
+  pub turns_by_lem : (t : ℕ) (ps : List ℕ) (m : Moment) → turns r t ps m ≡ turns_by t ps m
+  unfolding turns turns_by
+  turns_by_lem t [] m = refl
+  turns_by_lem t (p ∷ ps) m = ap (λ (n : Moment). turns r t ps n) (turn_by_lem t p m) ∙ turns_by_lem t ps (turn_by t p m)
 
   unfoldable pub traced : ℕ → Moment → Trace
-  traced zero m = record { moment = m; begun = hasBegun m ∷ [] }
-  traced (suc t) m = let s = traced t m in let n = turnsBy t (r.order t) s.moment in record { moment = n; begun = hasBegun n ∷ s.begun }
+  traced zero m = record { moment = m; begun = has_begun m ∷ [] }
+  traced (suc t) m = let s = traced t m in let n = turns_by t (r.order t) s.moment in record { moment = n; begun = has_begun n ∷ s.begun }
 
-  moment-is : (t : ℕ) (m : Moment) → through r t m ≡ (traced t m).moment
+  moment_is : (t : ℕ) (m : Moment) → through r t m ≡ (traced t m).moment
   unfolding through traced
-  moment-is zero m = refl
-  moment-is (suc t) m = ap (λ (n : Moment). turns r t (r.order t) n) (moment-is t m) ∙ turns-by t (r.order t) (traced t m).moment
+  moment_is zero m = refl
+  moment_is (suc t) m = ap (λ (n : Moment). turns r t (r.order t) n) (moment_is t m) ∙ turns_by_lem t (r.order t) (traced t m).moment
 
-  begun-is : (t k : ℕ) (m : Moment) → k ≤ t → hasBegun (through r k m) ≡ get_or (traced t m).begun (t - k) 0
+  begun_is : (t k : ℕ) (m : Moment) → k ≤ t → has_begun (through r k m) ≡ get_or (traced t m).begun (t - k) 0
   unfolding through traced
-  begun-is zero k m h = let e : k ≡ 0 = omega arith in rw e refl
-  begun-is (suc t) k m h =
+  begun_is zero k m h = let e : k ≡ 0 = omega arith in rw e refl
+  begun_is (suc t) k m h =
       ⊎_elim
-      (λ (e : k ≡ suc t). (let z : suc t - suc t ≡ 0 = omega arith in rw (e, z) (ap hasBegun (moment-is (suc t) m))))
-      (λ (d : k ≢ suc t). (let z : suc t - k ≡ suc (t - k) = omega arith in rw z (begun-is t k m (omega arith))))
-      (eq-or-ne k (suc t))
+      (λ (e : k ≡ suc t). (let z : suc t - suc t ≡ 0 = omega arith in rw (e, z) (ap has_begun (moment_is (suc t) m))))
+      (λ (d : k ≢ suc t). (let z : suc t - k ≡ suc (t - k) = omega arith in rw z (begun_is t k m (omega arith))))
+      (eq_or_ne k (suc t))
 
 -- of a link: the outcome after all frame times before t, and before which of them receiving had begun
 pub record Course : Type 0 where
@@ -78,13 +78,13 @@ pub record Course : Type 0 where
   pub begun : List ℕ
 
 unfoldable pub course : Link → ℕ → Course
-unfolding traced turnsBy turnBy drainedBy
-course k t = let s = traced (roadOf k) t (started k) in record { outcome = outcomeOf s.moment; begun = s.begun }
+unfolding traced turns_by turn_by drained_by
+course k t = let s = traced (road_of k) t (started k) in record { outcome = outcome_of s.moment; begun = s.begun }
 
-pub outcome-by : (k : Link) (t : ℕ) (o : Outcome) → (course k t).outcome ≡ o → outcome k t ≡ o
+pub outcome_by_lem : (k : Link) (t : ℕ) (o : Outcome) → (course k t).outcome ≡ o → outcome k t ≡ o
 unfolding outcome course
-outcome-by k t o e = ap outcomeOf (moment-is (roadOf k) t (started k)) ∙ e
+outcome_by_lem k t o e = ap outcome_of (moment_is (road_of k) t (started k)) ∙ e
 
-pub begun-by : (k : Link) (t n b : ℕ) → n ≤ t → get_or (course k t).begun (t - n) 0 ≡ b → (outcome k n).begun ≡ b
+pub begun_by : (k : Link) (t n b : ℕ) → n ≤ t → get_or (course k t).begun (t - n) 0 ≡ b → (outcome k n).begun ≡ b
 unfolding outcome course
-begun-by k t n b h e = begun-is (roadOf k) t n (started k) h ∙ e
+begun_by k t n b h e = begun_is (road_of k) t n (started k) h ∙ e

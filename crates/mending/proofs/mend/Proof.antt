@@ -1,4 +1,4 @@
-use Rattle.mending.specs.Laws.Whole.{copy-asked, lines-within, mend-done, mend-other, mend-refused, notes-asked}
+use Rattle.mending.specs.Laws.Whole.{copy_asked, lines_within, mend_done, mend_other, mend_refused, notes_asked}
 use borrow.Author.Tests.{not-false, not-true}
 use lib.ListN.{length}
 use lib.Dec.{eqb}
@@ -14,11 +14,11 @@ opened-requires c κs = search rules
 
 -- src/lib.rt:36:9
 returns : tie.Need-returns
-returns c = mend-refused c.before.before.before.before.before.before.args.recording.now c.before.before.opened.result c.before.before.opened.ensures c.if1.true c.before.before.before.before.before.before.args.mended.now c.before.before.before.before.before.before.args.notes.now
+returns c = mend_refused c.before.before.before.before.before.before.args.recording.now c.before.before.opened.result c.before.before.opened.ensures c.if1.true c.before.before.before.before.before.before.args.mended.now c.before.before.before.before.before.before.args.notes.now
 
 -- src/lib.rt:38:9
 lengths-from-requires : tie.Need-lengths-from-requires
-lengths-from-requires c κs = lines-within c.before.before.before.before.before.before.args.recording.now c.before.before.opened.result c.before.before.opened.ensures c.if1.false
+lengths-from-requires c κs = lines_within c.before.before.before.before.before.before.args.recording.now c.before.before.opened.result c.before.before.opened.ensures c.if1.false
 
 -- src/lib.rt:40:9
 returns-2 : tie.Need-returns-2
@@ -27,7 +27,7 @@ returns-2 c =
     let o = c.before.before.before.before.before.before.opened in
     let r = c.before.before.before.lengths-from in
     let g = s.well-formed.1.1.0.1 in
-    mend-other s.args.recording.now o.result o.ensures c.before.before.before.before.if1.false s.args.mended.now s.args.notes.now (omega arith) r.result r.ensures
+    mend_other s.args.recording.now o.result o.ensures c.before.before.before.before.if1.false s.args.mended.now s.args.notes.now (omega arith) r.result r.ensures
     (not-true (eqb (length s.args.mended.now) r.result.mended && eqb (length s.args.notes.now) r.result.notes) c.if2.true)
 
 -- src/lib.rt:42:5
@@ -37,7 +37,7 @@ copy-all-requires c κs =
     let o = c.before.before.before.before.before.before.before.opened in
     let r = c.before.before.before.before.lengths-from in
     let g = s.well-formed.1.1.0.1 in
-    copy-asked s.args.recording.now o.result o.ensures c.before.before.before.before.before.if1.false s.args.mended.now s.args.notes.now (omega arith) r.result r.ensures
+    copy_asked s.args.recording.now o.result o.ensures c.before.before.before.before.before.if1.false s.args.mended.now s.args.notes.now (omega arith) r.result r.ensures
     (not-false (eqb (length s.args.mended.now) r.result.mended && eqb (length s.args.notes.now) r.result.notes) c.before.if2.false)
 
 -- src/lib.rt:43:5
@@ -47,7 +47,7 @@ put-notes-requires c κs =
     let o = c.before.before.before.before.before.before.before.before.before.before.before.before.opened in
     let r = c.before.before.before.before.before.before.before.before.before.lengths-from in
     let g = s.well-formed.1.1.0.1 in
-    notes-asked s.args.recording.now o.result o.ensures c.before.before.before.before.before.before.before.before.before.before.if1.false s.args.mended.now s.args.notes.now (omega arith) r.result r.ensures
+    notes_asked s.args.recording.now o.result o.ensures c.before.before.before.before.before.before.before.before.before.before.if1.false s.args.mended.now s.args.notes.now (omega arith) r.result r.ensures
     (not-false (eqb (length s.args.mended.now) r.result.mended && eqb (length s.args.notes.now) r.result.notes) c.before.before.before.before.before.before.if2.false) _ c.before.before.before.before.copy-all.ensures
 
 -- src/lib.rt:29:1
@@ -65,7 +65,7 @@ returns-3 c =
     let o = c.before.before.before.before.before.before.before.before.before.before.before.before.before.before.before.opened in
     let r = c.before.before.before.before.before.before.before.before.before.before.before.before.lengths-from in
     let g = s.well-formed.1.1.0.1 in
-    mend-done s.args.recording.now o.result o.ensures c.before.before.before.before.before.before.before.before.before.before.before.before.before.if1.false s.args.mended.now s.args.notes.now (omega arith) r.result r.ensures
+    mend_done s.args.recording.now o.result o.ensures c.before.before.before.before.before.before.before.before.before.before.before.before.before.if1.false s.args.mended.now s.args.notes.now (omega arith) r.result r.ensures
     (not-false (eqb (length s.args.mended.now) r.result.mended && eqb (length s.args.notes.now) r.result.notes) c.before.before.before.before.before.before.before.before.before.if2.false) _ c.before.before.before.before.before.before.before.copy-all.ensures _ c.before.before.put-notes.ensures
 
 pub mend-spec : {M : Type 1} → statement M

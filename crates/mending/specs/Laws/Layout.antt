@@ -6,11 +6,11 @@ use Rattle.ground.specs.Truth.{and_left, and_right}
 use Rattle.recording.specs.declared.record.Record.{Record}
 use Rattle.recording.specs.declared.record.Record.TheVariants.{Frame, Malformed, Long, Unfinished, End}
 use Rattle.recording.specs.Line.{MOST}
-use Rattle.recording.specs.Record.{flagIn, frameBy, lineRecord, recordBy}
+use Rattle.recording.specs.Record.{flag_in, frame_by, line_record, record_by}
 use Rattle.text.specs.declared.fields.Number.{Number}
 use Rattle.text.specs.declared.fields.Number.TheVariants.{Value, Unreadable}
 use Rattle.text.specs.Ascii.{ascii}
-use Rattle.text.specs.Fields.{areDigits, digitOf, hexOf, isHex, number_of, sameBytes, value_of}
+use Rattle.text.specs.Fields.{are_digits, digit_of, hex_of, is_hex, number_of, same_bytes, value_of}
 use Rattle.text.specs.Text.{TAB, ahead, fields_of, parted}
 
 -- fields with tabs between them
@@ -19,39 +19,39 @@ joined [] = []
 joined (p ∷ []) = p
 joined (p ∷ q ∷ ps) = p ++ (TAB ∷ joined (q ∷ ps))
 
-joined-ahead : (b : ℕ) (p : List ℕ) (ps : List (List ℕ)) → joined ((b ∷ p) ∷ ps) ≡ b ∷ joined (p ∷ ps)
-joined-ahead b p [] = refl
-joined-ahead b p (q ∷ ps) = refl
+joined_ahead : (b : ℕ) (p : List ℕ) (ps : List (List ℕ)) → joined ((b ∷ p) ∷ ps) ≡ b ∷ joined (p ∷ ps)
+joined_ahead b p [] = refl
+joined_ahead b p (q ∷ ps) = refl
 
 -- a line is its fields, of which it has one at least
 record Joined (line : List ℕ) (fields : List (List ℕ)) : Type 0 where
   some : 0 < length fields
   is : joined fields ≡ line
 
-fields-joined : (line : List ℕ) → Joined line (fields_of line)
+fields_joined : (line : List ℕ) → Joined line (fields_of line)
 unfolding fields_of
-fields-joined [] = record { some = omega arith; is = refl }
-fields-joined (b ∷ line) = go (eqb b TAB) refl (parted TAB ([] ∷ []) line) (fields-joined line)
+fields_joined [] = record { some = omega arith; is = refl }
+fields_joined (b ∷ line) = go (eqb b TAB) refl (parted TAB ([] ∷ []) line) (fields_joined line)
   where
     go : (t : Bool) → eqb b TAB ≡ t → (ps : List (List ℕ)) → Joined line ps → Joined (b ∷ line) (cond t ([] ∷ ps) (ahead b ps))
     go t e [] h = absurd (let k = h.some in omega arith)
     go true e (p ∷ ps) h = record { some = omega arith; is = ap (λ (l : List ℕ). TAB ∷ l) h.is ∙ ap (λ (n : ℕ). n ∷ line) (sym (eqb-true b TAB e)) }
-    go false e (p ∷ ps) h = record { some = omega arith; is = joined-ahead b p ps ∙ ap (λ (l : List ℕ). b ∷ l) h.is }
+    go false e (p ∷ ps) h = record { some = omega arith; is = joined_ahead b p ps ∙ ap (λ (l : List ℕ). b ∷ l) h.is }
 
 -- what a frame says of the fields that it was read from
 record Said (ports : ℕ) (a b : Number) (flag : ℕ) (payload : Bool) (place n p h f q m : ℕ) : Type 0 where
-  port-is : a ≡ Value p
-  h4-is : b ≡ Value h
+  port_is : a ≡ Value p
+  h4_is : b ≡ Value h
   flag_is : flag ≡ f
   place_is : place ≡ q
-  next-is : n ≡ m
+  next_is : n ≡ m
   below : p < ports
-  flag-below : f < 2
-  payload-is : payload ≡ true
+  flag_below : f < 2
+  payload_is : payload ≡ true
 
-frame-said : (ports : ℕ) (a b : Number) (flag : ℕ) (payload : Bool) (place n p h f q m : ℕ) → frameBy ports a b flag payload place n ≡ Frame p h f q m → Said ports a b flag payload place n p h f q m
-unfolding frameBy
-frame-said ports (Value x) (Value y) flag payload place n p h f q m e = go (ltb x ports && ltb y 256 && ltb flag 2 && payload) refl e
+frame_said : (ports : ℕ) (a b : Number) (flag : ℕ) (payload : Bool) (place n p h f q m : ℕ) → frame_by ports a b flag payload place n ≡ Frame p h f q m → Said ports a b flag payload place n p h f q m
+unfolding frame_by
+frame_said ports (Value x) (Value y) flag payload place n p h f q m e = go (ltb x ports && ltb y 256 && ltb flag 2 && payload) refl e
   where
     go : (t : Bool) → (ltb x ports && ltb y 256 && ltb flag 2 && payload) ≡ t → cond t (Frame x y flag place n) (Malformed n) ≡ Frame p h f q m → Said ports (Value x) (Value y) flag payload place n p h f q m
     go true t e =
@@ -62,47 +62,47 @@ frame-said ports (Value x) (Value y) flag payload place n p h f q m e = go (ltb 
         let bx = ltb-true x ports (and_left (ltb x ports) (ltb y 256) t2) in
         let bf = ltb-true flag 2 (and_right (ltb x ports && ltb y 256) (ltb flag 2) t3) in
         record {
-          port-is = ap Value xp;
-          h4-is = (cc);
+          port_is = ap Value xp;
+          h4_is = (cc);
           flag_is = ff;
           place_is = (cc);
-          next-is = (cc);
+          next_is = (cc);
           below = omega arith;
-          flag-below = omega arith;
-          payload-is = and_right (ltb x ports && ltb y 256 && ltb flag 2) payload t;
+          flag_below = omega arith;
+          payload_is = and_right (ltb x ports && ltb y 256 && ltb flag 2) payload t;
         }
     go false t e = let z : ◌≡◌ {A = ℕ} 0 1 = cc in absurd (omega arith)
-frame-said ports (Value x) Unreadable flag payload place n p h f q m e = let z : ◌≡◌ {A = ℕ} 0 1 = cc in absurd (omega arith)
-frame-said ports Unreadable b flag payload place n p h f q m e = let z : ◌≡◌ {A = ℕ} 0 1 = cc in absurd (omega arith)
+frame_said ports (Value x) Unreadable flag payload place n p h f q m e = let z : ◌≡◌ {A = ℕ} 0 1 = cc in absurd (omega arith)
+frame_said ports Unreadable b flag payload place n p h f q m e = let z : ◌≡◌ {A = ℕ} 0 1 = cc in absurd (omega arith)
 
 -- two hex digits
 record Two (b : List ℕ) (h : ℕ) : Type 0 where
   high : ℕ
   low : ℕ
   is : b ≡ high ∷ low ∷ []
-  high_digit : digitOf high < 16
-  low_digit : digitOf low < 16
-  value : h ≡ digitOf high * 16 + digitOf low
+  high_digit : digit_of high < 16
+  low_digit : digit_of low < 16
+  value : h ≡ digit_of high * 16 + digit_of low
 
-two_digits : (b : List ℕ) (h : ℕ) → length b ≡ 2 → areDigits 16 b ≡ true → value_of 16 0 b ≡ h → Two b h
+two_digits : (b : List ℕ) (h : ℕ) → length b ≡ 2 → are_digits 16 b ≡ true → value_of 16 0 b ≡ h → Two b h
 two_digits [] h k d v = absurd (omega arith)
 two_digits (x ∷ []) h k d v = absurd (omega arith)
 two_digits (x ∷ y ∷ []) h k d v =
-    let dx = ltb-true (digitOf x) 16 (and_left (ltb (digitOf x) 16) (ltb (digitOf y) 16 && true) d) in
-    let dy = ltb-true (digitOf y) 16 (and_left (ltb (digitOf y) 16) true (and_right (ltb (digitOf x) 16) (ltb (digitOf y) 16 && true) d)) in
+    let dx = ltb-true (digit_of x) 16 (and_left (ltb (digit_of x) 16) (ltb (digit_of y) 16 && true) d) in
+    let dy = ltb-true (digit_of y) 16 (and_left (ltb (digit_of y) 16) true (and_right (ltb (digit_of x) 16) (ltb (digit_of y) 16 && true) d)) in
     record { high = x; low = y; is = refl; high_digit = dx; low_digit = dy; value = omega arith }
 two_digits (x ∷ y ∷ z ∷ b) h k d v = absurd (omega arith)
 
-hex-two : (b : List ℕ) (h : ℕ) → hexOf 2 b ≡ Value h → Two b h
-unfolding hexOf
-hex-two b h e = go (ltb 0 (length b) && eqb (length b) 2 && leb (length b) 8 && areDigits 16 b) refl e
+hex_two : (b : List ℕ) (h : ℕ) → hex_of 2 b ≡ Value h → Two b h
+unfolding hex_of
+hex_two b h e = go (ltb 0 (length b) && eqb (length b) 2 && leb (length b) 8 && are_digits 16 b) refl e
   where
-    go : (t : Bool) → (ltb 0 (length b) && eqb (length b) 2 && leb (length b) 8 && areDigits 16 b) ≡ t → cond t (Value (value_of 16 0 b)) Unreadable ≡ Value h → Two b h
+    go : (t : Bool) → (ltb 0 (length b) && eqb (length b) 2 && leb (length b) 8 && are_digits 16 b) ≡ t → cond t (Value (value_of 16 0 b)) Unreadable ≡ Value h → Two b h
     go true t e =
-        let t3 = and_left (ltb 0 (length b) && eqb (length b) 2 && leb (length b) 8) (areDigits 16 b) t in
+        let t3 = and_left (ltb 0 (length b) && eqb (length b) 2 && leb (length b) 8) (are_digits 16 b) t in
         let t2 = and_left (ltb 0 (length b) && eqb (length b) 2) (leb (length b) 8) t3 in
         let k = eqb-true (length b) 2 (and_right (ltb 0 (length b)) (eqb (length b) 2) t2) in
-        two_digits b h k (and_right (ltb 0 (length b) && eqb (length b) 2 && leb (length b) 8) (areDigits 16 b) t) (cc)
+        two_digits b h k (and_right (ltb 0 (length b) && eqb (length b) 2 && leb (length b) 8) (are_digits 16 b) t) (cc)
     go false t e = let z : ◌≡◌ {A = ℕ} 0 1 = cc in absurd (omega arith)
 
 -- a flag is one byte
@@ -110,23 +110,23 @@ record One (f : List ℕ) : Type 0 where
   byte : ℕ
   is : f ≡ byte ∷ []
 
-one_byte : (f : List ℕ) (b : ℕ) → sameBytes f (b ∷ []) ≡ true → One f
+one_byte : (f : List ℕ) (b : ℕ) → same_bytes f (b ∷ []) ≡ true → One f
 one_byte [] b t = absurd (false≢true t)
 one_byte (a ∷ []) b t = record { byte = a; is = refl }
 one_byte (a ∷ c ∷ f) b t = absurd (false≢true (and_right (eqb a b) false t))
 
-flag_one : (f : List ℕ) → flagIn f < 2 → One f
-unfolding flagIn
-flag_one f h = go (sameBytes f (ascii "0")) (sameBytes f (ascii "1")) refl refl h
+flag_one : (f : List ℕ) → flag_in f < 2 → One f
+unfolding flag_in
+flag_one f h = go (same_bytes f (ascii "0")) (same_bytes f (ascii "1")) refl refl h
   where
-    go : (a b : Bool) → sameBytes f (ascii "0") ≡ a → sameBytes f (ascii "1") ≡ b → cond {A = ℕ} a 0 (cond b 1 2) < 2 → One f
+    go : (a b : Bool) → same_bytes f (ascii "0") ≡ a → same_bytes f (ascii "1") ≡ b → cond {A = ℕ} a 0 (cond b 1 2) < 2 → One f
     go true b s t k = one_byte f 48 s
     go false true s t k = one_byte f 49 t
     go false false s t k = absurd (omega arith)
 
-pub hex-length : (digits : ℕ) (field : List ℕ) → isHex digits field ≡ true → length field ≡ digits
-unfolding isHex
-hex-length digits field t = eqb-true (length field) digits (and_left (eqb (length field) digits) (areDigits 16 field) t)
+pub hex_length : (digits : ℕ) (field : List ℕ) → is_hex digits field ≡ true → length field ≡ digits
+unfolding is_hex
+hex_length digits field t = eqb-true (length field) digits (and_left (eqb (length field) digits) (are_digits 16 field) t)
 
 -- a frame's line
 pub record Layout (ports size port h4 flag : ℕ) (line : List ℕ) : Type 0 where
@@ -135,33 +135,33 @@ pub record Layout (ports size port h4 flag : ℕ) (line : List ℕ) : Type 0 whe
   pub low : ℕ
   pub flagged : ℕ
   pub payload : List ℕ
-  pub line-is : line ≡ front ++ (TAB ∷ high ∷ low ∷ TAB ∷ flagged ∷ TAB ∷ payload)
-  pub port-is : number_of 9 front ≡ Value port
+  pub line_is : line ≡ front ++ (TAB ∷ high ∷ low ∷ TAB ∷ flagged ∷ TAB ∷ payload)
+  pub port_is : number_of 9 front ≡ Value port
   pub below : port < ports
-  pub high_digit : digitOf high < 16
-  pub low_digit : digitOf low < 16
-  pub h4-is : h4 ≡ digitOf high * 16 + digitOf low
-  pub flag_is : flagIn (flagged ∷ []) ≡ flag
-  pub flag-below : flag < 2
-  pub payload-is : isHex (size + size) payload ≡ true
-  pub payload-length : length payload ≡ size + size
+  pub high_digit : digit_of high < 16
+  pub low_digit : digit_of low < 16
+  pub h4_is : h4 ≡ digit_of high * 16 + digit_of low
+  pub flag_is : flag_in (flagged ∷ []) ≡ flag
+  pub flag_below : flag < 2
+  pub payload_is : is_hex (size + size) payload ≡ true
+  pub payload_length : length payload ≡ size + size
   pub whole : length line ≡ length front + 6 + (size + size)
   pub most : length line ≤ MOST
 
 pub record Framed (ports size end next port h4 flag place n : ℕ) (line : List ℕ) : Type 0 where
   pub layout : Layout ports size port h4 flag line
   pub place_is : place + (size + size) ≡ end
-  pub next-is : n ≡ next
+  pub next_is : n ≡ next
 
 -- A line of four fields that reads as a frame: the second is two hexadecimal digits and the third one, so that the line is known byte by byte but for the port's field and the payload, and the payload's place follows from the lengths.
-four-fields : (ports size end next port h4 flag place n : ℕ) (line a b c d : List ℕ) → joined (a ∷ b ∷ c ∷ d ∷ []) ≡ line → length line ≤ end → length line ≤ MOST
-    → frameBy ports (number_of 9 a) (hexOf 2 b) (flagIn c) (isHex (size + size) d) (end - length d) next ≡ Frame port h4 flag place n
+four_fields : (ports size end next port h4 flag place n : ℕ) (line a b c d : List ℕ) → joined (a ∷ b ∷ c ∷ d ∷ []) ≡ line → length line ≤ end → length line ≤ MOST
+    → frame_by ports (number_of 9 a) (hex_of 2 b) (flag_in c) (is_hex (size + size) d) (end - length d) next ≡ Frame port h4 flag place n
     → Framed ports size end next port h4 flag place n line
-four-fields ports size end next port h4 flag place n line a b c d j k m e =
-    let s = frame-said ports (number_of 9 a) (hexOf 2 b) (flagIn c) (isHex (size + size) d) (end - length d) next port h4 flag place n e in
-    let two = hex-two b h4 s.h4-is in
-    let one = flag_one c (let x = s.flag_is in let y = s.flag-below in omega arith) in
-    let dl = hex-length (size + size) d s.payload-is in
+four_fields ports size end next port h4 flag place n line a b c d j k m e =
+    let s = frame_said ports (number_of 9 a) (hex_of 2 b) (flag_in c) (is_hex (size + size) d) (end - length d) next port h4 flag place n e in
+    let two = hex_two b h4 s.h4_is in
+    let one = flag_one c (let x = s.flag_is in let y = s.flag_below in omega arith) in
+    let dl = hex_length (size + size) d s.payload_is in
     let is : line ≡ a ++ (TAB ∷ two.high ∷ two.low ∷ TAB ∷ one.byte ∷ TAB ∷ d) =
     sym j ∙ ap (λ (x : List ℕ). a ++ (TAB ∷ (x ++ (TAB ∷ (c ++ (TAB ∷ d)))))) two.is ∙ ap (λ (x : List ℕ). a ++ (TAB ∷ two.high ∷ two.low ∷ TAB ∷ (x ++ (TAB ∷ d)))) one.is in
     let w : length line ≡ length a + length (TAB ∷ two.high ∷ two.low ∷ TAB ∷ one.byte ∷ TAB ∷ d) =
@@ -174,40 +174,40 @@ four-fields ports size end next port h4 flag place n line a b c d j k m e =
         low = two.low;
         flagged = one.byte;
         payload = d;
-        line-is = is;
-        port-is = s.port-is;
+        line_is = is;
+        port_is = s.port_is;
         below = s.below;
         high_digit = two.high_digit;
         low_digit = two.low_digit;
-        h4-is = two.value;
-        flag_is = ap flagIn (sym one.is) ∙ s.flag_is;
-        flag-below = s.flag-below;
-        payload-is = s.payload-is;
-        payload-length = dl;
+        h4_is = two.value;
+        flag_is = ap flag_in (sym one.is) ∙ s.flag_is;
+        flag_below = s.flag_below;
+        payload_is = s.payload_is;
+        payload_length = dl;
         whole = omega arith;
         most = m;
       };
       place_is = omega arith;
-      next-is = sym s.next-is;
+      next_is = sym s.next_is;
     }
 
-fields-framed : (ports size end next port h4 flag place n : ℕ) (line : List ℕ) (fs : List (List ℕ)) → joined fs ≡ line → length line ≤ end → length line ≤ MOST
-    → recordBy ports size end next fs ≡ Frame port h4 flag place n → Framed ports size end next port h4 flag place n line
-fields-framed ports size end next port h4 flag place n line [] j k m e = let z : ◌≡◌ {A = ℕ} 0 1 = cc in absurd (omega arith)
-fields-framed ports size end next port h4 flag place n line (a ∷ []) j k m e = let z : ◌≡◌ {A = ℕ} 0 1 = cc in absurd (omega arith)
-fields-framed ports size end next port h4 flag place n line (a ∷ b ∷ []) j k m e = let z : ◌≡◌ {A = ℕ} 0 1 = cc in absurd (omega arith)
-fields-framed ports size end next port h4 flag place n line (a ∷ b ∷ c ∷ []) j k m e = let z : ◌≡◌ {A = ℕ} 0 1 = cc in absurd (omega arith)
-fields-framed ports size end next port h4 flag place n line (a ∷ b ∷ c ∷ d ∷ []) j k m e = four-fields ports size end next port h4 flag place n line a b c d j k m e
-fields-framed ports size end next port h4 flag place n line (a ∷ b ∷ c ∷ d ∷ f ∷ rest) j k m e = let z : ◌≡◌ {A = ℕ} 0 1 = cc in absurd (omega arith)
+fields_framed : (ports size end next port h4 flag place n : ℕ) (line : List ℕ) (fs : List (List ℕ)) → joined fs ≡ line → length line ≤ end → length line ≤ MOST
+    → record_by ports size end next fs ≡ Frame port h4 flag place n → Framed ports size end next port h4 flag place n line
+fields_framed ports size end next port h4 flag place n line [] j k m e = let z : ◌≡◌ {A = ℕ} 0 1 = cc in absurd (omega arith)
+fields_framed ports size end next port h4 flag place n line (a ∷ []) j k m e = let z : ◌≡◌ {A = ℕ} 0 1 = cc in absurd (omega arith)
+fields_framed ports size end next port h4 flag place n line (a ∷ b ∷ []) j k m e = let z : ◌≡◌ {A = ℕ} 0 1 = cc in absurd (omega arith)
+fields_framed ports size end next port h4 flag place n line (a ∷ b ∷ c ∷ []) j k m e = let z : ◌≡◌ {A = ℕ} 0 1 = cc in absurd (omega arith)
+fields_framed ports size end next port h4 flag place n line (a ∷ b ∷ c ∷ d ∷ []) j k m e = four_fields ports size end next port h4 flag place n line a b c d j k m e
+fields_framed ports size end next port h4 flag place n line (a ∷ b ∷ c ∷ d ∷ f ∷ rest) j k m e = let z : ◌≡◌ {A = ℕ} 0 1 = cc in absurd (omega arith)
 
-pub frame-layout : (ports size at next port h4 flag place n : ℕ) (line : List ℕ) → lineRecord ports size at next line ≡ Frame port h4 flag place n
+pub frame_layout : (ports size at next port h4 flag place n : ℕ) (line : List ℕ) → line_record ports size at next line ≡ Frame port h4 flag place n
     → Framed ports size (at + length line) next port h4 flag place n line
-unfolding lineRecord
-frame-layout ports size at next port h4 flag place n line e = go (leb (length line) MOST) refl e
+unfolding line_record
+frame_layout ports size at next port h4 flag place n line e = go (leb (length line) MOST) refl e
   where
-    go : (t : Bool) → leb (length line) MOST ≡ t → cond t (recordBy ports size (at + length line) next (fields_of line)) (Malformed next) ≡ Frame port h4 flag place n
+    go : (t : Bool) → leb (length line) MOST ≡ t → cond t (record_by ports size (at + length line) next (fields_of line)) (Malformed next) ≡ Frame port h4 flag place n
         → Framed ports size (at + length line) next port h4 flag place n line
-    go true t e = fields-framed ports size (at + length line) next port h4 flag place n line (fields_of line) (fields-joined line).is (omega arith) (leb-true (length line) MOST t) e
+    go true t e = fields_framed ports size (at + length line) next port h4 flag place n line (fields_of line) (fields_joined line).is (omega arith) (leb-true (length line) MOST t) e
     go false t e = let z : ◌≡◌ {A = ℕ} 0 1 = cc in absurd (omega arith)
 
 -- a line's record, where the line lies somewhere else and another one is the next
@@ -218,34 +218,34 @@ placed_at at n Long = Long
 placed_at at n Unfinished = Unfinished
 placed_at at n End = End
 
-frame-placed : (ports : ℕ) (a b : Number) (flag : ℕ) (payload : Bool) (at place n : ℕ) → frameBy ports a b flag payload (at + place) n ≡ placed_at at n (frameBy ports a b flag payload place 0)
-unfolding frameBy
-frame-placed ports (Value x) (Value y) flag payload at place n = go (ltb x ports && ltb y 256 && ltb flag 2 && payload)
+frame_placed : (ports : ℕ) (a b : Number) (flag : ℕ) (payload : Bool) (at place n : ℕ) → frame_by ports a b flag payload (at + place) n ≡ placed_at at n (frame_by ports a b flag payload place 0)
+unfolding frame_by
+frame_placed ports (Value x) (Value y) flag payload at place n = go (ltb x ports && ltb y 256 && ltb flag 2 && payload)
   where
     go : (t : Bool) → cond t (Frame x y flag (at + place) n) (Malformed n) ≡ placed_at at n (cond t (Frame x y flag place 0) (Malformed 0))
     go true = refl
     go false = refl
-frame-placed ports (Value x) Unreadable flag payload at place n = refl
-frame-placed ports Unreadable b flag payload at place n = refl
+frame_placed ports (Value x) Unreadable flag payload at place n = refl
+frame_placed ports Unreadable b flag payload at place n = refl
 
-fields-placed : (ports size at n : ℕ) (line : List ℕ) (fs : List (List ℕ)) → joined fs ≡ line → recordBy ports size (at + length line) n fs ≡ placed_at at n (recordBy ports size (0 + length line) 0 fs)
-fields-placed ports size at n line [] j = refl
-fields-placed ports size at n line (a ∷ []) j = refl
-fields-placed ports size at n line (a ∷ b ∷ []) j = refl
-fields-placed ports size at n line (a ∷ b ∷ c ∷ []) j = refl
-fields-placed ports size at n line (a ∷ b ∷ c ∷ d ∷ []) j =
+fields_placed : (ports size at n : ℕ) (line : List ℕ) (fs : List (List ℕ)) → joined fs ≡ line → record_by ports size (at + length line) n fs ≡ placed_at at n (record_by ports size (0 + length line) 0 fs)
+fields_placed ports size at n line [] j = refl
+fields_placed ports size at n line (a ∷ []) j = refl
+fields_placed ports size at n line (a ∷ b ∷ []) j = refl
+fields_placed ports size at n line (a ∷ b ∷ c ∷ []) j = refl
+fields_placed ports size at n line (a ∷ b ∷ c ∷ d ∷ []) j =
     let w : length line ≡ length a + suc (length (b ++ (TAB ∷ (c ++ (TAB ∷ d))))) = ap length (sym j) ∙ length-append a (TAB ∷ (b ++ (TAB ∷ (c ++ (TAB ∷ d))))) in
     let x = length-append b (TAB ∷ (c ++ (TAB ∷ d))) in
     let y = length-append c (TAB ∷ d) in
     let z : (at + length line) - length d ≡ at + ((0 + length line) - length d) = omega arith in
-    ap (λ (place : ℕ). frameBy ports (number_of 9 a) (hexOf 2 b) (flagIn c) (isHex (size + size) d) place n) z
-    ∙ frame-placed ports (number_of 9 a) (hexOf 2 b) (flagIn c) (isHex (size + size) d) at ((0 + length line) - length d) n
-fields-placed ports size at n line (a ∷ b ∷ c ∷ d ∷ f ∷ rest) j = refl
+    ap (λ (place : ℕ). frame_by ports (number_of 9 a) (hex_of 2 b) (flag_in c) (is_hex (size + size) d) place n) z
+    ∙ frame_placed ports (number_of 9 a) (hex_of 2 b) (flag_in c) (is_hex (size + size) d) at ((0 + length line) - length d) n
+fields_placed ports size at n line (a ∷ b ∷ c ∷ d ∷ f ∷ rest) j = refl
 
-pub line-placed : (ports size at n : ℕ) (line : List ℕ) → lineRecord ports size at n line ≡ placed_at at n (lineRecord ports size 0 0 line)
-unfolding lineRecord
-line-placed ports size at n line = go (leb (length line) MOST)
+pub line_placed : (ports size at n : ℕ) (line : List ℕ) → line_record ports size at n line ≡ placed_at at n (line_record ports size 0 0 line)
+unfolding line_record
+line_placed ports size at n line = go (leb (length line) MOST)
   where
-    go : (t : Bool) → cond t (recordBy ports size (at + length line) n (fields_of line)) (Malformed n) ≡ placed_at at n (cond t (recordBy ports size (0 + length line) 0 (fields_of line)) (Malformed 0))
-    go true = fields-placed ports size at n line (fields_of line) (fields-joined line).is
+    go : (t : Bool) → cond t (record_by ports size (at + length line) n (fields_of line)) (Malformed n) ≡ placed_at at n (cond t (record_by ports size (0 + length line) 0 (fields_of line)) (Malformed 0))
+    go true = fields_placed ports size at n line (fields_of line) (fields_joined line).is
     go false = refl

@@ -5,29 +5,29 @@ use Rattle.cards.specs.declared.answers.Answer.TheVariants as A
 use Rattle.cards.specs.declared.card.Card.{Card}
 use Rattle.cards.specs.Views.{run}
 use Rattle.orders.specs.declared.commands.Command.{Command}
-use Rattle.orders.specs.Orders.{answersOf, orderedOf, ordersOf, outcomeBy}
-use Rattle.orders.specs.Singles.{singleNumber, singleNumbers, singlesOf}
+use Rattle.orders.specs.Orders.{answers_of, ordered_of, orders_of, outcome_by}
+use Rattle.orders.specs.Singles.{single_number, single_numbers, singles_of}
 
 -- the card is that of the single calls
-pub card-single : (card : Card) (cs : List Command) → (ordersOf card cs).state ≡ run card (singlesOf cs)
-unfolding outcomeBy
-card-single card [] = refl
-card-single card (c ∷ cs) = card-single (outcomeBy card c).card cs
+pub card_single : (card : Card) (cs : List Command) → (orders_of card cs).state ≡ run card (singles_of cs)
+unfolding outcome_by
+card_single card [] = refl
+card_single card (c ∷ cs) = card_single (outcome_by card c).card cs
 
 -- and so is each number
-pub answers-single : (card : Card) (cs : List Command) → (ordersOf card cs).numbers ≡ singleNumbers card cs
-unfolding outcomeBy
-answers-single card [] = refl
-answers-single card (c ∷ cs) = ap (λ (ns : List ℕ). singleNumber card c ∷ ns) (answers-single (outcomeBy card c).card cs)
+pub answers_single : (card : Card) (cs : List Command) → (orders_of card cs).numbers ≡ single_numbers card cs
+unfolding outcome_by
+answers_single card [] = refl
+answers_single card (c ∷ cs) = ap (λ (ns : List ℕ). single_number card c ∷ ns) (answers_single (outcome_by card c).card cs)
 
 -- as the call is promised
 pub one_by_one : (card : Card) (cs : List Command) (ys : List ℕ) → length cs ≡ length ys
-    → (orderedOf card cs (length ys) ≡ record { card = run card (singlesOf cs); answer = A.Done }) × (answersOf card cs ys ≡ singleNumbers card cs)
-one_by_one card cs ys e = rw (eq-eqb (length cs) (length ys) e, card-single card cs, answers-single card cs) (refl, refl)
+    → (ordered_of card cs (length ys) ≡ record { card = run card (singles_of cs); answer = A.Done }) × (answers_of card cs ys ≡ single_numbers card cs)
+one_by_one card cs ys e = rw (eq-eqb (length cs) (length ys) e, card_single card cs, answers_single card cs) (refl, refl)
 
 -- 'answers list of a different length than the commands is 9, and nothing is done'
-pub nothing-done : (card : Card) (cs : List Command) (ys : List ℕ) → length cs ≢ length ys → (orderedOf card cs (length ys) ≡ record { card = card; answer = A.Length }) × (answersOf card cs ys ≡ ys)
-nothing-done card cs ys n = rw (ne_eqb (length cs) (length ys) n) (refl, refl)
+pub nothing_done : (card : Card) (cs : List Command) (ys : List ℕ) → length cs ≢ length ys → (ordered_of card cs (length ys) ≡ record { card = card; answer = A.Length }) × (answers_of card cs ys ≡ ys)
+nothing_done card cs ys n = rw (ne_eqb (length cs) (length ys) n) (refl, refl)
 
-pub no-commands : (card : Card) → (orderedOf card [] 0 ≡ record { card = card; answer = A.Done }) × (answersOf card [] [] ≡ [])
-no-commands card = (refl, refl)
+pub no_commands : (card : Card) → (ordered_of card [] 0 ≡ record { card = card; answer = A.Done }) × (answers_of card [] [] ≡ [])
+no_commands card = (refl, refl)

@@ -1,32 +1,32 @@
 -- VC-12's clock in numbers, for its step rule.
 use Rattle.std.specs.Prelude.{◌≡◌, ℕ, ◌+◌, ◌/◌, ◌%◌, refl}
 use Rattle.std.proofs.Common.{arith}
-use Rattle.packet.specs.Kinds.{epochOf, epochs, frames, lead, place_of, tagAfter, tagBefore, tag_of, tags, vc12Kind}
+use Rattle.packet.specs.Kinds.{epoch_of, epochs, frames, lead, place_of, tag_after, tag_before, tag_of, tags, vc12_kind}
 
-pub vc12-frames : frames vc12Kind ≡ 32
+pub vc12_frames : frames vc12_kind ≡ 32
 unfolding frames
-vc12-frames = refl
+vc12_frames = refl
 
-pub vc12-epochs : epochs vc12Kind ≡ 32
+pub vc12_epochs : epochs vc12_kind ≡ 32
 unfolding epochs
-vc12-epochs = refl
+vc12_epochs = refl
 
-pub vc12-tag : (x : ℕ) → tag_of vc12Kind x ≡ x % 1024
+pub vc12_tag : (x : ℕ) → tag_of vc12_kind x ≡ x % 1024
 unfolding tags
-vc12-tag x = refl
+vc12_tag x = refl
 
-pub vc12-next : (t : ℕ) → (t % 1024 + 1) % 1024 ≡ tagAfter vc12Kind t
-unfolding tagAfter tags
-vc12-next t = omega arith
+pub vc12_next : (t : ℕ) → (t % 1024 + 1) % 1024 ≡ tag_after vc12_kind t
+unfolding tag_after tags
+vc12_next t = omega arith
 
-pub vc12-before : (t : ℕ) → tagBefore vc12Kind t ≡ (t + 1023) % 1024
-unfolding tagBefore tags
-vc12-before t = refl
+pub vc12_before : (t : ℕ) → tag_before vc12_kind t ≡ (t + 1023) % 1024
+unfolding tag_before tags
+vc12_before t = refl
 
-pub vc12-place : (t : ℕ) → place_of vc12Kind t ≡ t % 32
+pub vc12_place : (t : ℕ) → place_of vc12_kind t ≡ t % 32
 unfolding place_of frames lead
-vc12-place t = omega arith
+vc12_place t = omega arith
 
-pub vc12-epoch : (t : ℕ) → epochOf vc12Kind t ≡ t % 1024 / 32
-unfolding epochOf frames lead tags
-vc12-epoch t = omega arith
+pub vc12_epoch : (t : ℕ) → epoch_of vc12_kind t ≡ t % 1024 / 32
+unfolding epoch_of frames lead tags
+vc12_epoch t = omega arith

@@ -3,37 +3,37 @@ use Rattle.std.specs.Prelude.{◌≡◌, ℕ, ◌*◌, ◌<◌, ◌≤◌, List,
 use Rattle.std.proofs.Common.{◌∙◌, sym, ap, append-nil, arith, eq-eqb, ne_eqb, take-append-drop, drop_of_length-le, drop-cons, length-take-le}
 use Rattle.ground.specs.Bits.{bits}
 use Rattle.ground.specs.Distance.{caught}
-use Rattle.ground.specs.Polynomial.{bitsApart, check}
+use Rattle.ground.specs.Polynomial.{bits_apart, check}
 use Rattle.packet.specs.declared.layout.Fields.{Fields}
 use Rattle.packet.specs.declared.reader.Reading.TheVariants.{Crc}
 use Rattle.packet.specs.declared.writer.Writing.TheVariants.{Done}
-use Rattle.packet.specs.Changes.{changedBits}
-use Rattle.packet.specs.Crc.{bits_of, crcOf, divisor, nibbleBits}
+use Rattle.packet.specs.Changes.{changed_bits}
+use Rattle.packet.specs.Crc.{bits_of, crc_of, divisor, nibble_bits}
 use Rattle.packet.specs.Laws.Bounds.{bounds}
-use Rattle.packet.specs.Laws.Bytes.{bits-append, byte-bits, crc-bits, length-bits-of}
-use Rattle.packet.specs.Laws.Nibbles.{highs-back, packet-nibbles}
-use Rattle.packet.specs.Layout.{byte_of, carriedIn, data_of, highsOf, nibblesOf, sealedOf}
-use Rattle.packet.specs.Reading.{readAnswer, readNibbles}
-use Rattle.packet.specs.Theorems.Distance.{catches-three, packet-bits}
-use Rattle.packet.specs.Theorems.ReadBack.{length-nibbles, written_as}
-use Rattle.packet.specs.Writing.{writeAnswer, writeBytes}
+use Rattle.packet.specs.Laws.Bytes.{bits_append, byte_bits, crc_bits, length_bits_of}
+use Rattle.packet.specs.Laws.Nibbles.{highs_back, packet_nibbles}
+use Rattle.packet.specs.Layout.{byte_of, carried_in, data_of, highs_of, nibbles_of, sealed_of}
+use Rattle.packet.specs.Reading.{read_answer, read_nibbles}
+use Rattle.packet.specs.Theorems.Distance.{catches_three, packet_bits}
+use Rattle.packet.specs.Theorems.ReadBack.{length_nibbles, written_as}
+use Rattle.packet.specs.Writing.{write_answer, write_bytes}
 
 -- where the CRC fits, the last two nibbles are the check of the fourteen before them
-fitted : (a b : ℕ) (d : List ℕ) → crcOf d ≡ byte_of a b → check divisor (bits_of d) ≡ nibbleBits a ++ nibbleBits b
-fitted a b d e = sym (crc-bits d) ∙ ap (λ (n : ℕ). bits 8 n) e ∙ byte-bits a b
+fitted : (a b : ℕ) (d : List ℕ) → crc_of d ≡ byte_of a b → check divisor (bits_of d) ≡ nibble_bits a ++ nibble_bits b
+fitted a b d e = sym (crc_bits d) ∙ ap (λ (n : ℕ). bits 8 n) e ∙ byte_bits a b
 
-last-two : (ns : List ℕ) → length ns ≡ 16 → ns ≡ take 14 ns ++ (slice_index ns 14 ∷ slice_index ns 15 ∷ [])
-last-two ns h =
+last_two : (ns : List ℕ) → length ns ≡ 16 → ns ≡ take 14 ns ++ (slice_index ns 14 ∷ slice_index ns 15 ∷ [])
+last_two ns h =
     sym (take-append-drop 14 ns)
     ∙ ap (λ l. take 14 ns ++ l)
     (drop-cons ns 14 0 (omega arith)
     ∙ ap (λ l. slice_index ns 14 ∷ l) (drop-cons ns 15 0 (omega arith) ∙ ap (λ l. slice_index ns 15 ∷ l) (drop_of_length-le ns {i = 16} (omega arith))))
 
 -- sixteen nibbles that differ from a packet's in one to three bits
-pub nibbles-damaged : (d ns : List ℕ) → length d ≡ 14 → length ns ≡ 16
-    → 1 ≤ bitsApart (bits_of (sealedOf d)) (bits_of ns) → bitsApart (bits_of (sealedOf d)) (bits_of ns) ≤ 3 → readNibbles ns ≡ Crc
-unfolding divisor nibbleBits readNibbles carriedIn
-nibbles-damaged d ns hd hn low high = rw (ne_eqb (crcOf (take 14 ns)) (byte_of a b) refused) refl
+pub nibbles_damaged : (d ns : List ℕ) → length d ≡ 14 → length ns ≡ 16
+    → 1 ≤ bits_apart (bits_of (sealed_of d)) (bits_of ns) → bits_apart (bits_of (sealed_of d)) (bits_of ns) ≤ 3 → read_nibbles ns ≡ Crc
+unfolding divisor nibble_bits read_nibbles carried_in
+nibbles_damaged d ns hd hn low high = rw (ne_eqb (crc_of (take 14 ns)) (byte_of a b) refused) refl
   where
     a : ℕ
     a = slice_index ns 14
@@ -44,36 +44,36 @@ nibbles-damaged d ns hd hn low high = rw (ne_eqb (crcOf (take 14 ns)) (byte_of a
     front : length (take 14 ns) ≡ 14
     front = length-take-le 14 ns (omega arith)
 
-    tail : bits_of ns ≡ bits_of (take 14 ns) ++ (nibbleBits a ++ nibbleBits b)
+    tail : bits_of ns ≡ bits_of (take 14 ns) ++ (nibble_bits a ++ nibble_bits b)
     tail =
-        ap bits_of (last-two ns hn)
-        ∙ bits-append (take 14 ns) (a ∷ b ∷ [])
-        ∙ ap (λ l. bits_of (take 14 ns) ++ (nibbleBits a ++ l)) (append-nil (nibbleBits b))
+        ap bits_of (last_two ns hn)
+        ∙ bits_append (take 14 ns) (a ∷ b ∷ [])
+        ∙ ap (λ l. bits_of (take 14 ns) ++ (nibble_bits a ++ l)) (append-nil (nibble_bits b))
 
-    refused : crcOf (take 14 ns) ≡ byte_of a b → ⊥
+    refused : crc_of (take 14 ns) ≡ byte_of a b → ⊥
     refused same =
-        caught divisor 64 4 catches-three (bits_of d) (bits_of (take 14 ns)) (nibbleBits a ++ nibbleBits b)
-        (length-bits-of d ∙ ap (λ (n : ℕ). n * 4) (hd ∙ sym front) ∙ sym (length-bits-of (take 14 ns))) refl
-        (let h = length-bits-of d in omega arith)
-        (rw (packet-bits d, tail) at low) (let few : bitsApart (bits_of (sealedOf d)) (bits_of ns) < 4 = omega arith in rw (packet-bits d, tail) at few) (fitted a b (take 14 ns) same)
+        caught divisor 64 4 catches_three (bits_of d) (bits_of (take 14 ns)) (nibble_bits a ++ nibble_bits b)
+        (length_bits_of d ∙ ap (λ (n : ℕ). n * 4) (hd ∙ sym front) ∙ sym (length_bits_of (take 14 ns))) refl
+        (let h = length_bits_of d in omega arith)
+        (rw (packet_bits d, tail) at low) (let few : bits_apart (bits_of (sealed_of d)) (bits_of ns) < 4 = omega arith in rw (packet_bits d, tail) at few) (fitted a b (take 14 ns) same)
 
-pub sent : (f : Fields) (s : List ℕ) → writeAnswer f s ≡ Done → highsOf (writeBytes f s) ≡ sealedOf (data_of f)
-unfolding nibblesOf
+pub sent : (f : Fields) (s : List ℕ) → write_answer f s ≡ Done → highs_of (write_bytes f s) ≡ sealed_of (data_of f)
+unfolding nibbles_of
 sent f s e =
     let w = written_as f s e in
-    ap highsOf w.bytes ∙ highs-back (nibblesOf f) (packet-nibbles f (bounds f w.fits)) (length-nibbles f)
+    ap highs_of w.bytes ∙ highs_back (nibbles_of f) (packet_nibbles f (bounds f w.fits)) (length_nibbles f)
 
-pub length-highs : (s : List ℕ) → length (highsOf s) ≡ 16
-unfolding highsOf
-length-highs s = refl
+pub length_highs : (s : List ℕ) → length (highs_of s) ≡ 16
+unfolding highs_of
+length_highs s = refl
 
-pub length-data : (f : Fields) → length (data_of f) ≡ 14
+pub length_data : (f : Fields) → length (data_of f) ≡ 14
 unfolding data_of
-length-data f = refl
+length_data f = refl
 
-pub damaged : (f : Fields) (s came : List ℕ) → writeAnswer f s ≡ Done → length came ≡ 16
-    → 1 ≤ changedBits (writeBytes f s) came → changedBits (writeBytes f s) came ≤ 3 → readAnswer came ≡ Crc
-unfolding readAnswer
+pub damaged : (f : Fields) (s came : List ℕ) → write_answer f s ≡ Done → length came ≡ 16
+    → 1 ≤ changed_bits (write_bytes f s) came → changed_bits (write_bytes f s) came ≤ 3 → read_answer came ≡ Crc
+unfolding read_answer
 damaged f s came e h low high =
     rw (eq-eqb (length came) 16 h)
-    (nibbles-damaged (data_of f) (highsOf came) (length-data f) (length-highs came) (rw (sent f s e) at low) (rw (sent f s e) at high))
+    (nibbles_damaged (data_of f) (highs_of came) (length_data f) (length_highs came) (rw (sent f s e) at low) (rw (sent f s e) at high))

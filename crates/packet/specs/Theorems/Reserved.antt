@@ -7,40 +7,40 @@ use Rattle.packet.specs.Laws.Bounds.{bounds}
 use Rattle.packet.specs.Reserved.{NoneReserved, NoneReservedBy, NoneReservedVc12}
 use Rattle.packet.specs.declared.layout.Fields.{Fields}
 use Rattle.packet.specs.declared.writer.Writing.TheVariants.{Done}
-use Rattle.packet.specs.Kinds.{vc12Kind}
-use Rattle.packet.specs.Layout.{data_of, h4Of, nibblesOf, sealedOf}
-use Rattle.packet.specs.Sent.{sentAnswer, sentBytes}
+use Rattle.packet.specs.Kinds.{vc12_kind}
+use Rattle.packet.specs.Layout.{data_of, h4_of, nibbles_of, sealed_of}
+use Rattle.packet.specs.Sent.{sent_answer, sent_bytes}
 use Rattle.packet.specs.Theorems.ReadBack.{written_as}
-use Rattle.packet.specs.Theorems.Vc12.{vc12-written}
-use Rattle.packet.specs.Vc12.{vc12Bits, vc12Bytes, vc12Data, writeVc12Answer, writeVc12Bytes}
-use Rattle.packet.specs.Writing.{writeAnswer, writeBytes}
+use Rattle.packet.specs.Theorems.Vc12.{vc12_written}
+use Rattle.packet.specs.Vc12.{vc12_bits, vc12_bytes, vc12_data, write_vc12_answer, write_vc12_bytes}
+use Rattle.packet.specs.Writing.{write_answer, write_bytes}
 
-zeros-sent : (f : Fields) → Bounds f → f.reserved ≡ 0 → NoneReserved (h4Of (nibblesOf f))
-unfolding h4Of nibblesOf sealedOf data_of
-zeros-sent f b z =
+zeros_sent : (f : Fields) → Bounds f → f.reserved ≡ 0 → NoneReserved (h4_of (nibbles_of f))
+unfolding h4_of nibbles_of sealed_of data_of
+zeros_sent f b z =
     rw z
     (record {
-      mfi1-10 = omega arith;
-      mfi1-11 = omega arith;
-      mfi1-12 = omega arith;
-      mfi1-13 = omega arith;
-      mfi1-3 = omega arith;
-      mfi1-4 = omega arith;
-      mfi1-5 = omega arith;
+      mfi1_10 = omega arith;
+      mfi1_11 = omega arith;
+      mfi1_12 = omega arith;
+      mfi1_13 = omega arith;
+      mfi1_3 = omega arith;
+      mfi1_4 = omega arith;
+      mfi1_5 = omega arith;
     })
 
-pub none-reserved : (f : Fields) (s : List ℕ) → writeAnswer f s ≡ Done → f.reserved ≡ 0 → NoneReserved (writeBytes f s)
-none-reserved f s e z = let w = written_as f s e in rw w.bytes (zeros-sent f (bounds f w.fits) z)
+pub none_reserved : (f : Fields) (s : List ℕ) → write_answer f s ≡ Done → f.reserved ≡ 0 → NoneReserved (write_bytes f s)
+none_reserved f s e z = let w = written_as f s e in rw w.bytes (zeros_sent f (bounds f w.fits) z)
 
-zeros-vc12 : (f : Fields) → f.reserved ≡ 0 → NoneReservedVc12 (vc12Bytes (vc12Bits f))
-unfolding vc12Bytes vc12Bits vc12Data
-zeros-vc12 f z = rw z (record { bit-17 = refl; bit-18 = refl; bit-19 = refl; bit-20 = refl })
+zeros_vc12 : (f : Fields) → f.reserved ≡ 0 → NoneReservedVc12 (vc12_bytes (vc12_bits f))
+unfolding vc12_bytes vc12_bits vc12_data
+zeros_vc12 f z = rw z (record { bit_17 = refl; bit_18 = refl; bit_19 = refl; bit_20 = refl })
 
-pub none-reserved-by : (kind : ℕ) (f : Fields) (s : List ℕ) → sentAnswer kind f s ≡ Done → f.reserved ≡ 0 → NoneReservedBy kind (sentBytes kind f s)
-unfolding sentAnswer sentBytes
-none-reserved-by kind f s = go (kind == vc12Kind)
+pub none_reserved_by : (kind : ℕ) (f : Fields) (s : List ℕ) → sent_answer kind f s ≡ Done → f.reserved ≡ 0 → NoneReservedBy kind (sent_bytes kind f s)
+unfolding sent_answer sent_bytes
+none_reserved_by kind f s = go (kind == vc12_kind)
   where
-    go : (b : Bool) → cond b (writeVc12Answer f s) (writeAnswer f s) ≡ Done → f.reserved ≡ 0
-        → if b then NoneReservedVc12 (cond b (writeVc12Bytes f s) (writeBytes f s)) else NoneReserved (cond b (writeVc12Bytes f s) (writeBytes f s))
-    go true done z = rw (vc12-written f s done).bytes (zeros-vc12 f z)
-    go false done z = none-reserved f s done z
+    go : (b : Bool) → cond b (write_vc12_answer f s) (write_answer f s) ≡ Done → f.reserved ≡ 0
+        → if b then NoneReservedVc12 (cond b (write_vc12_bytes f s) (write_bytes f s)) else NoneReserved (cond b (write_vc12_bytes f s) (write_bytes f s))
+    go true done z = rw (vc12_written f s done).bytes (zeros_vc12 f z)
+    go false done z = none_reserved f s done z

@@ -1,18 +1,18 @@
 -- What it says that nothing is out of range.
 use Rattle.std.specs.Prelude.{◌≡◌, refl, Bool, true, false, cond, ◌&&◌, List, ℕ, leb, length}
 use Rattle.std.proofs.Common.{arith, le-leb, leb-true}
-use Rattle.ground.specs.Counting.Laws.Tests.{every-all, every-at}
+use Rattle.ground.specs.Counting.Laws.Tests.{every_all, every_at}
 use Rattle.ground.specs.Truth.{and_left, and_right}
 use Rattle.paths.specs.declared.answers.Answer.TheVariants.{Done, Range}
-use Rattle.paths.specs.Answers.{answer_of, areShort, in_range, number_of, sized}
-use Rattle.paths.specs.Paths.{Asked, delayAt}
+use Rattle.paths.specs.Answers.{answer_of, are_short, in_range, number_of, sized}
+use Rattle.paths.specs.Paths.{Asked, delay_at}
 
 -- nothing is out of range exactly where the number is 0
-pub in-asked : (delays : List ℕ) (k W : ℕ) → in_range delays k W ≡ true → Asked delays k W
-unfolding areShort
-in-asked delays k W e =
+pub in_asked : (delays : List ℕ) (k W : ℕ) → in_range delays k W ≡ true → Asked delays k W
+unfolding are_short
+in_asked delays k W e =
     let n = length delays in
-    let f = and_left (sized n k W) (areShort delays) e in
+    let f = and_left (sized n k W) (are_short delays) e in
     let d = and_left (leb n 64 && leb 1 k && leb k n && leb 16 W) (leb W 2048) f in
     let c = and_left (leb n 64 && leb 1 k && leb k n) (leb 16 W) d in
     let b = and_left (leb n 64 && leb 1 k) (leb k n) c in
@@ -20,29 +20,29 @@ in-asked delays k W e =
       one = leb-true 1 k (and_right (leb n 64) (leb 1 k) b);
       enough = leb-true k n (and_right (leb n 64 && leb 1 k) (leb k n) c);
       few = leb-true n 64 (and_left (leb n 64) (leb 1 k) b);
-      short = λ i h. leb-true (delayAt delays i) 4095 (every-at n (λ j. leb (delayAt delays j) 4095) (and_right (sized n k W) (areShort delays) e) i h);
+      short = λ i h. leb-true (delay_at delays i) 4095 (every_at n (λ j. leb (delay_at delays j) 4095) (and_right (sized n k W) (are_short delays) e) i h);
       low = leb-true 16 W (and_right (leb n 64 && leb 1 k && leb k n) (leb 16 W) d);
       high = leb-true W 2048 (and_right (leb n 64 && leb 1 k && leb k n && leb 16 W) (leb W 2048) f);
     }
 
-pub asked_in : (delays : List ℕ) (k W : ℕ) → Asked delays k W → in_range delays k W ≡ true
-unfolding areShort
-asked_in delays k W a =
+pub asked_in_lem : (delays : List ℕ) (k W : ℕ) → Asked delays k W → in_range delays k W ≡ true
+unfolding are_short
+asked_in_lem delays k W a =
     let n = length delays in
     rw (le-leb n 64 a.few, le-leb 1 k a.one, le-leb k n a.enough, le-leb 16 W a.low, le-leb W 2048 a.high)
-    (every-all n (λ i. leb (delayAt delays i) 4095) (λ i h. le-leb (delayAt delays i) 4095 (a.short i h)))
+    (every_all n (λ i. leb (delay_at delays i) 4095) (λ i h. le-leb (delay_at delays i) 4095 (a.short i h)))
 
-pub in-done : (delays : List ℕ) (k W : ℕ) → in_range delays k W ≡ true → number_of (answer_of delays k W) ≡ 0
+pub in_done : (delays : List ℕ) (k W : ℕ) → in_range delays k W ≡ true → number_of (answer_of delays k W) ≡ 0
 unfolding answer_of
-in-done delays k W e = rw e
+in_done delays k W e = rw e
 
-pub out-range : (delays : List ℕ) (k W : ℕ) → in_range delays k W ≡ false → number_of (answer_of delays k W) ≡ 4
+pub out_range : (delays : List ℕ) (k W : ℕ) → in_range delays k W ≡ false → number_of (answer_of delays k W) ≡ 4
 unfolding answer_of
-out-range delays k W e = rw e
+out_range delays k W e = rw e
 
-pub done-in : (delays : List ℕ) (k W : ℕ) → number_of (answer_of delays k W) ≡ 0 → in_range delays k W ≡ true
+pub done_in : (delays : List ℕ) (k W : ℕ) → number_of (answer_of delays k W) ≡ 0 → in_range delays k W ≡ true
 unfolding answer_of
-done-in delays k W = go (in_range delays k W)
+done_in delays k W = go (in_range delays k W)
   where
     go : (b : Bool) → number_of (cond b Done Range) ≡ 0 → b ≡ true
     go true e = refl

@@ -4,12 +4,12 @@ use Rattle.std.proofs.Common.{◌∙◌, ⊎_elim, append-nil, not-suc-le-zero, 
 use Rattle.std.proofs.Math.ListN.{get_or-append}
 use Rattle.std.proofs.lemmas.List.{get_or_at}
 use Rattle.ground.specs.Counting.Words.{count}
-use Rattle.ground.specs.Truth.{le-or-lt}
+use Rattle.ground.specs.Truth.{le_or_lt}
 use Rattle.paths.specs.Planning.{listed}
 
-pub length-listed : (n : ℕ) (f : ℕ → Bool) → length (listed n f) ≡ count n f
-length-listed zero f = refl
-length-listed (suc n) f = length-append (listed n f) (cond (f n) (n ∷ []) []) ∙ go (f n) (length-listed n f)
+pub length_listed : (n : ℕ) (f : ℕ → Bool) → length (listed n f) ≡ count n f
+length_listed zero f = refl
+length_listed (suc n) f = length-append (listed n f) (cond (f n) (n ∷ []) []) ∙ go (f n) (length_listed n f)
   where
     go : (b : Bool) → length (listed n f) ≡ count n f → length (listed n f) + length (cond b (n ∷ []) []) ≡ count n f + cond b 1 0
     go true e = rw e
@@ -25,7 +25,7 @@ last l n a P h older new =
     ⊎_elim
     (λ (g : length l ≤ a). let e : length l ≡ a = omega arith in rw (get_or_at l n [] 0 a e) (new e))
     (λ (g : a < length l). rw (get_or-append l (n ∷ []) 0 a g) (older g))
-    (le-or-lt (length l) a)
+    (le_or_lt (length l) a)
 
 abbrev Among : ℕ → (ℕ → Bool) → ℕ → Type 0
 Among n f i = (i < n) × (f i ≡ true)
@@ -42,9 +42,9 @@ listed_at (suc n) f a h = go (f n) refl (listed_at n f a) h
     go true e rest g = last (listed n f) n a (Among (suc n) f) g (λ l. wider _ (rest l)) (λ l. (omega arith, e))
     go false e rest g = rw (append-nil (listed n f)) (wider _ (rest (rw (append-nil (listed n f)) at g)))
 
-pub listed-rises : (n : ℕ) (f : ℕ → Bool) (a b : ℕ) → a < b → b < length (listed n f) → get_or (listed n f) a 0 < get_or (listed n f) b 0
-listed-rises zero f a b l h = absurd (not-suc-le-zero h)
-listed-rises (suc n) f a b l h = go (f n) (listed-rises n f a b l) h
+pub listed_rises : (n : ℕ) (f : ℕ → Bool) (a b : ℕ) → a < b → b < length (listed n f) → get_or (listed n f) a 0 < get_or (listed n f) b 0
+listed_rises zero f a b l h = absurd (not-suc-le-zero h)
+listed_rises (suc n) f a b l h = go (f n) (listed_rises n f a b l) h
   where
     go : (t : Bool) → (b < length (listed n f) → get_or (listed n f) a 0 < get_or (listed n f) b 0) → b < length (listed n f ++ cond t (n ∷ []) [])
         → get_or (listed n f ++ cond t (n ∷ []) []) a 0 < get_or (listed n f ++ cond t (n ∷ []) []) b 0
@@ -55,10 +55,10 @@ listed-rises (suc n) f a b l h = go (f n) (listed-rises n f a b l) h
         (last (listed n f) n b (λ i. get_or (listed n f) a 0 < i) g rest (λ e. (listed_at n f a first).0))
     go false rest g = rw (append-nil (listed n f)) (rest (rw (append-nil (listed n f)) at g))
 
-pub listed-apart : (n : ℕ) (f : ℕ → Bool) (a b : ℕ) → a < length (listed n f) → b < length (listed n f) → get_or (listed n f) a 0 ≡ get_or (listed n f) b 0 → a ≡ b
-listed-apart n f a b ha hb e =
+pub listed_apart : (n : ℕ) (f : ℕ → Bool) (a b : ℕ) → a < length (listed n f) → b < length (listed n f) → get_or (listed n f) a 0 ≡ get_or (listed n f) b 0 → a ≡ b
+listed_apart n f a b ha hb e =
     ⊎_elim
     (λ (l : a ≤ b).
-    ⊎_elim (λ (m : b ≤ a). omega arith) (λ (m : a < b). absurd (let r = listed-rises n f a b m hb in omega arith)) (le-or-lt b a))
-    (λ (l : b < a). absurd (let r = listed-rises n f b a l ha in omega arith))
-    (le-or-lt a b)
+    ⊎_elim (λ (m : b ≤ a). omega arith) (λ (m : a < b). absurd (let r = listed_rises n f a b m hb in omega arith)) (le_or_lt b a))
+    (λ (l : b < a). absurd (let r = listed_rises n f b a l ha in omega arith))
+    (le_or_lt a b)

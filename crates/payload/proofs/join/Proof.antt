@@ -3,7 +3,7 @@
 use mathlib.Core.Path.{refl, sym, ◌∙◌}
 use lib.ListN.{length}
 use native.Mathlib.Omega.{arith}
-use Rattle.payload.specs.Laws.Fits.{whole-fits}
+use Rattle.payload.specs.Laws.Fits.{whole_fits}
 use Rattle.payload.proofs.join.Statement.{statement}
 use Rattle.payload.proofs.join.Tie as tie
 
@@ -16,7 +16,7 @@ enum_told c = omega arith
 join-requires : tie.Need-join-requires
 join-requires c κs =
     let a = c.before.before.before.before.before.before.args in
-    let f = whole-fits a.x a.p (length a.members.now) (length a.frame.now) (sym c.before.before.before.whole.ensures ∙ c.before.enum_told.given.1) in
+    let f = whole_fits a.x a.p (length a.members.now) (length a.frame.now) (sym c.before.before.before.whole.ensures ∙ c.before.enum_told.given.1) in
     (f.size.ranks, f.size.most, f.from_is, f.to_is)
 
 enum-told-2 : tie.Need-enum-told-2

@@ -2,7 +2,7 @@
 use mathlib.Core.Path.{refl, sym, ◌∙◌}
 use native.Mathlib.Omega.{arith}
 use lib.ListN.{length}
-use Rattle.payload.specs.Laws.Fits.{from-fits}
+use Rattle.payload.specs.Laws.Fits.{from_fits}
 use Rattle.payload.proofs.join_from.Statement.{statement}
 use Rattle.payload.proofs.join_from.Tie as tie
 
@@ -16,9 +16,9 @@ join-from-requires : tie.Need-join-from-requires
 join-from-requires c κs =
     let at-enum-told = c.before.before in
     let at_from = at-enum-told.before.before in
-    let at-start = at_from.before.before.before.before in
-    let a = at-start.args in
-    let f = from-fits a.x a.p a.starts.now (length a.store.now) a.place (length a.out.now) (sym at_from.from.ensures ∙ at-enum-told.enum_told.given.1) in
+    let at_start_lem = at_from.before.before.before.before in
+    let a = at_start_lem.args in
+    let f = from_fits a.x a.p a.starts.now (length a.store.now) a.place (length a.out.now) (sym at_from.from.ensures ∙ at-enum-told.enum_told.given.1) in
     (omega arith, f.members-in, f.frame-in)
 
 enum-told-2 : tie.Need-enum-told-2

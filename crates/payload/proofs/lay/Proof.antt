@@ -15,9 +15,9 @@ same_length c = omega arith
 
 returns : tie.Need-returns
 returns c =
-    let at-run = c.before.before in
-    let at-start = at-run.before.before.before.before.before.before in
-    let a = at-start.args in laid_in a.from.now a.place a.to.now _ (omega arith) at-run.run.ensures
+    let at_run = c.before.before in
+    let at_start_lem = at_run.before.before.before.before.before.before in
+    let a = at_start_lem.args in laid_in a.from.now a.place a.to.now _ (omega arith) at_run.run.ensures
 
 returns-2 : tie.Need-returns-2
 returns-2 c = let a = c.before.before.before.before.args in laid_none a.from.now a.place a.to.now (omega arith)

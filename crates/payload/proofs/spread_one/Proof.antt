@@ -3,7 +3,7 @@
 use mathlib.Core.Path.{refl, sym, ◌∙◌}
 use lib.ListN.{length}
 use native.Mathlib.Omega.{arith}
-use Rattle.payload.specs.Laws.Fits.{one-fits}
+use Rattle.payload.specs.Laws.Fits.{one_fits}
 use Rattle.payload.proofs.spread_one.Statement.{statement}
 use Rattle.payload.proofs.spread_one.Tie as tie
 
@@ -16,7 +16,7 @@ enum_told c = omega arith
 spread-one-requires : tie.Need-spread-one-requires
 spread-one-requires c κs =
     let a = c.before.before.before.before.before.before.args in
-    let f = one-fits a.x a.p (length a.frame.now) (length a.member.now) (sym c.before.before.before.one.ensures ∙ c.before.enum_told.given.1) in
+    let f = one_fits a.x a.p (length a.frame.now) (length a.member.now) (sym c.before.before.before.one.ensures ∙ c.before.enum_told.given.1) in
     (f.frame_is, f.member_is)
 
 enum-told-2 : tie.Need-enum-told-2

@@ -12,18 +12,18 @@ pub record Rows (h w : ℕ) (m : ℕ → ℕ → ℕ) (r j : ℕ) (before q : Li
   pub is : (l i : ℕ) → l < h → i < w → get_or q (l * w + i) 0 ≡ m (r + l) (j + i)
 
 -- Of a block that lies in a frame of lines of X bytes, from line j and column r on: the byte at k, where the block is in lines of h bytes,
-abbrev pub lineByte : (h X place j r : ℕ) (q : List ℕ) (k : ℕ) → ℕ
-lineByte h X place j r q k = get_or q (((k - place) / X - j) * h + ((k - place) % X - r)) 0
+abbrev pub line_byte : (h X place j r : ℕ) (q : List ℕ) (k : ℕ) → ℕ
+line_byte h X place j r q k = get_or q (((k - place) / X - j) * h + ((k - place) % X - r)) 0
 
 -- and where it is in rows of w bytes, one for each column.
-abbrev pub rowByte : (w X place j r : ℕ) (q : List ℕ) (k : ℕ) → ℕ
-rowByte w X place j r q k = get_or q (((k - place) % X - r) * w + ((k - place) / X - j)) 0
+abbrev pub row_byte : (w X place j r : ℕ) (q : List ℕ) (k : ℕ) → ℕ
+row_byte w X place j r q k = get_or q (((k - place) % X - r) * w + ((k - place) / X - j)) 0
 
 -- eight rows of sixteen bytes, sixteen of eight, or sixteen of sixteen
 pub record Sizes (h w : ℕ) : Type 0 where
   pub rows : h % 8 ≡ 0
   pub bytes : w % 8 ≡ 0
-  pub rows-most : h ≤ 16
+  pub rows_most : h ≤ 16
   pub bytes_most : w ≤ 16
   pub both : 24 ≤ h + w
 

@@ -2,143 +2,143 @@
 use Rattle.std.specs.Prelude.{◌≡◌, refl, Bool, true, false, not, ◌&&◌, List, ℕ, ◌≤◌, length, replicate}
 use Rattle.std.proofs.Common.{◌∙◌, ap, arith}
 use Rattle.std.proofs.lemmas.Bool.{not-true}
-use Rattle.ground.specs.Truth.{and_left, and_right, and-true, clash, cond-by}
-use Rattle.ground.specs.Counting.Laws.Tests.{every-ext, every-fails, some-not-none, some_one}
+use Rattle.ground.specs.Truth.{and_left, and_right, and-true, clash, cond_by}
+use Rattle.ground.specs.Counting.Laws.Tests.{every_ext, every_fails, some_not_none, some_one}
 use Rattle.ground.specs.Counting.Words.{One}
 use Rattle.phases.specs.Beginning.{begins}
-use Rattle.phases.specs.Due.{brought, owesNothing, silent}
-use Rattle.phases.specs.Laws.Cleared.{begun-group, begun-marks-at, begun-step-at, stopped-group}
-use Rattle.phases.specs.Laws.Lengths.{length-begin, length-stop}
-use Rattle.phases.specs.Laws.Passed.{passed-group, passed-step-at}
-use Rattle.phases.specs.Passing.{groupTo, passedGroup, passedOf, passedStep}
-use Rattle.phases.specs.Settling.{Settled, beginBy, begunAt, begunOf, clearedStep, gatherBy, gatheredAt, settled_of, stopBy, stoppedOf}
+use Rattle.phases.specs.Due.{brought, owes_nothing, silent}
+use Rattle.phases.specs.Laws.Cleared.{begun_group, begun_marks_at, begun_step_at, stopped_group}
+use Rattle.phases.specs.Laws.Lengths.{length_begin, length_stop}
+use Rattle.phases.specs.Laws.Passed.{passed_group_lem, passed_step_at}
+use Rattle.phases.specs.Passing.{group_to, passed_group, passed_of, passed_step}
+use Rattle.phases.specs.Settling.{Settled, begin_by, begun_at, begun_of, cleared_step, gather_by, gathered_at, settled_of, stop_by, stopped_of}
 use Rattle.phases.specs.Theorems.Arc.{sound}
 use Rattle.rows.specs.declared.group.Group.{Group}
 use Rattle.rows.specs.declared.step.Step.{Step}
-use Rattle.rows.specs.Group.{groupAt}
-use Rattle.rows.specs.Packets.{marksAt}
-use Rattle.rows.specs.Rows.{rowsFor}
-use Rattle.rows.specs.Step.{stepAt}
-use Rattle.step.specs.Arrival.{flagOf, inStep, readable}
-use Rattle.store.specs.Marks.{firstMark}
+use Rattle.rows.specs.Group.{group_at}
+use Rattle.rows.specs.Packets.{marks_at}
+use Rattle.rows.specs.Rows.{rows_for}
+use Rattle.rows.specs.Step.{step_at}
+use Rattle.step.specs.Arrival.{flag_of, in_step, readable}
+use Rattle.store.specs.Marks.{first_mark}
 
 other : (b c : Bool) → (b && c) ≡ false → b ≡ true → c ≡ false
 other b c e t = rw t at e
 
 -- stopping
 
-stop-heard : (n : ℕ) (s : List (List ℕ)) → rowsFor n ≤ length s → begunAt (stopBy (groupAt s) n s) ≡ true
-    → silent (groupAt (stopBy (groupAt s) n s)) (stopBy (groupAt s) n s) n ≡ false
-unfolding stopBy
-stop-heard n s h =
-    cond-by (λ t. begunAt t ≡ true → silent (groupAt t) t n ≡ false) (begunAt s && silent (groupAt s) s n) (stoppedOf (groupAt s) n s) s
-    (λ e t. clash (begunAt (stoppedOf (groupAt s) n s)) t (ap (λ (g : Group). flagOf g.begun) (stopped-group (groupAt s) n s (omega arith))))
-    (λ e t. other (begunAt s) (silent (groupAt s) s n) e t)
+stop_heard : (n : ℕ) (s : List (List ℕ)) → rows_for n ≤ length s → begun_at (stop_by (group_at s) n s) ≡ true
+    → silent (group_at (stop_by (group_at s) n s)) (stop_by (group_at s) n s) n ≡ false
+unfolding stop_by
+stop_heard n s h =
+    cond_by (λ t. begun_at t ≡ true → silent (group_at t) t n ≡ false) (begun_at s && silent (group_at s) s n) (stopped_of (group_at s) n s) s
+    (λ e t. clash (begun_at (stopped_of (group_at s) n s)) t (ap (λ (g : Group). flag_of g.begun) (stopped_group (group_at s) n s (omega arith))))
+    (λ e t. other (begun_at s) (silent (group_at s) s n) e t)
 
 -- beginning: a port in step is readable from then on
 
-begun-readable : (g : Group) (q : Step) (oldest origin ack : ℕ) → inStep g q ≡ true → readable (groupTo g 1 0 oldest origin ack) (clearedStep q (inStep g q)) ≡ true
-unfolding readable inStep clearedStep
-begun-readable g q oldest origin ack t = rw t refl
+begun_readable : (g : Group) (q : Step) (oldest origin ack : ℕ) → in_step g q ≡ true → readable (group_to g 1 0 oldest origin ack) (cleared_step q (in_step g q)) ≡ true
+unfolding readable in_step cleared_step
+begun_readable g q oldest origin ack t = rw t refl
 
-pub begun-heard : (g : Group) (n : ℕ) (s : List (List ℕ)) → rowsFor n ≤ length s → begins g s n ≡ true → silent (groupAt (begunOf g n s)) (begunOf g n s) n ≡ false
+pub begun_heard : (g : Group) (n : ℕ) (s : List (List ℕ)) → rows_for n ≤ length s → begins g s n ≡ true → silent (group_at (begun_of g n s)) (begun_of g n s) n ≡ false
 unfolding silent
-begun-heard g n s h e =
+begun_heard g n s h e =
     let o = sound g s n e in
     let i = o.port in
-    let is-readable : readable (groupAt (begunOf g n s)) (stepAt (begunOf g n s) i) ≡ true =
-    rw (begun-group g n s (omega arith), begun-step-at g n s i o.below h) (begun-readable g (stepAt s i) _ _ _ o.stepped) in
-    every-fails n (λ k. not (readable (groupAt (begunOf g n s)) (stepAt (begunOf g n s) k))) i o.below (ap not is-readable)
+    let is_readable : readable (group_at (begun_of g n s)) (step_at (begun_of g n s) i) ≡ true =
+    rw (begun_group g n s (omega arith), begun_step_at g n s i o.below h) (begun_readable g (step_at s i) _ _ _ o.stepped) in
+    every_fails n (λ k. not (readable (group_at (begun_of g n s)) (step_at (begun_of g n s) k))) i o.below (ap not is_readable)
 
 -- and it owes its sixteen frames, so nothing is gathered in the call that begins
-owes : (g : Group) (q : Step) (oldest origin ack : ℕ) → inStep g q ≡ true → owesNothing (groupTo g 1 0 oldest origin ack) (clearedStep q (inStep g q)) (replicate 16 0) ≡ false
-unfolding owesNothing clearedStep firstMark
-owes g q oldest origin ack t = rw (begun-readable g q oldest origin ack t) refl
+owes : (g : Group) (q : Step) (oldest origin ack : ℕ) → in_step g q ≡ true → owes_nothing (group_to g 1 0 oldest origin ack) (cleared_step q (in_step g q)) (replicate 16 0) ≡ false
+unfolding owes_nothing cleared_step first_mark
+owes g q oldest origin ack t = rw (begun_readable g q oldest origin ack t) refl
 
-pub begun-owes : (g : Group) (n : ℕ) (s : List (List ℕ)) → rowsFor n ≤ length s → begins g s n ≡ true → brought (groupAt (begunOf g n s)) (begunOf g n s) n ≡ false
+pub begun_owes : (g : Group) (n : ℕ) (s : List (List ℕ)) → rows_for n ≤ length s → begins g s n ≡ true → brought (group_at (begun_of g n s)) (begun_of g n s) n ≡ false
 unfolding brought
-begun-owes g n s h e =
+begun_owes g n s h e =
     let o = sound g s n e in
     let i = o.port in
-    let t = begunOf g n s in
-    let owed : owesNothing (groupAt t) (stepAt t i) (marksAt t i) ≡ false =
-    rw (begun-group g n s (omega arith), begun-step-at g n s i o.below h, begun-marks-at g n s i o.below h) (owes g (stepAt s i) _ _ _ o.stepped) in
-    every-fails n (λ k. owesNothing (groupAt t) (stepAt t k) (marksAt t k)) i o.below owed
+    let t = begun_of g n s in
+    let owed : owes_nothing (group_at t) (step_at t i) (marks_at t i) ≡ false =
+    rw (begun_group g n s (omega arith), begun_step_at g n s i o.below h, begun_marks_at g n s i o.below h) (owes g (step_at s i) _ _ _ o.stepped) in
+    every_fails n (λ k. owes_nothing (group_at t) (step_at t k) (marks_at t k)) i o.below owed
 
 record Begun (n : ℕ) (s : List (List ℕ)) : Type 0 where
-  heard : begunAt s ≡ true → silent (groupAt s) s n ≡ false
-  waits : begunAt s ≡ false → begins (groupAt s) s n ≡ false
+  heard : begun_at s ≡ true → silent (group_at s) s n ≡ false
+  waits : begun_at s ≡ false → begins (group_at s) s n ≡ false
 
-begin-begun : (n : ℕ) (s : List (List ℕ)) → rowsFor n ≤ length s → (begunAt s ≡ true → silent (groupAt s) s n ≡ false) → Begun n (beginBy (groupAt s) n s)
-unfolding beginBy
-begin-begun n s h heard =
-    cond-by (λ t. Begun n t) (not (begunAt s) && begins (groupAt s) s n) (begunOf (groupAt s) n s) s
+begin_begun : (n : ℕ) (s : List (List ℕ)) → rows_for n ≤ length s → (begun_at s ≡ true → silent (group_at s) s n ≡ false) → Begun n (begin_by (group_at s) n s)
+unfolding begin_by
+begin_begun n s h heard =
+    cond_by (λ t. Begun n t) (not (begun_at s) && begins (group_at s) s n) (begun_of (group_at s) n s) s
     (λ e.
     record {
-      heard = λ t. begun-heard (groupAt s) n s h (and_right (not (begunAt s)) (begins (groupAt s) s n) e);
-      waits = λ f. clash (begunAt (begunOf (groupAt s) n s)) (ap (λ (g : Group). flagOf g.begun) (begun-group (groupAt s) n s (omega arith))) f;
+      heard = λ t. begun_heard (group_at s) n s h (and_right (not (begun_at s)) (begins (group_at s) s n) e);
+      waits = λ f. clash (begun_at (begun_of (group_at s) n s)) (ap (λ (g : Group). flag_of g.begun) (begun_group (group_at s) n s (omega arith))) f;
     })
-    (λ e. record { heard = heard; waits = λ f. other (not (begunAt s)) (begins (groupAt s) s n) e (ap not f) })
+    (λ e. record { heard = heard; waits = λ f. other (not (begun_at s)) (begins (group_at s) s n) e (ap not f) })
 
 -- gathering: who is readable stays so
 
-passed-readable : (g : Group) (q : Step) (whole : Bool) → readable (passedGroup g) (passedStep q whole) ≡ readable g q
-unfolding readable inStep passedGroup passedStep
-passed-readable g q whole = refl
+passed_readable : (g : Group) (q : Step) (whole : Bool) → readable (passed_group g) (passed_step q whole) ≡ readable g q
+unfolding readable in_step passed_group passed_step
+passed_readable g q whole = refl
 
-pub passed-silent : (g : Group) (store : List ℕ) (n : ℕ) (s : List (List ℕ)) → rowsFor n ≤ length s → silent (groupAt (passedOf g store n s)) (passedOf g store n s) n ≡ silent g s n
+pub passed_silent : (g : Group) (store : List ℕ) (n : ℕ) (s : List (List ℕ)) → rows_for n ≤ length s → silent (group_at (passed_of g store n s)) (passed_of g store n s) n ≡ silent g s n
 unfolding silent
-passed-silent g store n s h =
-    let r = passedOf g store n s in
-    every-ext n (λ i. not (readable (groupAt r) (stepAt r i))) (λ i. not (readable g (stepAt s i)))
+passed_silent g store n s h =
+    let r = passed_of g store n s in
+    every_ext n (λ i. not (readable (group_at r) (step_at r i))) (λ i. not (readable g (step_at s i)))
     (λ i b.
-    let e : readable (groupAt r) (stepAt r i) ≡ readable g (stepAt s i) =
-    rw (passed-group g store n s (omega arith), passed-step-at g store n s i b h) (passed-readable g (stepAt s i) (firstMark (marksAt s i))) in
+    let e : readable (group_at r) (step_at r i) ≡ readable g (step_at s i) =
+    rw (passed_group_lem g store n s (omega arith), passed_step_at g store n s i b h) (passed_readable g (step_at s i) (first_mark (marks_at s i))) in
     ap not e)
 
-pub passed-begun : (g : Group) → (passedGroup g).begun ≡ g.begun
-unfolding passedGroup
-passed-begun g = refl
+pub passed_begun : (g : Group) → (passed_group g).begun ≡ g.begun
+unfolding passed_group
+passed_begun g = refl
 
-pub passed-gathered : (g : Group) → flagOf (passedGroup g).gathered ≡ true
-unfolding passedGroup
-passed-gathered g = refl
+pub passed_gathered : (g : Group) → flag_of (passed_group g).gathered ≡ true
+unfolding passed_group
+passed_gathered g = refl
 
-gather-settled : (store : List ℕ) (n : ℕ) (s : List (List ℕ)) → rowsFor n ≤ length s → Begun n s → Settled n (gatherBy (groupAt s) store n s)
-unfolding gatherBy
-gather-settled store n s h o =
-    cond-by (λ t. Settled n t) (begunAt s && not (gatheredAt s) && brought (groupAt s) s n) (passedOf (groupAt s) store n s) s
+gather_settled : (store : List ℕ) (n : ℕ) (s : List (List ℕ)) → rows_for n ≤ length s → Begun n s → Settled n (gather_by (group_at s) store n s)
+unfolding gather_by
+gather_settled store n s h o =
+    cond_by (λ t. Settled n t) (begun_at s && not (gathered_at s) && brought (group_at s) s n) (passed_of (group_at s) store n s) s
     (λ e.
-    let r = passedOf (groupAt s) store n s in
-    let first = and_left (begunAt s && not (gatheredAt s)) (brought (groupAt s) s n) e in
-    let begun = and_left (begunAt s) (not (gatheredAt s)) first in
-    let group : groupAt r ≡ passedGroup (groupAt s) = passed-group (groupAt s) store n s (omega arith) in
-    let stays : begunAt r ≡ true = ap (λ (g : Group). flagOf g.begun) group ∙ ap (λ (b : ℕ). flagOf b) (passed-begun (groupAt s)) ∙ begun in
+    let r = passed_of (group_at s) store n s in
+    let first = and_left (begun_at s && not (gathered_at s)) (brought (group_at s) s n) e in
+    let begun = and_left (begun_at s) (not (gathered_at s)) first in
+    let group : group_at r ≡ passed_group (group_at s) = passed_group_lem (group_at s) store n s (omega arith) in
+    let stays : begun_at r ≡ true = ap (λ (g : Group). flag_of g.begun) group ∙ ap (λ (b : ℕ). flag_of b) (passed_begun (group_at s)) ∙ begun in
     record {
-      heard = λ t. passed-silent (groupAt s) store n s h ∙ o.heard begun;
-      gathers = λ t f. clash (gatheredAt r) (ap (λ (g : Group). flagOf g.gathered) group ∙ passed-gathered (groupAt s)) f;
-      waits = λ f. clash (begunAt r) stays f;
+      heard = λ t. passed_silent (group_at s) store n s h ∙ o.heard begun;
+      gathers = λ t f. clash (gathered_at r) (ap (λ (g : Group). flag_of g.gathered) group ∙ passed_gathered (group_at s)) f;
+      waits = λ f. clash (begun_at r) stays f;
     })
     (λ e.
     record {
       heard = o.heard;
-      gathers = λ t f. other (begunAt s && not (gatheredAt s)) (brought (groupAt s) s n) e (and-true (begunAt s) (not (gatheredAt s)) t (ap not f));
+      gathers = λ t f. other (begun_at s && not (gathered_at s)) (brought (group_at s) s n) e (and-true (begun_at s) (not (gathered_at s)) t (ap not f));
       waits = o.waits;
     })
 
-pub settled : (n : ℕ) (store : List ℕ) (s : List (List ℕ)) → rowsFor n ≤ length s → Settled n (settled_of n store s)
+pub settled : (n : ℕ) (store : List ℕ) (s : List (List ℕ)) → rows_for n ≤ length s → Settled n (settled_of n store s)
 unfolding settled_of
 settled n store s h =
-    let a = stopBy (groupAt s) n s in
-    let la : length a ≡ length s = length-stop (groupAt s) n s in
-    let b = beginBy (groupAt a) n a in
-    let lb : length b ≡ length s = length-begin (groupAt a) n a ∙ la in
-    gather-settled store n b (rw lb h) (begin-begun n a (rw la h) (stop-heard n s h))
+    let a = stop_by (group_at s) n s in
+    let la : length a ≡ length s = length_stop (group_at s) n s in
+    let b = begin_by (group_at a) n a in
+    let lb : length b ≡ length s = length_begin (group_at a) n a ∙ la in
+    gather_settled store n b (rw lb h) (begin_begun n a (rw la h) (stop_heard n s h))
 
 -- where not all are unreadable, some port is readable
-pub heard-port : (g : Group) (s : List (List ℕ)) (n : ℕ) → silent g s n ≡ false → One n (λ i. readable g (stepAt s i))
+pub heard_port : (g : Group) (s : List (List ℕ)) (n : ℕ) → silent g s n ≡ false → One n (λ i. readable g (step_at s i))
 unfolding silent
-heard-port g s n e = some_one n (λ i. readable g (stepAt s i)) (some-not-none n (λ i. readable g (stepAt s i)) e)
+heard_port g s n e = some_one n (λ i. readable g (step_at s i)) (some_not_none n (λ i. readable g (step_at s i)) e)
 
 -- Which of the three follows. On a settled state nothing does.
 
@@ -146,47 +146,47 @@ off : (b c : Bool) → (b ≡ true → c ≡ false) → (b && c) ≡ false
 off true c h = h refl
 off false c h = refl
 
-pub stop-stays : (g : Group) (n : ℕ) (s : List (List ℕ)) → (flagOf g.begun ≡ true → silent g s n ≡ false) → stopBy g n s ≡ s
-unfolding stopBy
-stop-stays g n s h = rw (off (flagOf g.begun) (silent g s n) h) refl
+pub stop_stays : (g : Group) (n : ℕ) (s : List (List ℕ)) → (flag_of g.begun ≡ true → silent g s n ≡ false) → stop_by g n s ≡ s
+unfolding stop_by
+stop_stays g n s h = rw (off (flag_of g.begun) (silent g s n) h) refl
 
-pub begin-stays : (g : Group) (n : ℕ) (s : List (List ℕ)) → (flagOf g.begun ≡ false → begins g s n ≡ false) → beginBy g n s ≡ s
-unfolding beginBy
-begin-stays g n s h = rw (off (not (flagOf g.begun)) (begins g s n) (λ t. h (not-true (flagOf g.begun) t))) refl
+pub begin_stays : (g : Group) (n : ℕ) (s : List (List ℕ)) → (flag_of g.begun ≡ false → begins g s n ≡ false) → begin_by g n s ≡ s
+unfolding begin_by
+begin_stays g n s h = rw (off (not (flag_of g.begun)) (begins g s n) (λ t. h (not-true (flag_of g.begun) t))) refl
 
-pub gather-stays : (g : Group) (store : List ℕ) (n : ℕ) (s : List (List ℕ)) → (flagOf g.begun ≡ true → flagOf g.gathered ≡ false → brought g s n ≡ false)
-    → gatherBy g store n s ≡ s
-unfolding gatherBy
-gather-stays g store n s h =
-    rw (off (flagOf g.begun && not (flagOf g.gathered)) (brought g s n)
+pub gather_stays : (g : Group) (store : List ℕ) (n : ℕ) (s : List (List ℕ)) → (flag_of g.begun ≡ true → flag_of g.gathered ≡ false → brought g s n ≡ false)
+    → gather_by g store n s ≡ s
+unfolding gather_by
+gather_stays g store n s h =
+    rw (off (flag_of g.begun && not (flag_of g.gathered)) (brought g s n)
     (λ t.
-    h (and_left (flagOf g.begun) (not (flagOf g.gathered)) t)
-    (not-true (flagOf g.gathered) (and_right (flagOf g.begun) (not (flagOf g.gathered)) t))))
+    h (and_left (flag_of g.begun) (not (flag_of g.gathered)) t)
+    (not-true (flag_of g.gathered) (and_right (flag_of g.begun) (not (flag_of g.gathered)) t))))
     refl
 
-pub settled-stays : (n : ℕ) (store : List ℕ) (s : List (List ℕ)) → Settled n s → settled_of n store s ≡ s
+pub settled_stays : (n : ℕ) (store : List ℕ) (s : List (List ℕ)) → Settled n s → settled_of n store s ≡ s
 unfolding settled_of
-settled-stays n store s o =
-    rw (stop-stays (groupAt s) n s o.heard, begin-stays (groupAt s) n s o.waits) (gather-stays (groupAt s) store n s o.gathers)
+settled_stays n store s o =
+    rw (stop_stays (group_at s) n s o.heard, begin_stays (group_at s) n s o.waits) (gather_stays (group_at s) store n s o.gathers)
 
-begin-now : (g : Group) (n : ℕ) (s : List (List ℕ)) → flagOf g.begun ≡ false → begins g s n ≡ true → beginBy g n s ≡ begunOf g n s
-unfolding beginBy
-begin-now g n s f e = rw (f, e) refl
+begin_now : (g : Group) (n : ℕ) (s : List (List ℕ)) → flag_of g.begun ≡ false → begins g s n ≡ true → begin_by g n s ≡ begun_of g n s
+unfolding begin_by
+begin_now g n s f e = rw (f, e) refl
 
-gather-now : (g : Group) (store : List ℕ) (n : ℕ) (s : List (List ℕ)) → flagOf g.begun ≡ true → flagOf g.gathered ≡ false → brought g s n ≡ true
-    → gatherBy g store n s ≡ passedOf g store n s
-unfolding gatherBy
-gather-now g store n s t f e = rw (t, f, e) refl
+gather_now : (g : Group) (store : List ℕ) (n : ℕ) (s : List (List ℕ)) → flag_of g.begun ≡ true → flag_of g.gathered ≡ false → brought g s n ≡ true
+    → gather_by g store n s ≡ passed_of g store n s
+unfolding gather_by
+gather_now g store n s t f e = rw (t, f, e) refl
 
-pub settled-begins : (n : ℕ) (store : List ℕ) (s : List (List ℕ)) → rowsFor n ≤ length s → begunAt s ≡ false → begins (groupAt s) s n ≡ true
-    → settled_of n store s ≡ begunOf (groupAt s) n s
+pub settled_begins : (n : ℕ) (store : List ℕ) (s : List (List ℕ)) → rows_for n ≤ length s → begun_at s ≡ false → begins (group_at s) s n ≡ true
+    → settled_of n store s ≡ begun_of (group_at s) n s
 unfolding settled_of
-settled-begins n store s h f e =
-    rw (stop-stays (groupAt s) n s (λ t. clash (begunAt s) t f), begin-now (groupAt s) n s f e)
-    (gather-stays (groupAt (begunOf (groupAt s) n s)) store n (begunOf (groupAt s) n s) (λ t x. begun-owes (groupAt s) n s h e))
+settled_begins n store s h f e =
+    rw (stop_stays (group_at s) n s (λ t. clash (begun_at s) t f), begin_now (group_at s) n s f e)
+    (gather_stays (group_at (begun_of (group_at s) n s)) store n (begun_of (group_at s) n s) (λ t x. begun_owes (group_at s) n s h e))
 
-pub settled-gathers : (n : ℕ) (store : List ℕ) (s : List (List ℕ)) → begunAt s ≡ true → silent (groupAt s) s n ≡ false → gatheredAt s ≡ false
-    → brought (groupAt s) s n ≡ true → settled_of n store s ≡ passedOf (groupAt s) store n s
+pub settled_gathers : (n : ℕ) (store : List ℕ) (s : List (List ℕ)) → begun_at s ≡ true → silent (group_at s) s n ≡ false → gathered_at s ≡ false
+    → brought (group_at s) s n ≡ true → settled_of n store s ≡ passed_of (group_at s) store n s
 unfolding settled_of
-settled-gathers n store s t q f e =
-    rw (stop-stays (groupAt s) n s (λ x. q), begin-stays (groupAt s) n s (λ x. clash (begunAt s) t x)) (gather-now (groupAt s) store n s t f e)
+settled_gathers n store s t q f e =
+    rw (stop_stays (group_at s) n s (λ x. q), begin_stays (group_at s) n s (λ x. clash (begun_at s) t x)) (gather_now (group_at s) store n s t f e)

@@ -4,11 +4,11 @@ use Rattle.rows.specs.declared.group.Group.{Group}
 use Rattle.rows.specs.declared.step.Step.{Step}
 use Rattle.step.specs.Arrival.{readable, taken_of}
 use Rattle.step.specs.declared.arrival.Taken.{Taken}
-use Rattle.pinned.specs.Opened.{allOpen}
+use Rattle.pinned.specs.Opened.{all_open}
 use Rattle.tables.specs.Rows.{Pinned, pins, row, same}
 
-abbrev groupWith : (window begun gathered : ℕ) → Group
-groupWith window begun gathered =
+abbrev group_with : (window begun gathered : ℕ) → Group
+group_with window begun gathered =
     record {
       spare = 61 ∷ 62 ∷ 63 ∷ 64 ∷ [];
       kind = 0;
@@ -23,7 +23,7 @@ groupWith window begun gathered =
     }
 
 abbrev group : ℕ → ℕ → Group
-group begun gathered = groupWith 48 begun gathered
+group begun gathered = group_with 48 begun gathered
 
 abbrev step : (had failed count next joined since later breaks odd : ℕ) → Step
 step had failed count next joined since later breaks odd =
@@ -35,7 +35,7 @@ step had failed count next joined since later breaks odd =
       next = next;
       joined = joined;
       ever_since = since;
-      joined_at = later;
+      joined_at_lem = later;
       whole = 9;
       breaks = breaks;
       odd = odd;
@@ -54,7 +54,7 @@ abbrev begun : Group
 begun = group 1 1
 
 fails : Pinned
-unfolding allOpen
+unfolding all_open
 fails =
     pins "'port recorded unreadable, its step lost'; something can follow before the beginning, and of a port that was in step (01, 'Step', 'Beginning', 'Window')"
     (row "a flagged frame of a port in step: 10, its step is lost, and something can follow" (taken_of begun (step 0 0 33 905 6 7 8 3 1) true false 0x09) (dropped (step 1 1 0 0 0 0 0 0 0) 10 false true) same
@@ -63,7 +63,7 @@ fails =
     ∷ [])
 
 counting : Pinned
-unfolding allOpen
+unfolding all_open
 counting =
     pins "12: the run goes on or begins anew, and then the frame's nibble is kept, or it ends; 'losing step undoes' joining (01, 'Step', 'Beginning', 'Window')"
     (row "a sixth right frame counts on" (taken_of begun (step 0 1 5 853 6 7 8 0 0) false false 0x75) (dropped (step 1 0 6 854 0 0 0 0 0) 12 true false) same
@@ -75,7 +75,7 @@ counting =
     ∷ [])
 
 dropping : Pinned
-unfolding allOpen
+unfolding all_open
 dropping =
     pins "'A frame in step of a port that has not joined is answered 0 and dropped', also an epoch's first frame behind the window or before it, and every frame before the beginning; the 32nd right frame is in step (01, 'Step', 'Beginning', 'Window')"
     (row "every frame before the beginning is dropped" (taken_of (group 0 1) (step 0 1 33 904 6 7 8 2 1) false false 0x78) (dropped (step 1 0 33 905 6 7 8 0 1) 0 true true) same
@@ -86,19 +86,19 @@ dropping =
     ∷ [])
 
 joins : Pinned
-unfolding allOpen
+unfolding all_open
 joins =
     pins "'A port joins at its first epoch start in the window': epoch 57's, or one or two epochs later, also where the window ends within that epoch (01, 'Step', 'Beginning', 'Window')"
     (row "at epoch 57's start" (taken_of begun (step 0 1 33 904 0 7 8 2 1) false false 0x78) (stored (step 1 0 33 905 1 7 0 0 1) 0 true false) same
     ∷ row "at epoch 58's, one later" (taken_of begun (step 0 1 33 920 0 7 8 2 1) false false 0x78) (stored (step 1 0 33 921 1 7 1 0 1) 16 true false) same
     ∷ row "at epoch 59's, two later, before the first epoch is gathered" (taken_of (group 1 0) (step 0 1 33 936 0 0 8 2 1) false false 0x78) (stored (step 1 0 33 937 1 0 2 0 1) 32 true false) same
-    ∷ row "where W is 20 and the window ends within epoch 58" (taken_of (groupWith 20 1 1) (step 0 1 33 920 0 7 8 2 1) false false 0x78) (stored (step 1 0 33 921 1 7 1 0 1) 16 true false) same
-    ∷ row "where W is 17 and its first frame alone is in the window" (taken_of (groupWith 17 1 1) (step 0 1 33 920 0 7 8 2 1) false false 0x78) (stored (step 1 0 33 921 1 7 1 0 1) 16 true false) same
-    ∷ row "where W is 16 and it is not" (taken_of (groupWith 16 1 1) (step 0 1 33 920 0 7 8 2 1) false false 0x78) (dropped (step 1 0 33 921 0 7 8 0 1) 0 true false) same
+    ∷ row "where W is 20 and the window ends within epoch 58" (taken_of (group_with 20 1 1) (step 0 1 33 920 0 7 8 2 1) false false 0x78) (stored (step 1 0 33 921 1 7 1 0 1) 16 true false) same
+    ∷ row "where W is 17 and its first frame alone is in the window" (taken_of (group_with 17 1 1) (step 0 1 33 920 0 7 8 2 1) false false 0x78) (stored (step 1 0 33 921 1 7 1 0 1) 16 true false) same
+    ∷ row "where W is 16 and it is not" (taken_of (group_with 16 1 1) (step 0 1 33 920 0 7 8 2 1) false false 0x78) (dropped (step 1 0 33 921 0 7 8 0 1) 0 true false) same
     ∷ [])
 
 stores : Pinned
-unfolding allOpen
+unfolding all_open
 stores =
     pins "'in the window when its tag is 0 to W-1 after the first', 11 leaves the state as given; the last frame of the epoch that is gathered is followed by the gathering (01, 'Step', 'Beginning', 'Window')"
     (row "47 after the first is stored" (taken_of begun (step 0 1 33 951 6 7 8 2 1) false false 0x77) (stored (step 1 0 33 952 6 7 8 0 0) 47 false false) same
@@ -110,9 +110,9 @@ stores =
     ∷ row "where the epoch is gathered already it is not" (taken_of begun (step 0 1 33 919 6 7 8 2 0) false false 0x77) (stored (step 1 0 33 920 6 7 8 0 0) 15 false false) same
     ∷ [])
 
-readable-ports : Pinned
-unfolding allOpen
-readable-ports =
+readable_ports : Pinned
+unfolding all_open
+readable_ports =
     pins "'It is readable while in step, if joined or in step ever since the beginning', and not before one (01, 'Step', 'Beginning', 'Window')"
     (row "in step and joined" (readable begun (step 1 0 32 853 1 0 0 0 0)) true same
     ∷ row "in step ever since the beginning" (readable begun (step 1 0 32 853 0 1 0 0 0)) true same

@@ -1,24 +1,24 @@
 -- Two circuits on one card (request 2026-06) and work orders (request 2026-07), call by call: three slots, group 0 from epoch 7 on, group 1 from epoch 9 on.
 use Rattle.std.specs.Prelude.{true, false, [], ◌∷◌, ◌++◌, ℕ, get_or, replicate, take}
-use Rattle.cards.specs.Answers.{answerNumber}
-use Rattle.cards.specs.Calls.{Call, outcomeOf}
+use Rattle.cards.specs.Answers.{answer_number}
+use Rattle.cards.specs.Calls.{Call, outcome_of}
 use Rattle.cards.specs.Calls.Call.{AddSlot, Claim, Lapse, Release, RemoveSlot, Report, StartEpoch}
 use Rattle.cards.specs.Commands.{start_of}
 use Rattle.cards.specs.declared.answers.Answer.TheVariants as A
 use Rattle.cards.specs.declared.card.Card.{Card}
-use Rattle.cards.specs.Owners.{hasOwner, isMarked, withOwner}
-use Rattle.cards.specs.Readings.{boardShown, outgoingShown, ownedShown, packetAnswer, packetBytes, payloadAnswer, payloadBytes, ranksShown}
+use Rattle.cards.specs.Owners.{has_owner, is_marked, with_owner}
+use Rattle.cards.specs.Readings.{board_shown, outgoing_shown, owned_shown, packet_answer, packet_bytes, payload_answer, payload_bytes, ranks_shown}
 use Rattle.cards.specs.Shown.{after, by}
-use Rattle.cards.specs.Views.{Asked, Made, askedBy, bits_of, replyTo, run}
+use Rattle.cards.specs.Views.{Asked, Made, asked_by, bits_of, reply_to, run}
 use Rattle.cards.specs.Views.Asked.{Board, Do, Outgoing, Owned, Packet, Payload, Ranks}
 use Rattle.cards.specs.Views.Reply.{Answered, Owns, Ranked, Showed, Wrote}
 use Rattle.pinned.specs.Filled.{nines}
-use Rattle.orders.specs.Orders.{finishOf, firstAnswers, firstOrdered, turnsOf}
+use Rattle.orders.specs.Orders.{finish_of, first_answers, first_ordered, turns_of}
 use Rattle.orders.specs.Shown.{add, claim, release, remove}
-use Rattle.orders.specs.Singles.{answersTo, commandsOf, singleNumbers}
+use Rattle.orders.specs.Singles.{answers_to, commands_of, single_numbers}
 use Rattle.sender.specs.declared.board.Row.{Row}
-use Rattle.sender.specs.Epochs.{beginOf}
-use Rattle.pinned.specs.Opened.{allOpen}
+use Rattle.sender.specs.Epochs.{begin_of}
+use Rattle.pinned.specs.Opened.{all_open}
 use Rattle.tables.specs.Rows.{Pinned, pins, row, same}
 
 abbrev fresh : Card
@@ -30,13 +30,13 @@ claimed = run fresh (by 0 (Claim 0) ∷ by 1 (Claim 1) ∷ [])
 
 -- three slots for group 0 and five for group 1, which no call leaves
 abbrev unlike : Card
-unlike = record { owners = replicate 64 0; first = (beginOf 0 3 7).sender; second = (beginOf 0 5 9).sender }
+unlike = record { owners = replicate 64 0; first = (begin_of 0 3 7).sender; second = (begin_of 0 5 9).sender }
 
 abbrev told : (c : Card) (group : ℕ) (k : Call) → ℕ
-told c g k = answerNumber (outcomeOf c g k).answer
+told c g k = answer_number (outcome_of c g k).answer
 
 answers : Pinned
-unfolding allOpen
+unfolding all_open
 answers =
     pins "1 for the group or the slot, then 14, then 15, then the sender's own numbers (request 2026-06)."
     (row "a claim of slot 3 of three" (told fresh 0 (Claim 3)) 1 same
@@ -68,13 +68,13 @@ answers =
     ∷ [])
 
 starts : Pinned
-unfolding allOpen
+unfolding all_open
 starts =
     pins "A start out of range is 4 and leaves both groups empty; else each group begins with its own epoch, and nobody owns a slot (request 2026-06)."
-    (row "65 slots" (answerNumber (start_of 0 65 7 9).answer) 4 same
+    (row "65 slots" (answer_number (start_of 0 65 7 9).answer) 4 same
     ∷ row "group 0 is empty then" (start_of 0 65 7 9).card.first.table.count 0 same
     ∷ row "group 1 is empty then" (start_of 0 65 7 9).card.second.table.count 0 same
-    ∷ row "64 slots" (answerNumber (start_of 0 64 7 9).answer) 0 same
+    ∷ row "64 slots" (answer_number (start_of 0 64 7 9).answer) 0 same
     ∷ row "nobody owns one" (start_of 0 64 7 9).card.owners (replicate 64 0) same
     ∷ row "group 0's first epoch" (start_of 0 64 7 9).card.first.epoch 7 same
     ∷ row "group 1's first epoch" (start_of 0 64 7 9).card.second.epoch 9 same
@@ -83,22 +83,22 @@ starts =
     ∷ [])
 
 owners : Pinned
-unfolding allOpen
+unfolding all_open
 owners =
     pins "An owner's byte: 0 nobody, 1 group 0, 2 group 1, any other byte nobody (request 2026-06)."
-    (row "0 is no owner" (hasOwner (0 ∷ 1 ∷ 2 ∷ 3 ∷ []) 0) false same
-    ∷ row "1 is one" (hasOwner (0 ∷ 1 ∷ 2 ∷ 3 ∷ []) 1) true same
-    ∷ row "2 is one" (hasOwner (0 ∷ 1 ∷ 2 ∷ 3 ∷ []) 2) true same
-    ∷ row "3 is none" (hasOwner (0 ∷ 1 ∷ 2 ∷ 3 ∷ []) 3) false same
-    ∷ row "group 0 has what is marked 1" (isMarked (0 ∷ 1 ∷ 2 ∷ 3 ∷ []) 0 1) true same
-    ∷ row "group 1 has what is marked 2" (isMarked (0 ∷ 1 ∷ 2 ∷ 3 ∷ []) 1 2) true same
-    ∷ row "group 1 has not what is marked 1" (isMarked (0 ∷ 1 ∷ 2 ∷ 3 ∷ []) 1 1) false same
-    ∷ row "slot 63 is marked" (withOwner (replicate 64 1) 63 2) (replicate 63 1 ++ (2 ∷ [])) same
+    (row "0 is no owner" (has_owner (0 ∷ 1 ∷ 2 ∷ 3 ∷ []) 0) false same
+    ∷ row "1 is one" (has_owner (0 ∷ 1 ∷ 2 ∷ 3 ∷ []) 1) true same
+    ∷ row "2 is one" (has_owner (0 ∷ 1 ∷ 2 ∷ 3 ∷ []) 2) true same
+    ∷ row "3 is none" (has_owner (0 ∷ 1 ∷ 2 ∷ 3 ∷ []) 3) false same
+    ∷ row "group 0 has what is marked 1" (is_marked (0 ∷ 1 ∷ 2 ∷ 3 ∷ []) 0 1) true same
+    ∷ row "group 1 has what is marked 2" (is_marked (0 ∷ 1 ∷ 2 ∷ 3 ∷ []) 1 2) true same
+    ∷ row "group 1 has not what is marked 1" (is_marked (0 ∷ 1 ∷ 2 ∷ 3 ∷ []) 1 1) false same
+    ∷ row "slot 63 is marked" (with_owner (replicate 64 1) 63 2) (replicate 63 1 ++ (2 ∷ [])) same
     ∷ row "after claims by both groups" claimed.owners (1 ∷ 2 ∷ replicate 62 0) same
     ∷ row "after a release" (run claimed (by 1 (Release 1) ∷ [])).owners (1 ∷ replicate 63 0) same
-    ∷ row "what group 0 owns" (ownedShown claimed 0).owned (1 ∷ replicate 63 0) same
-    ∷ row "what group 1 owns" (ownedShown claimed 1).owned (0 ∷ 1 ∷ replicate 62 0) same
-    ∷ row "what group 2 owns" (ownedShown claimed 2).owned (replicate 64 0) same
+    ∷ row "what group 0 owns" (owned_shown claimed 0).owned (1 ∷ replicate 63 0) same
+    ∷ row "what group 1 owns" (owned_shown claimed 1).owned (0 ∷ 1 ∷ replicate 62 0) same
+    ∷ row "what group 2 owns" (owned_shown claimed 2).owned (replicate 64 0) same
     ∷ [])
 
 -- group 0's slot 0 is active and in its second epoch, 8; group 1's slot 1 is ADD and in its first, 9
@@ -115,17 +115,17 @@ abbrev no_row : Row
 no_row = record { word = record { 0 = 0 }; number = 99 }
 
 abbrev number : (group slot n : ℕ) → ℕ
-number g i n = answerNumber (packetAnswer sending g i (nines n))
+number g i n = answer_number (packet_answer sending g i (nines n))
 
 packets : Pinned
-unfolding allOpen
+unfolding all_open
 packets =
     pins "A packet is of the group that owns the slot, in its own epoch: EOS 0 of group 0 in epoch 8 with GID 0, MST FF and RS-Ack 0, CRC EC; ADD 0 of group 1 in epoch 9 with MST 3C, CRC 80 (request 2026-06)."
-    (row "group 0's slot 0" (packetBytes sending 0 0 (nines 16)) (0xF8 ∷ 0xF9 ∷ 0x0A ∷ 0x0B ∷ 0x0C ∷ 0x0D ∷ 0x0E ∷ 0x0F ∷ 0x00 ∷ 0x81 ∷ 0x32 ∷ 0x03 ∷ 0x04 ∷ 0x05 ∷ 0xE6 ∷ 0xC7 ∷ []) same
-    ∷ row "group 1's slot 1" (packetBytes sending 1 1 (nines 16)) (0x38 ∷ 0xC9 ∷ 0x0A ∷ 0x0B ∷ 0x0C ∷ 0x0D ∷ 0x0E ∷ 0x0F ∷ 0x00 ∷ 0x91 ∷ 0x12 ∷ 0x03 ∷ 0x04 ∷ 0x05 ∷ 0x86 ∷ 0x07 ∷ []) same
-    ∷ row "the other group's slot leaves the bytes" (packetBytes sending 0 1 (nines 16)) (nines 16) same
-    ∷ row "slot 3 leaves the bytes" (packetBytes sending 0 3 (nines 16)) (nines 16) same
-    ∷ row "group 2 leaves the bytes" (packetBytes sending 2 1 (nines 16)) (nines 16) same
+    (row "group 0's slot 0" (packet_bytes sending 0 0 (nines 16)) (0xF8 ∷ 0xF9 ∷ 0x0A ∷ 0x0B ∷ 0x0C ∷ 0x0D ∷ 0x0E ∷ 0x0F ∷ 0x00 ∷ 0x81 ∷ 0x32 ∷ 0x03 ∷ 0x04 ∷ 0x05 ∷ 0xE6 ∷ 0xC7 ∷ []) same
+    ∷ row "group 1's slot 1" (packet_bytes sending 1 1 (nines 16)) (0x38 ∷ 0xC9 ∷ 0x0A ∷ 0x0B ∷ 0x0C ∷ 0x0D ∷ 0x0E ∷ 0x0F ∷ 0x00 ∷ 0x91 ∷ 0x12 ∷ 0x03 ∷ 0x04 ∷ 0x05 ∷ 0x86 ∷ 0x07 ∷ []) same
+    ∷ row "the other group's slot leaves the bytes" (packet_bytes sending 0 1 (nines 16)) (nines 16) same
+    ∷ row "slot 3 leaves the bytes" (packet_bytes sending 0 3 (nines 16)) (nines 16) same
+    ∷ row "group 2 leaves the bytes" (packet_bytes sending 2 1 (nines 16)) (nines 16) same
     ∷ row "group 0's slot is answered 0" (number 0 0 16) 0 same
     ∷ row "group 1's slot is answered 0" (number 1 1 16) 0 same
     ∷ row "group 1's slot to group 0 is 14" (number 0 1 16) 14 same
@@ -134,29 +134,29 @@ packets =
     ∷ row "slot 3 is 1" (number 0 3 16) 1 same
     ∷ row "group 2 is 1" (number 2 0 16) 1 same
     ∷ row "fifteen bytes lent are 9" (number 0 0 15) 9 same
-    ∷ row "before the first epoch it is 2" (answerNumber (packetAnswer claimed 0 0 (nines 16))) 2 same
-    ∷ row "the same member on another slot" (packetBytes other 1 2 (nines 16)) (packetBytes sending 1 1 (nines 16)) same
-    ∷ row "what the other group owns leaves the bytes" (packetBytes other 1 1 (nines 16)) (nines 16) same
-    ∷ row "another slot is answered 0" (answerNumber (packetAnswer other 1 2 (nines 16))) 0 same
-    ∷ row "another slot to the other group is 14" (answerNumber (packetAnswer other 0 2 (nines 16))) 14 same
+    ∷ row "before the first epoch it is 2" (answer_number (packet_answer claimed 0 0 (nines 16))) 2 same
+    ∷ row "the same member on another slot" (packet_bytes other 1 2 (nines 16)) (packet_bytes sending 1 1 (nines 16)) same
+    ∷ row "what the other group owns leaves the bytes" (packet_bytes other 1 1 (nines 16)) (nines 16) same
+    ∷ row "another slot is answered 0" (answer_number (packet_answer other 1 2 (nines 16))) 0 same
+    ∷ row "another slot to the other group is 14" (answer_number (packet_answer other 0 2 (nines 16))) 14 same
     ∷ [])
 
 replies : Pinned
-unfolding allOpen
+unfolding all_open
 replies =
     pins "What each call gives back: its answer, and what it writes or shows (request 2026-06)."
-    (row "a claim of what is owned" (replyTo claimed 1 (Do (Claim 0))) (Answered A.Owned) same
-    ∷ row "a packet into fifteen bytes" (replyTo claimed 1 (Packet 1 (replicate 15 9))) (Wrote A.Length (replicate 15 9)) same
-    ∷ row "a packet of the other group's slot" (replyTo claimed 1 (Packet 0 (replicate 16 9))) (Wrote A.Owned (replicate 16 9)) same
-    ∷ row "a packet of slot 3" (replyTo claimed 0 (Packet 3 (replicate 16 9))) (Wrote A.NoSlot (replicate 16 9)) same
-    ∷ row "a payload with a P of 2,341" (replyTo claimed 1 (Payload 1 2341 (9 ∷ []) (8 ∷ []))) (Wrote A.OutOfRange (8 ∷ [])) same
-    ∷ row "a payload with a frame of another length" (replyTo claimed 1 (Payload 1 2 (9 ∷ []) (8 ∷ 8 ∷ []))) (Wrote A.Length (8 ∷ 8 ∷ [])) same
-    ∷ row "group 0's board" (replyTo claimed 0 Board) (Showed (boardShown claimed 0)) same
-    ∷ row "group 1's board" (replyTo claimed 1 Board) (Showed (boardShown claimed 1)) same
-    ∷ row "the board going out" (replyTo claimed 1 Outgoing) (Showed (outgoingShown claimed 1)) same
-    ∷ row "ranks" (replyTo claimed 1 Ranks) (Ranked (ranksShown claimed 1)) same
-    ∷ row "what group 0 owns" (replyTo claimed 0 Owned) (Owns (ownedShown claimed 0)) same
-    ∷ row "what group 1 owns" (replyTo claimed 1 Owned) (Owns (ownedShown claimed 1)) same
+    (row "a claim of what is owned" (reply_to claimed 1 (Do (Claim 0))) (Answered A.Owned) same
+    ∷ row "a packet into fifteen bytes" (reply_to claimed 1 (Packet 1 (replicate 15 9))) (Wrote A.Length (replicate 15 9)) same
+    ∷ row "a packet of the other group's slot" (reply_to claimed 1 (Packet 0 (replicate 16 9))) (Wrote A.Owned (replicate 16 9)) same
+    ∷ row "a packet of slot 3" (reply_to claimed 0 (Packet 3 (replicate 16 9))) (Wrote A.NoSlot (replicate 16 9)) same
+    ∷ row "a payload with a P of 2,341" (reply_to claimed 1 (Payload 1 2341 (9 ∷ []) (8 ∷ []))) (Wrote A.OutOfRange (8 ∷ [])) same
+    ∷ row "a payload with a frame of another length" (reply_to claimed 1 (Payload 1 2 (9 ∷ []) (8 ∷ 8 ∷ []))) (Wrote A.Length (8 ∷ 8 ∷ [])) same
+    ∷ row "group 0's board" (reply_to claimed 0 Board) (Showed (board_shown claimed 0)) same
+    ∷ row "group 1's board" (reply_to claimed 1 Board) (Showed (board_shown claimed 1)) same
+    ∷ row "the board going out" (reply_to claimed 1 Outgoing) (Showed (outgoing_shown claimed 1)) same
+    ∷ row "ranks" (reply_to claimed 1 Ranks) (Ranked (ranks_shown claimed 1)) same
+    ∷ row "what group 0 owns" (reply_to claimed 0 Owned) (Owns (owned_shown claimed 0)) same
+    ∷ row "what group 1 owns" (reply_to claimed 1 Owned) (Owns (owned_shown claimed 1)) same
     ∷ [])
 
 -- slots 1 and 2 are group 0's and active, slot 1 under number 0 and slot 2 under 1
@@ -164,100 +164,100 @@ abbrev pair : Card
 pair = run fresh (by 0 (Claim 1) ∷ by 0 (Claim 2) ∷ by 0 (AddSlot 1) ∷ by 0 (AddSlot 2) ∷ by 0 (Report 0 0x00 0) ∷ by 0 (StartEpoch 0 0xFF 0) ∷ by 0 (StartEpoch 0 0xFF 0) ∷ [])
 
 payloads : Pinned
-unfolding allOpen
+unfolding all_open
 payloads =
     pins "Payload goes by the ranks of the group that owns the slot: X is 1 in group 0 and 0 in group 1, whose slot has no rank yet; with two members the bytes go by turns (request 2026-06)."
-    (row "group 0's only member" (payloadBytes sending 0 0 2 (10 ∷ 11 ∷ []) (nines 2)) (10 ∷ 11 ∷ []) same
-    ∷ row "a slot with no rank carries zeros" (payloadBytes sending 1 1 2 [] (nines 2)) (0 ∷ 0 ∷ []) same
-    ∷ row "the first of two members" (payloadBytes pair 0 1 2 (10 ∷ 11 ∷ 12 ∷ 13 ∷ []) (nines 2)) (10 ∷ 12 ∷ []) same
-    ∷ row "the second of two members" (payloadBytes pair 0 2 2 (10 ∷ 11 ∷ 12 ∷ 13 ∷ []) (nines 2)) (11 ∷ 13 ∷ []) same
-    ∷ row "group 0's slot to group 1 leaves the bytes" (payloadBytes sending 1 0 2 (10 ∷ 11 ∷ []) (nines 2)) (nines 2) same
-    ∷ row "slot 3 leaves the bytes" (payloadBytes sending 0 3 2 (10 ∷ 11 ∷ []) (nines 2)) (nines 2) same
-    ∷ row "group 2 leaves the bytes" (payloadBytes sending 2 1 2 (10 ∷ 11 ∷ []) (nines 2)) (nines 2) same
-    ∷ row "group 0's only member is answered 0" (answerNumber (payloadAnswer sending 0 0 2 2 2)) 0 same
-    ∷ row "a frame of three bytes is 9" (answerNumber (payloadAnswer sending 0 0 2 3 2)) 9 same
-    ∷ row "three bytes lent are 9" (answerNumber (payloadAnswer sending 0 0 2 2 3)) 9 same
-    ∷ row "a P of 2,341 is 4" (answerNumber (payloadAnswer sending 0 0 2341 2 2)) 4 same
-    ∷ row "the other group's slot is 14" (answerNumber (payloadAnswer sending 1 0 2 2 2)) 14 same
-    ∷ row "nobody's slot is 14" (answerNumber (payloadAnswer sending 0 2 2 2 2)) 14 same
-    ∷ row "slot 3 is 1" (answerNumber (payloadAnswer sending 0 3 2 2 2)) 1 same
-    ∷ row "group 2 is 1" (answerNumber (payloadAnswer sending 2 0 2 2 2)) 1 same
-    ∷ row "before the first epoch it is 2" (answerNumber (payloadAnswer claimed 0 0 2 0 2)) 2 same
-    ∷ row "with no frame the other group's slot leaves the bytes" (payloadBytes sending 1 0 2 [] (nines 2)) (nines 2) same
-    ∷ row "with no frame slot 3 does" (payloadBytes sending 1 3 2 [] (nines 2)) (nines 2) same
-    ∷ row "with no frame group 2 does" (payloadBytes sending 2 1 2 [] (nines 2)) (nines 2) same
-    ∷ row "a slot with no rank on another card" (payloadBytes other 1 2 2 [] (nines 2)) (0 ∷ 0 ∷ []) same
-    ∷ row "the other group's there leaves the bytes" (payloadBytes other 0 2 2 [] (nines 2)) (nines 2) same
-    ∷ row "another slot is answered 0" (answerNumber (payloadAnswer other 1 2 2 0 2)) 0 same
-    ∷ row "another slot to the other group is 14" (answerNumber (payloadAnswer other 0 2 2 0 2)) 14 same
+    (row "group 0's only member" (payload_bytes sending 0 0 2 (10 ∷ 11 ∷ []) (nines 2)) (10 ∷ 11 ∷ []) same
+    ∷ row "a slot with no rank carries zeros" (payload_bytes sending 1 1 2 [] (nines 2)) (0 ∷ 0 ∷ []) same
+    ∷ row "the first of two members" (payload_bytes pair 0 1 2 (10 ∷ 11 ∷ 12 ∷ 13 ∷ []) (nines 2)) (10 ∷ 12 ∷ []) same
+    ∷ row "the second of two members" (payload_bytes pair 0 2 2 (10 ∷ 11 ∷ 12 ∷ 13 ∷ []) (nines 2)) (11 ∷ 13 ∷ []) same
+    ∷ row "group 0's slot to group 1 leaves the bytes" (payload_bytes sending 1 0 2 (10 ∷ 11 ∷ []) (nines 2)) (nines 2) same
+    ∷ row "slot 3 leaves the bytes" (payload_bytes sending 0 3 2 (10 ∷ 11 ∷ []) (nines 2)) (nines 2) same
+    ∷ row "group 2 leaves the bytes" (payload_bytes sending 2 1 2 (10 ∷ 11 ∷ []) (nines 2)) (nines 2) same
+    ∷ row "group 0's only member is answered 0" (answer_number (payload_answer sending 0 0 2 2 2)) 0 same
+    ∷ row "a frame of three bytes is 9" (answer_number (payload_answer sending 0 0 2 3 2)) 9 same
+    ∷ row "three bytes lent are 9" (answer_number (payload_answer sending 0 0 2 2 3)) 9 same
+    ∷ row "a P of 2,341 is 4" (answer_number (payload_answer sending 0 0 2341 2 2)) 4 same
+    ∷ row "the other group's slot is 14" (answer_number (payload_answer sending 1 0 2 2 2)) 14 same
+    ∷ row "nobody's slot is 14" (answer_number (payload_answer sending 0 2 2 2 2)) 14 same
+    ∷ row "slot 3 is 1" (answer_number (payload_answer sending 0 3 2 2 2)) 1 same
+    ∷ row "group 2 is 1" (answer_number (payload_answer sending 2 0 2 2 2)) 1 same
+    ∷ row "before the first epoch it is 2" (answer_number (payload_answer claimed 0 0 2 0 2)) 2 same
+    ∷ row "with no frame the other group's slot leaves the bytes" (payload_bytes sending 1 0 2 [] (nines 2)) (nines 2) same
+    ∷ row "with no frame slot 3 does" (payload_bytes sending 1 3 2 [] (nines 2)) (nines 2) same
+    ∷ row "with no frame group 2 does" (payload_bytes sending 2 1 2 [] (nines 2)) (nines 2) same
+    ∷ row "a slot with no rank on another card" (payload_bytes other 1 2 2 [] (nines 2)) (0 ∷ 0 ∷ []) same
+    ∷ row "the other group's there leaves the bytes" (payload_bytes other 0 2 2 [] (nines 2)) (nines 2) same
+    ∷ row "another slot is answered 0" (answer_number (payload_answer other 1 2 2 0 2)) 0 same
+    ∷ row "another slot to the other group is 14" (answer_number (payload_answer other 0 2 2 0 2)) 14 same
     ∷ [])
 
 shown : Pinned
-unfolding allOpen
+unfolding all_open
 shown =
     pins "Boards and ranks are shown of each group by itself, as the sender shows them (request 2026-06)."
-    (row "as many slots as the card has" (outgoingShown sending 0).board.count 3 same
-    ∷ row "group 0's epoch" (ranksShown sending 0).ranks.epoch 8 same
-    ∷ row "group 0's X" (ranksShown sending 0).ranks.x 1 same
-    ∷ row "group 0's ranks" (take 3 (ranksShown sending 0).ranks.ranks) (0 ∷ 255 ∷ 255 ∷ []) same
-    ∷ row "group 1's epoch" (ranksShown sending 1).ranks.epoch 9 same
-    ∷ row "group 1's X" (ranksShown sending 1).ranks.x 0 same
-    ∷ row "group 1's ranks are answered 0" (answerNumber (ranksShown sending 1).answer) 0 same
-    ∷ row "group 2's board is answered 1" (answerNumber (boardShown sending 2).answer) 1 same
-    ∷ row "group 1's number going out" (get_or (outgoingShown sending 1).board.rows 1 no_row).number 0 same
-    ∷ row "group 1's number of an IDLE slot" (get_or (boardShown claimed 1).board.rows 1 no_row).number 255 same
+    (row "as many slots as the card has" (outgoing_shown sending 0).board.count 3 same
+    ∷ row "group 0's epoch" (ranks_shown sending 0).ranks.epoch 8 same
+    ∷ row "group 0's X" (ranks_shown sending 0).ranks.x 1 same
+    ∷ row "group 0's ranks" (take 3 (ranks_shown sending 0).ranks.ranks) (0 ∷ 255 ∷ 255 ∷ []) same
+    ∷ row "group 1's epoch" (ranks_shown sending 1).ranks.epoch 9 same
+    ∷ row "group 1's X" (ranks_shown sending 1).ranks.x 0 same
+    ∷ row "group 1's ranks are answered 0" (answer_number (ranks_shown sending 1).answer) 0 same
+    ∷ row "group 2's board is answered 1" (answer_number (board_shown sending 2).answer) 1 same
+    ∷ row "group 1's number going out" (get_or (outgoing_shown sending 1).board.rows 1 no_row).number 0 same
+    ∷ row "group 1's number of an IDLE slot" (get_or (board_shown claimed 1).board.rows 1 no_row).number 255 same
     ∷ [])
 
 abbrev asks : Asked → Made
 asks k = record { group = 1; asked = k }
 
 others : Pinned
-unfolding allOpen
+unfolding all_open
 others =
     pins "Of the other group a group learns one bit: on a claim, that the other owns the slot (request 2026-06)."
     (row "group 1's calls, of which one meets the other's slot" (bits_of 1 claimed (by 1 (Claim 0) ∷ by 1 (Claim 2) ∷ by 1 (Claim 1) ∷ by 1 (Release 0) ∷ by 0 (Claim 1) ∷ [])) (true ∷ false ∷ false ∷ false ∷ []) same
     ∷ row "group 0's" (bits_of 0 claimed (by 0 (Claim 1) ∷ by 0 (Claim 0) ∷ [])) (true ∷ false ∷ []) same
-    ∷ row "group 1's calls among three" (askedBy 1 (by 1 (Claim 0) ∷ by 0 (Claim 1) ∷ by 1 Lapse ∷ [])) (Do (Claim 0) ∷ Do Lapse ∷ []) same
+    ∷ row "group 1's calls among three" (asked_by 1 (by 1 (Claim 0) ∷ by 0 (Claim 1) ∷ by 1 Lapse ∷ [])) (Do (Claim 0) ∷ Do Lapse ∷ []) same
     ∷ row "group 1's on another card" (bits_of 1 other (by 1 (Claim 1) ∷ by 1 (Claim 2) ∷ [])) (true ∷ false ∷ []) same
     ∷ row "group 0's on another card" (bits_of 0 other (by 0 (Claim 2) ∷ by 0 (Claim 1) ∷ [])) (true ∷ false ∷ []) same
     ∷ row "no other call has the bit set" (bits_of 1 claimed (by 1 (AddSlot 0) ∷ by 1 (RemoveSlot 0) ∷ by 1 (Report 0 0 0) ∷ by 1 Lapse ∷ by 1 (StartEpoch 0 0 0) ∷ asks (Packet 0 []) ∷ asks (Payload 0 1 [] []) ∷ asks Board ∷ asks Outgoing ∷ asks Ranks ∷ asks Owned ∷ [])) (replicate 11 false) same
     ∷ [])
 
 orders : Pinned
-unfolding allOpen
+unfolding all_open
 orders =
     pins "An order is the first n commands of at most 64, each as if it came alone; 65, or a list of another length, are 9, and nothing is done (request 2026-07)."
-    (row "the first of two" (answerNumber (firstOrdered fresh (claim 0 0 ∷ add 0 0 ∷ []) 1 1).answer) 0 same
-    ∷ row "the first of two, and only the first" (firstOrdered fresh (claim 0 0 ∷ claim 0 1 ∷ []) 1 1).card.owners (1 ∷ replicate 63 0) same
-    ∷ row "two of one are 9" (answerNumber (firstOrdered fresh (claim 0 0 ∷ add 0 0 ∷ []) 1 2).answer) 9 same
-    ∷ row "65 are 9" (answerNumber (firstOrdered fresh (replicate 65 (claim 0 0)) 65 65).answer) 9 same
-    ∷ row "65 are 9, and nobody owns a slot" (firstOrdered fresh (replicate 65 (claim 0 0)) 65 65).card.owners (replicate 64 0) same
-    ∷ row "64 are taken" (answerNumber (firstOrdered fresh (replicate 65 (claim 0 0)) 64 64).answer) 0 same
-    ∷ row "65 answers lent stay" (firstAnswers fresh (claim 0 0 ∷ []) 65 (7 ∷ [])) (7 ∷ []) same
-    ∷ row "group 1 in an order" (firstOrdered fresh (claim 1 1 ∷ []) 1 1).card.owners (0 ∷ 2 ∷ replicate 62 0) same
-    ∷ row "three turns of three" (turnsOf 3 3) 3 same
-    ∷ row "none of three where two are lent" (turnsOf 3 2) 0 same
-    ∷ row "the answer after all turns" (finishOf fresh 3 3).answer A.Done same
-    ∷ row "the answer where two are lent" (finishOf fresh 3 2).answer A.Length same
-    ∷ row "each answered as if alone" (singleNumbers fresh (claim 0 0 ∷ add 0 0 ∷ release 0 0 ∷ remove 1 0 ∷ [])) (0 ∷ 0 ∷ 15 ∷ 14 ∷ []) same
-    ∷ row "group 1's commands among three" (commandsOf 1 (claim 0 0 ∷ claim 1 1 ∷ claim 0 2 ∷ [])) (claim 1 1 ∷ []) same
-    ∷ row "group 1's commands among three, their answers" (answersTo 1 (claim 0 0 ∷ claim 1 1 ∷ claim 0 2 ∷ []) (4 ∷ 5 ∷ 6 ∷ [])) (5 ∷ []) same
-    ∷ row "none of two where three are lent" (turnsOf 2 3) 0 same
-    ∷ row "the answer there" (finishOf fresh 2 3).answer A.Length same
-    ∷ row "a slot that changes hands in one order" (singleNumbers fresh (claim 0 2 ∷ add 0 2 ∷ remove 0 2 ∷ release 0 2 ∷ claim 1 2 ∷ [])) (0 ∷ 0 ∷ 0 ∷ 0 ∷ 0 ∷ []) same
-    ∷ row "group 1's commands among two" (commandsOf 1 (claim 0 1 ∷ claim 1 0 ∷ [])) (claim 1 0 ∷ []) same
-    ∷ row "group 1's commands among two, their answers" (answersTo 1 (claim 0 1 ∷ claim 1 0 ∷ []) (4 ∷ 5 ∷ [])) (5 ∷ []) same
-    ∷ row "64 answers" (firstAnswers fresh (replicate 64 (claim 0 3)) 64 (replicate 64 7)) (replicate 64 1) same
+    (row "the first of two" (answer_number (first_ordered fresh (claim 0 0 ∷ add 0 0 ∷ []) 1 1).answer) 0 same
+    ∷ row "the first of two, and only the first" (first_ordered fresh (claim 0 0 ∷ claim 0 1 ∷ []) 1 1).card.owners (1 ∷ replicate 63 0) same
+    ∷ row "two of one are 9" (answer_number (first_ordered fresh (claim 0 0 ∷ add 0 0 ∷ []) 1 2).answer) 9 same
+    ∷ row "65 are 9" (answer_number (first_ordered fresh (replicate 65 (claim 0 0)) 65 65).answer) 9 same
+    ∷ row "65 are 9, and nobody owns a slot" (first_ordered fresh (replicate 65 (claim 0 0)) 65 65).card.owners (replicate 64 0) same
+    ∷ row "64 are taken" (answer_number (first_ordered fresh (replicate 65 (claim 0 0)) 64 64).answer) 0 same
+    ∷ row "65 answers lent stay" (first_answers fresh (claim 0 0 ∷ []) 65 (7 ∷ [])) (7 ∷ []) same
+    ∷ row "group 1 in an order" (first_ordered fresh (claim 1 1 ∷ []) 1 1).card.owners (0 ∷ 2 ∷ replicate 62 0) same
+    ∷ row "three turns of three" (turns_of 3 3) 3 same
+    ∷ row "none of three where two are lent" (turns_of 3 2) 0 same
+    ∷ row "the answer after all turns" (finish_of fresh 3 3).answer A.Done same
+    ∷ row "the answer where two are lent" (finish_of fresh 3 2).answer A.Length same
+    ∷ row "each answered as if alone" (single_numbers fresh (claim 0 0 ∷ add 0 0 ∷ release 0 0 ∷ remove 1 0 ∷ [])) (0 ∷ 0 ∷ 15 ∷ 14 ∷ []) same
+    ∷ row "group 1's commands among three" (commands_of 1 (claim 0 0 ∷ claim 1 1 ∷ claim 0 2 ∷ [])) (claim 1 1 ∷ []) same
+    ∷ row "group 1's commands among three, their answers" (answers_to 1 (claim 0 0 ∷ claim 1 1 ∷ claim 0 2 ∷ []) (4 ∷ 5 ∷ 6 ∷ [])) (5 ∷ []) same
+    ∷ row "none of two where three are lent" (turns_of 2 3) 0 same
+    ∷ row "the answer there" (finish_of fresh 2 3).answer A.Length same
+    ∷ row "a slot that changes hands in one order" (single_numbers fresh (claim 0 2 ∷ add 0 2 ∷ remove 0 2 ∷ release 0 2 ∷ claim 1 2 ∷ [])) (0 ∷ 0 ∷ 0 ∷ 0 ∷ 0 ∷ []) same
+    ∷ row "group 1's commands among two" (commands_of 1 (claim 0 1 ∷ claim 1 0 ∷ [])) (claim 1 0 ∷ []) same
+    ∷ row "group 1's commands among two, their answers" (answers_to 1 (claim 0 1 ∷ claim 1 0 ∷ []) (4 ∷ 5 ∷ [])) (5 ∷ []) same
+    ∷ row "64 answers" (first_answers fresh (replicate 64 (claim 0 3)) 64 (replicate 64 7)) (replicate 64 1) same
     ∷ [])
 
 -- two slots, of which group 1 has the second and adds it
 abbrev adding : Card
 adding = after 2 (by 1 (Claim 1) ∷ by 1 (AddSlot 1) ∷ [])
 
-two-groups : Pinned
-unfolding allOpen
-two-groups =
+two_groups : Pinned
+unfolding all_open
+two_groups =
     pins "There are two groups, each with its own epochs; any other is answered 1 and shown nothing (request 2026-06)"
     (row "each group begins with its own first epoch" (let c = (start_of 0 2 7 9).card in c.first.epoch ∷ c.second.epoch ∷ []) (7 ∷ 9 ∷ []) same
-    ∷ row "a group other than the two is answered 1 and shown an empty board, no ranks and no slot, group 1 its two slots" (answerNumber (boardShown adding 2).answer ∷ (boardShown adding 2).board.count ∷ answerNumber (outgoingShown adding 2).answer ∷ (outgoingShown adding 2).board.count ∷ answerNumber (ranksShown adding 2).answer ∷ (ranksShown adding 2).ranks.count ∷ answerNumber (ownedShown adding 2).answer ∷ take 2 (ownedShown adding 2).owned ++ (answerNumber (boardShown adding 1).answer ∷ (boardShown adding 1).board.count ∷ take 2 (ownedShown adding 1).owned)) (1 ∷ 0 ∷ 1 ∷ 0 ∷ 1 ∷ 0 ∷ 1 ∷ 0 ∷ 0 ∷ 0 ∷ 2 ∷ 0 ∷ 1 ∷ []) same
+    ∷ row "a group other than the two is answered 1 and shown an empty board, no ranks and no slot, group 1 its two slots" (answer_number (board_shown adding 2).answer ∷ (board_shown adding 2).board.count ∷ answer_number (outgoing_shown adding 2).answer ∷ (outgoing_shown adding 2).board.count ∷ answer_number (ranks_shown adding 2).answer ∷ (ranks_shown adding 2).ranks.count ∷ answer_number (owned_shown adding 2).answer ∷ take 2 (owned_shown adding 2).owned ++ (answer_number (board_shown adding 1).answer ∷ (board_shown adding 1).board.count ∷ take 2 (owned_shown adding 1).owned)) (1 ∷ 0 ∷ 1 ∷ 0 ∷ 1 ∷ 0 ∷ 1 ∷ 0 ∷ 0 ∷ 0 ∷ 2 ∷ 0 ∷ 1 ∷ []) same
     ∷ [])

@@ -11,28 +11,28 @@ use Rattle.packet.specs.declared.layout.Fields.{Fields}
 use Rattle.packet.specs.declared.reader.Reading.{Reading}
 use Rattle.packet.specs.declared.reader.Reading.TheVariants.{Packet, Length, Crc, Fixed, Unassigned}
 use Rattle.packet.specs.declared.ruling.Ruling.{Ruling}
-use Rattle.packet.specs.Reading.{readFields}
-use Rattle.packet.specs.Ruling.{fieldsIn, refused, rulingBy}
+use Rattle.packet.specs.Reading.{read_fields}
+use Rattle.packet.specs.Ruling.{fields_in, refused, ruling_by}
 use Rattle.packet.specs.Words.{FIXED, assigned}
 use Rattle.receiver.specs.declared.seeing.Carried.{Carried}
-use Rattle.receiver.specs.Report.{rulingEpoch, seenOf}
-use Rattle.receiver.specs.Seen.{carriedAt, carriedBy, otherAt}
+use Rattle.receiver.specs.Report.{ruling_epoch, seen_of}
+use Rattle.receiver.specs.Seen.{carried_at, carried_by, other_at}
 use Rattle.rows.specs.declared.group.Group.{Group}
-use Rattle.rows.specs.Packets.{packetsAt}
-use Rattle.step.specs.Carried.{otherNumber, readingIn}
-use Rattle.step.specs.Theorems.Carried.{read_as, ruled-as-read}
-use Rattle.step.specs.OwnCount.{ownRuling}
+use Rattle.rows.specs.Packets.{packets_at}
+use Rattle.step.specs.Carried.{other_number, reading_in}
+use Rattle.step.specs.Theorems.Carried.{read_as, ruled_as_read}
+use Rattle.step.specs.OwnCount.{own_ruling}
 
 abbrev judged : Bool → Reading → Ruling
-judged other r = cond other refused (rulingBy r)
+judged other r = cond other refused (ruling_by r)
 
-judged-good : (other : Bool) (r : Reading) → (judged other r).good ≡ (not other && eqb (carriedBy r).answer 0)
-judged-good true r = refl
-judged-good false (Packet f) = refl
-judged-good false Length = refl
-judged-good false Crc = refl
-judged-good false Fixed = refl
-judged-good false Unassigned = refl
+judged_good : (other : Bool) (r : Reading) → (judged other r).good ≡ (not other && eqb (carried_by r).answer 0)
+judged_good true r = refl
+judged_good false (Packet f) = refl
+judged_good false Length = refl
+judged_good false Crc = refl
+judged_good false Fixed = refl
+judged_good false Unassigned = refl
 
 -- of a good one: word, number and GID
 record Same (q : Ruling) (c : Carried) : Type 0 where
@@ -40,64 +40,64 @@ record Same (q : Ruling) (c : Carried) : Type 0 where
   number : q.number ≡ c.number
   gid : q.gid ≡ c.gid
 
-judged-same : (other : Bool) (r : Reading) → (judged other r).good ≡ true → Same (judged other r) (carriedBy r)
-judged-same true r e = absurd (false≢true e)
-judged-same false (Packet f) e = record { word = refl; number = refl; gid = refl }
-judged-same false Length e = absurd (false≢true e)
-judged-same false Crc e = absurd (false≢true e)
-judged-same false Fixed e = absurd (false≢true e)
-judged-same false Unassigned e = absurd (false≢true e)
+judged_same : (other : Bool) (r : Reading) → (judged other r).good ≡ true → Same (judged other r) (carried_by r)
+judged_same true r e = absurd (false≢true e)
+judged_same false (Packet f) e = record { word = refl; number = refl; gid = refl }
+judged_same false Length e = absurd (false≢true e)
+judged_same false Crc e = absurd (false≢true e)
+judged_same false Fixed e = absurd (false≢true e)
+judged_same false Unassigned e = absurd (false≢true e)
 
 -- a packet that rules was read with 0
-pub read-good : (kind epoch : ℕ) (row : List ℕ) → (ownRuling kind epoch row).good ≡ true → (carriedBy (readingIn kind row)).answer ≡ 0
-read-good kind epoch row e =
-    let other : Bool = otherNumber kind epoch row in
-    let good : (not other && eqb (carriedBy (readingIn kind row)).answer 0) ≡ true =
-    sym (judged-good other (readingIn kind row)) ∙ (rw (ruled-as-read kind epoch row) at e) in
-    eqb-true (carriedBy (readingIn kind row)).answer 0 (and_right (not other) (eqb (carriedBy (readingIn kind row)).answer 0) good)
+pub read_good : (kind epoch : ℕ) (row : List ℕ) → (own_ruling kind epoch row).good ≡ true → (carried_by (reading_in kind row)).answer ≡ 0
+read_good kind epoch row e =
+    let other : Bool = other_number kind epoch row in
+    let good : (not other && eqb (carried_by (reading_in kind row)).answer 0) ≡ true =
+    sym (judged_good other (reading_in kind row)) ∙ (rw (ruled_as_read kind epoch row) at e) in
+    eqb-true (carried_by (reading_in kind row)).answer 0 (and_right (not other) (eqb (carried_by (reading_in kind row)).answer 0) good)
 
 module _ (g : Group) (s : List (List ℕ)) (i : ℕ) where
   -- A packet is good exactly if it was read with 0 and carries no other number.
-  pub seen-good : (seenOf g s i).good ≡ (not (otherAt g s i) && eqb (carriedAt g s i).answer 0)
-  unfolding seenOf carriedAt
-  seen-good =
-      let row : List ℕ = get_or (packetsAt s i) 1 [] in
-      ap (λ (q : Ruling). q.good) (ruled-as-read g.kind (rulingEpoch g) row) ∙ judged-good (otherAt g s i) (readingIn g.kind row)
+  pub seen_good : (seen_of g s i).good ≡ (not (other_at g s i) && eqb (carried_at g s i).answer 0)
+  unfolding seen_of carried_at
+  seen_good =
+      let row : List ℕ = get_or (packets_at s i) 1 [] in
+      ap (λ (q : Ruling). q.good) (ruled_as_read g.kind (ruling_epoch g) row) ∙ judged_good (other_at g s i) (reading_in g.kind row)
 
-  same_seen : (seenOf g s i).good ≡ true → Same (judged (otherAt g s i) (readingIn g.kind (get_or (packetsAt s i) 1 []))) (carriedAt g s i)
-  unfolding seenOf carriedAt
+  same_seen : (seen_of g s i).good ≡ true → Same (judged (other_at g s i) (reading_in g.kind (get_or (packets_at s i) 1 []))) (carried_at g s i)
+  unfolding seen_of carried_at
   same_seen e =
-      let row : List ℕ = get_or (packetsAt s i) 1 [] in
-      judged-same (otherAt g s i) (readingIn g.kind row) (rw (ruled-as-read g.kind (rulingEpoch g) row) at e)
+      let row : List ℕ = get_or (packets_at s i) 1 [] in
+      judged_same (other_at g s i) (reading_in g.kind row) (rw (ruled_as_read g.kind (ruling_epoch g) row) at e)
 
   -- and then what a fetch judges by is what it carries
-  pub seen-word : (seenOf g s i).good ≡ true → (seenOf g s i).word ≡ (carriedAt g s i).word
-  unfolding seenOf
-  seen-word e = ap (λ (q : Ruling). q.word) (ruled-as-read g.kind (rulingEpoch g) (get_or (packetsAt s i) 1 [])) ∙ (same_seen e).word
+  pub seen_word : (seen_of g s i).good ≡ true → (seen_of g s i).word ≡ (carried_at g s i).word
+  unfolding seen_of
+  seen_word e = ap (λ (q : Ruling). q.word) (ruled_as_read g.kind (ruling_epoch g) (get_or (packets_at s i) 1 [])) ∙ (same_seen e).word
 
-  pub seen-number : (seenOf g s i).good ≡ true → (seenOf g s i).number ≡ (carriedAt g s i).number
-  unfolding seenOf
-  seen-number e = ap (λ (q : Ruling). q.number) (ruled-as-read g.kind (rulingEpoch g) (get_or (packetsAt s i) 1 [])) ∙ (same_seen e).number
+  pub seen_number : (seen_of g s i).good ≡ true → (seen_of g s i).number ≡ (carried_at g s i).number
+  unfolding seen_of
+  seen_number e = ap (λ (q : Ruling). q.number) (ruled_as_read g.kind (ruling_epoch g) (get_or (packets_at s i) 1 [])) ∙ (same_seen e).number
 
-  pub seen-gid : (seenOf g s i).good ≡ true → (seenOf g s i).gid ≡ (carriedAt g s i).gid
-  unfolding seenOf
-  seen-gid e = ap (λ (q : Ruling). q.gid) (ruled-as-read g.kind (rulingEpoch g) (get_or (packetsAt s i) 1 [])) ∙ (same_seen e).gid
+  pub seen_gid : (seen_of g s i).good ≡ true → (seen_of g s i).gid ≡ (carried_at g s i).gid
+  unfolding seen_of
+  seen_gid e = ap (λ (q : Ruling). q.gid) (ruled_as_read g.kind (ruling_epoch g) (get_or (packets_at s i) 1 [])) ∙ (same_seen e).gid
 
 -- The number that a packet carries.
 
 abbrev Numbered : ℕ → Reading → Type 0
-Numbered epoch r = (carriedBy r).answer ≡ 0 → (carriedBy r).epoch ≡ epoch
+Numbered epoch r = (carried_by r).answer ≡ 0 → (carried_by r).epoch ≡ epoch
 
-fields-numbered : (f : Fields) → Numbered f.epoch (readFields f)
-fields-numbered f = go (eqb f.word.0 FIXED) (assigned f.word)
+fields_numbered : (f : Fields) → Numbered f.epoch (read_fields f)
+fields_numbered f = go (eqb f.word.0 FIXED) (assigned f.word)
   where
     go : (a b : Bool) → Numbered f.epoch (cond a Fixed (cond b (Packet f) Unassigned))
     go true b e = absurd (omega arith)
     go false true e = refl
     go false false e = absurd (omega arith)
 
-crc-numbered : (epoch : ℕ) → Numbered epoch Crc
-crc-numbered epoch e = absurd (omega arith)
+crc_numbered : (epoch : ℕ) → Numbered epoch Crc
+crc_numbered epoch e = absurd (omega arith)
 
-pub carried-epoch : (kind : ℕ) (row : List ℕ) → (carriedBy (readingIn kind row)).answer ≡ 0 → (carriedBy (readingIn kind row)).epoch ≡ (fieldsIn kind row).epoch
-carried-epoch kind row = read_as Numbered crc-numbered (λ epoch e. absurd (omega arith)) fields-numbered (λ epoch sq e. refl) kind row
+pub carried_epoch : (kind : ℕ) (row : List ℕ) → (carried_by (reading_in kind row)).answer ≡ 0 → (carried_by (reading_in kind row)).epoch ≡ (fields_in kind row).epoch
+carried_epoch kind row = read_as Numbered crc_numbered (λ epoch e. absurd (omega arith)) fields_numbered (λ epoch sq e. refl) kind row

@@ -5,30 +5,30 @@ use Rattle.std.proofs.Math.Seq.{slice}
 use Rattle.std.proofs.lemmas.Bool.{lt-leb}
 use Rattle.bytes.specs.Bytes.{index_of}
 use Rattle.recording.specs.declared.pairs.Pairs.{Pairs}
-use Rattle.recording.specs.Pairs.{fieldIn, pairsFrom}
-use Rattle.text.specs.Laws.Slices.{fields-last, fields-more, first-le}
+use Rattle.recording.specs.Pairs.{field_in, pairs_from}
+use Rattle.text.specs.Laws.Slices.{fields_last, fields_more, first_le}
 use Rattle.text.specs.Text.{TAB, fields_of}
 
 -- the fields from a place on; none behind the end
-abbrev pub fieldsFrom : ℕ → ℕ → List ℕ → List (List ℕ)
-fieldsFrom at end l = cond (leb at end) (fields_of (slice at end l)) []
+abbrev pub fields_from : ℕ → ℕ → List ℕ → List (List ℕ)
+fields_from at end l = cond (leb at end) (fields_of (slice at end l)) []
 
 module _ (l : List ℕ) (at end stop : ℕ) (h : at ≤ end) (k : end ≤ length l) (e : stop ≡ at + index_of TAB (slice at end l)) where
   -- the first of them, and those behind it
-  pub fields-one : fields_of (slice at end l) ≡ slice at stop l ∷ fieldsFrom (stop + 1) end l
-  fields-one = go (ltb stop end) refl
+  pub fields_one : fields_of (slice at end l) ≡ slice at stop l ∷ fields_from (stop + 1) end l
+  fields_one = go (ltb stop end) refl
     where
-      go : (b : Bool) → ltb stop end ≡ b → fields_of (slice at end l) ≡ slice at stop l ∷ fieldsFrom (stop + 1) end l
+      go : (b : Bool) → ltb stop end ≡ b → fields_of (slice at end l) ≡ slice at stop l ∷ fields_from (stop + 1) end l
       go true t =
           let m = ltb-true stop end t in
-          rw (fields-more l at end stop h k e m, le-leb (stop + 1) end (omega arith))
+          rw (fields_more l at end stop h k e m, le-leb (stop + 1) end (omega arith))
       go false t =
           let m = ltb-false stop end t in
-          let s : stop ≡ end = (let n = first-le l at end stop h k e in omega arith) in
-          rw (fields-last l at end stop h k e m, lt-leb (stop + 1) end (omega arith), s)
+          let s : stop ≡ end = (let n = first_le l at end stop h k e in omega arith) in
+          rw (fields_last l at end stop h k e m, lt-leb (stop + 1) end (omega arith), s)
 
-  pub pairs-one : (p : Pairs) → pairsFrom p (fieldsFrom at end l) ≡ pairsFrom (fieldIn p (slice at stop l)) (fieldsFrom (stop + 1) end l)
-  pairs-one p = rw (le-leb at end h, fields-one)
+  pub pairs_one : (p : Pairs) → pairs_from p (fields_from at end l) ≡ pairs_from (field_in p (slice at stop l)) (fields_from (stop + 1) end l)
+  pairs_one p = rw (le-leb at end h, fields_one)
 
-pub pairs-none : (l : List ℕ) (at end : ℕ) (p : Pairs) → end < at → p ≡ pairsFrom p (fieldsFrom at end l)
-pairs-none l at end p h = rw (lt-leb at end h)
+pub pairs_none : (l : List ℕ) (at end : ℕ) (p : Pairs) → end < at → p ≡ pairs_from p (fields_from at end l)
+pairs_none l at end p h = rw (lt-leb at end h)

@@ -1,7 +1,7 @@
 -- A first line's settings have 64 times of each kind, whatever its pairs.
 use Rattle.std.specs.Prelude.{◌≡◌, refl, Bool, true, false, cond, not, ◌&&◌, List, [], ◌∷◌, ℕ, leb, ltb, length, set}
 use Rattle.std.proofs.Common.{◌∙◌, length-set}
-use Rattle.packet.specs.Kinds.{fixedKind, vc12Kind}
+use Rattle.packet.specs.Kinds.{fixed_kind, vc12_kind}
 use Rattle.recording.specs.declared.pairs.Awaited.{Awaited}
 use Rattle.recording.specs.declared.pairs.Awaited.TheVariants as A
 use Rattle.recording.specs.declared.pairs.Pairs.{Pairs}
@@ -9,56 +9,56 @@ use Rattle.recording.specs.declared.pairs.Settings.{Settings}
 use Rattle.recording.specs.declared.pairs.Timer.{Timer}
 use Rattle.recording.specs.declared.pairs.Timer.TheVariants.{HoldOff, Restore}
 use Rattle.recording.specs.Line.{MOST}
-use Rattle.recording.specs.Opening.{Opening, lineOpening, opened, openedBy, openingBy, settingsBy}
+use Rattle.recording.specs.Opening.{Opening, line_opening, opened, opened_by, opening_by, settings_by}
 use Rattle.recording.specs.Opening.{Opening as O}
-use Rattle.recording.specs.Pairs.{countPut, fieldBy, fieldIn, firstPairs, isHold, kindNamed, kindRead, kindTo, named, pairsFrom, timeNamed, timeRead, wrongField}
+use Rattle.recording.specs.Pairs.{count_put, field_by, field_in, first_pairs, is_hold, kind_named, kind_read, kind_to, named, pairs_from, time_named, time_read, wrong_field}
 use Rattle.text.specs.declared.fields.Number.{Number}
 use Rattle.text.specs.declared.fields.Number.TheVariants.{Value, Unreadable}
 use Rattle.text.specs.Ascii.{ascii}
-use Rattle.text.specs.Fields.{number_of, sameBytes}
+use Rattle.text.specs.Fields.{number_of, same_bytes}
 use Rattle.text.specs.Text.{fields_of}
 
 pub record Timed (s : Settings) : Type 0 where
   pub hold : length s.hold_off ≡ 64
   pub restores : length s.restore ≡ 64
 
-put-long : (counts : List ℕ) (own : Bool) (i n : ℕ) → length counts ≡ 64 → length (countPut counts own i n) ≡ 64
-put-long counts own i n e = go (own && ltb i 64)
+put_long : (counts : List ℕ) (own : Bool) (i n : ℕ) → length counts ≡ 64 → length (count_put counts own i n) ≡ 64
+put_long counts own i n e = go (own && ltb i 64)
   where
     go : (b : Bool) → length (cond b (set counts i n) counts) ≡ 64
     go true = length-set counts i n ∙ e
     go false = e
 
-field-timed : (p : Pairs) (field : List ℕ) → Timed p.settings → Timed (fieldIn p field).settings
-unfolding fieldIn named kindRead timeRead
-field-timed p field t = go p.awaited
+field_timed : (p : Pairs) (field : List ℕ) → Timed p.settings → Timed (field_in p field).settings
+unfolding field_in named kind_read time_read
+field_timed p field t = go p.awaited
   where
-    name : (a b c : Bool) → Timed (cond a (kindNamed p) (cond b (timeNamed p HoldOff) (cond c (timeNamed p Restore) (wrongField p)))).settings
+    name : (a b c : Bool) → Timed (cond a (kind_named p) (cond b (time_named p HoldOff) (cond c (time_named p Restore) (wrong_field p)))).settings
     name true b c = t
     name false true c = t
     name false false true = t
     name false false false = t
 
-    kind : (a b c : Bool) → Timed (cond a (kindTo p 0) (cond b (kindTo p fixedKind) (cond c (kindTo p vc12Kind) (wrongField p)))).settings
+    kind : (a b c : Bool) → Timed (cond a (kind_to p 0) (cond b (kind_to p fixed_kind) (cond c (kind_to p vc12_kind) (wrong_field p)))).settings
     kind true b c = record { hold = t.hold; restores = t.restores }
     kind false true c = record { hold = t.hold; restores = t.restores }
     kind false false true = record { hold = t.hold; restores = t.restores }
     kind false false false = t
 
-    timed : (timer : Timer) (i : ℕ) (n : Number) → Timed (timeRead p timer i n).settings
+    timed : (timer : Timer) (i : ℕ) (n : Number) → Timed (time_read p timer i n).settings
     timed timer i (Value n) =
-        record { hold = put-long p.settings.hold_off (isHold timer) i n t.hold; restores = put-long p.settings.restore (not (isHold timer)) i n t.restores }
+        record { hold = put_long p.settings.hold_off (is_hold timer) i n t.hold; restores = put_long p.settings.restore (not (is_hold timer)) i n t.restores }
     timed timer i Unreadable = t
 
-    go : (a : Awaited) → Timed (fieldBy a p field).settings
-    go A.Name = name (sameBytes field (ascii "kind") && not p.has_kind) (sameBytes field (ascii "hold-off") && not p.has_hold_off) (sameBytes field (ascii "wait-to-restore") && not p.has_restore)
-    go A.Kind = kind (sameBytes field (ascii "H4")) (sameBytes field (ascii "FIXED")) (sameBytes field (ascii "VC12"))
+    go : (a : Awaited) → Timed (field_by a p field).settings
+    go A.Name = name (same_bytes field (ascii "kind") && not p.has_kind) (same_bytes field (ascii "hold-off") && not p.has_hold_off) (same_bytes field (ascii "wait-to-restore") && not p.has_restore)
+    go A.Kind = kind (same_bytes field (ascii "H4")) (same_bytes field (ascii "FIXED")) (same_bytes field (ascii "VC12"))
     go (A.Time timer i) = timed timer i (number_of 9 field)
     go A.Nothing = t
 
-pairs-timed : (p : Pairs) (fields : List (List ℕ)) → Timed p.settings → Timed (pairsFrom p fields).settings
-pairs-timed p [] t = t
-pairs-timed p (field ∷ fields) t = pairs-timed (fieldIn p field) fields (field-timed p field t)
+pairs_timed : (p : Pairs) (fields : List (List ℕ)) → Timed p.settings → Timed (pairs_from p fields).settings
+pairs_timed p [] t = t
+pairs_timed p (field ∷ fields) t = pairs_timed (field_in p field) fields (field_timed p field t)
 
 -- of an opening, where it has settings
 abbrev pub TimedIn : Opening → Type 0
@@ -67,33 +67,33 @@ TimedIn O.Malformed = Unit {0}
 TimedIn O.Unfinished = Unit {0}
 TimedIn O.End = Unit {0}
 
-opened-timed : (p : Pairs) (n : ℕ) → Timed p.settings → TimedIn (opened p n)
+opened_timed : (p : Pairs) (n : ℕ) → Timed p.settings → TimedIn (opened p n)
 unfolding opened
-opened-timed p n t = go p.awaited
+opened_timed p n t = go p.awaited
   where
-    go : (a : Awaited) → TimedIn (openedBy a p.settings n)
+    go : (a : Awaited) → TimedIn (opened_by a p.settings n)
     go A.Name = t
     go A.Kind = tt
     go (A.Time timer i) = tt
     go A.Nothing = tt
 
-settings-timed : (a b c : Number) (pairs : List (List ℕ)) (n : ℕ) → TimedIn (settingsBy a b c pairs n)
-unfolding settingsBy
-settings-timed (Value x) (Value y) (Value z) pairs n = opened-timed (pairsFrom (firstPairs x y z) pairs) n (pairs-timed (firstPairs x y z) pairs (record { hold = refl; restores = refl }))
-settings-timed (Value x) (Value y) Unreadable pairs n = tt
-settings-timed (Value x) Unreadable c pairs n = tt
-settings-timed Unreadable b c pairs n = tt
+settings_timed : (a b c : Number) (pairs : List (List ℕ)) (n : ℕ) → TimedIn (settings_by a b c pairs n)
+unfolding settings_by
+settings_timed (Value x) (Value y) (Value z) pairs n = opened_timed (pairs_from (first_pairs x y z) pairs) n (pairs_timed (first_pairs x y z) pairs (record { hold = refl; restores = refl }))
+settings_timed (Value x) (Value y) Unreadable pairs n = tt
+settings_timed (Value x) Unreadable c pairs n = tt
+settings_timed Unreadable b c pairs n = tt
 
-fields-timed : (n : ℕ) (fs : List (List ℕ)) → TimedIn (openingBy n fs)
-fields-timed n [] = tt
-fields-timed n (a ∷ []) = tt
-fields-timed n (a ∷ b ∷ []) = tt
-fields-timed n (a ∷ b ∷ c ∷ pairs) = settings-timed (number_of 9 a) (number_of 9 b) (number_of 9 c) pairs n
+fields_timed : (n : ℕ) (fs : List (List ℕ)) → TimedIn (opening_by n fs)
+fields_timed n [] = tt
+fields_timed n (a ∷ []) = tt
+fields_timed n (a ∷ b ∷ []) = tt
+fields_timed n (a ∷ b ∷ c ∷ pairs) = settings_timed (number_of 9 a) (number_of 9 b) (number_of 9 c) pairs n
 
-pub opening-timed : (n : ℕ) (line : List ℕ) → TimedIn (lineOpening n line)
-unfolding lineOpening
-opening-timed n line = go (leb (length line) MOST)
+pub opening_timed : (n : ℕ) (line : List ℕ) → TimedIn (line_opening n line)
+unfolding line_opening
+opening_timed n line = go (leb (length line) MOST)
   where
-    go : (b : Bool) → TimedIn (cond b (openingBy n (fields_of line)) O.Malformed)
-    go true = fields-timed n (fields_of line)
+    go : (b : Bool) → TimedIn (cond b (opening_by n (fields_of line)) O.Malformed)
+    go true = fields_timed n (fields_of line)
     go false = tt

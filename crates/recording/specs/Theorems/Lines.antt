@@ -3,16 +3,16 @@
 use Rattle.std.specs.Prelude.{◌≡◌, refl, Bool, true, false, cond, ◌&&◌, List, [], ◌∷◌, ℕ, suc, ◌+◌, ◌-◌, ◌≤◌, eqb, leb, ltb, length}
 use Rattle.std.proofs.Common.{arith, eqb-true}
 use Rattle.ground.specs.Truth.{and_left, and_right}
-use Rattle.text.specs.Fields.{areDigits, hexOf, isHex, number_of}
+use Rattle.text.specs.Fields.{are_digits, hex_of, is_hex, number_of}
 use Rattle.text.specs.Text.{TAB, ahead, fields_of, parted}
 use Rattle.text.specs.declared.fields.Number.{Number}
 use Rattle.text.specs.declared.fields.Number.TheVariants.{Unreadable, Value}
 use Rattle.recording.specs.Line.{MOST}
 use Rattle.recording.specs.Opening.{Opening}
 use Rattle.recording.specs.Opening.{Opening as O}
-use Rattle.recording.specs.Opening.{handed, lineOpening, opened, openedBy, openingBy, settingsBy}
-use Rattle.recording.specs.Pairs.{firstPairs, pairsFrom}
-use Rattle.recording.specs.Record.{Lies, flagIn, frameBy, lineRecord, recordBy}
+use Rattle.recording.specs.Opening.{handed, line_opening, opened, opened_by, opening_by, settings_by}
+use Rattle.recording.specs.Pairs.{first_pairs, pairs_from}
+use Rattle.recording.specs.Record.{Lies, flag_in, frame_by, line_record, record_by}
 use Rattle.recording.specs.declared.opening.First.{First}
 use Rattle.recording.specs.declared.opening.FirstLine.TheVariants as F
 use Rattle.recording.specs.declared.pairs.Awaited.{Awaited}
@@ -22,119 +22,119 @@ use Rattle.recording.specs.declared.record.Record.{Record}
 use Rattle.recording.specs.declared.record.Record.TheVariants.{End, Frame, Long, Malformed, Unfinished}
 
 -- a frame or a malformed line, with another next line
-abbrev pub goingTo : ℕ → Record → Record
-goingTo n (Frame port h4 flag place next) = Frame port h4 flag place n
-goingTo n (Malformed next) = Malformed n
-goingTo n Long = Long
-goingTo n Unfinished = Unfinished
-goingTo n End = End
+abbrev pub going_to : ℕ → Record → Record
+going_to n (Frame port h4 flag place next) = Frame port h4 flag place n
+going_to n (Malformed next) = Malformed n
+going_to n Long = Long
+going_to n Unfinished = Unfinished
+going_to n End = End
 
-frame-going : (ports : ℕ) (p h : Number) (flag : ℕ) (payload : Bool) (place n m : ℕ) → frameBy ports p h flag payload place n ≡ goingTo n (frameBy ports p h flag payload place m)
-unfolding frameBy
-frame-going ports (Value x) (Value y) flag payload place n m = go (ltb x ports && ltb y 256 && ltb flag 2 && payload)
+frame_going : (ports : ℕ) (p h : Number) (flag : ℕ) (payload : Bool) (place n m : ℕ) → frame_by ports p h flag payload place n ≡ going_to n (frame_by ports p h flag payload place m)
+unfolding frame_by
+frame_going ports (Value x) (Value y) flag payload place n m = go (ltb x ports && ltb y 256 && ltb flag 2 && payload)
   where
-    go : (b : Bool) → cond b (Frame x y flag place n) (Malformed n) ≡ goingTo n (cond b (Frame x y flag place m) (Malformed m))
+    go : (b : Bool) → cond b (Frame x y flag place n) (Malformed n) ≡ going_to n (cond b (Frame x y flag place m) (Malformed m))
     go true = refl
     go false = refl
-frame-going ports (Value x) Unreadable flag payload place n m = refl
-frame-going ports Unreadable h flag payload place n m = refl
+frame_going ports (Value x) Unreadable flag payload place n m = refl
+frame_going ports Unreadable h flag payload place n m = refl
 
-record-going : (ports size end n m : ℕ) (fs : List (List ℕ)) → recordBy ports size end n fs ≡ goingTo n (recordBy ports size end m fs)
-record-going ports size end n m [] = refl
-record-going ports size end n m (a ∷ []) = refl
-record-going ports size end n m (a ∷ b ∷ []) = refl
-record-going ports size end n m (a ∷ b ∷ c ∷ []) = refl
-record-going ports size end n m (a ∷ b ∷ c ∷ d ∷ []) = frame-going ports (number_of 9 a) (hexOf 2 b) (flagIn c) (isHex (size + size) d) (end - length d) n m
-record-going ports size end n m (a ∷ b ∷ c ∷ d ∷ e ∷ rest) = refl
+record_going : (ports size end n m : ℕ) (fs : List (List ℕ)) → record_by ports size end n fs ≡ going_to n (record_by ports size end m fs)
+record_going ports size end n m [] = refl
+record_going ports size end n m (a ∷ []) = refl
+record_going ports size end n m (a ∷ b ∷ []) = refl
+record_going ports size end n m (a ∷ b ∷ c ∷ []) = refl
+record_going ports size end n m (a ∷ b ∷ c ∷ d ∷ []) = frame_going ports (number_of 9 a) (hex_of 2 b) (flag_in c) (is_hex (size + size) d) (end - length d) n m
+record_going ports size end n m (a ∷ b ∷ c ∷ d ∷ e ∷ rest) = refl
 
-pub line-going : (ports size at n m : ℕ) (line : List ℕ) → lineRecord ports size at n line ≡ goingTo n (lineRecord ports size at m line)
-unfolding lineRecord
-line-going ports size at n m line = go (leb (length line) MOST)
+pub line_going : (ports size at n m : ℕ) (line : List ℕ) → line_record ports size at n line ≡ going_to n (line_record ports size at m line)
+unfolding line_record
+line_going ports size at n m line = go (leb (length line) MOST)
   where
-    go : (b : Bool) → cond b (recordBy ports size (at + length line) n (fields_of line)) (Malformed n) ≡ goingTo n (cond b (recordBy ports size (at + length line) m (fields_of line)) (Malformed m))
-    go true = record-going ports size (at + length line) n m (fields_of line)
+    go : (b : Bool) → cond b (record_by ports size (at + length line) n (fields_of line)) (Malformed n) ≡ going_to n (cond b (record_by ports size (at + length line) m (fields_of line)) (Malformed m))
+    go true = record_going ports size (at + length line) n m (fields_of line)
     go false = refl
 
 -- the same of a first line
-abbrev pub opensTo : ℕ → Opening → Opening
-opensTo n (O.Settings settings next) = O.Settings settings n
-opensTo n O.Malformed = O.Malformed
-opensTo n O.Unfinished = O.Unfinished
-opensTo n O.End = O.End
+abbrev pub opens_to : ℕ → Opening → Opening
+opens_to n (O.Settings settings next) = O.Settings settings n
+opens_to n O.Malformed = O.Malformed
+opens_to n O.Unfinished = O.Unfinished
+opens_to n O.End = O.End
 
-opened-opens : (p : Pairs) (n m : ℕ) → opened p n ≡ opensTo n (opened p m)
+opened_opens : (p : Pairs) (n m : ℕ) → opened p n ≡ opens_to n (opened p m)
 unfolding opened
-opened-opens p n m = go p.awaited
+opened_opens p n m = go p.awaited
   where
-    go : (a : Awaited) → openedBy a p.settings n ≡ opensTo n (openedBy a p.settings m)
+    go : (a : Awaited) → opened_by a p.settings n ≡ opens_to n (opened_by a p.settings m)
     go A.Name = refl
     go A.Kind = refl
     go (A.Time t i) = refl
     go A.Nothing = refl
 
-settings-opens : (a b c : Number) (pairs : List (List ℕ)) (n m : ℕ) → settingsBy a b c pairs n ≡ opensTo n (settingsBy a b c pairs m)
-unfolding settingsBy
-settings-opens (Value x) (Value y) (Value z) pairs n m = opened-opens (pairsFrom (firstPairs x y z) pairs) n m
-settings-opens (Value x) (Value y) Unreadable pairs n m = refl
-settings-opens (Value x) Unreadable c pairs n m = refl
-settings-opens Unreadable b c pairs n m = refl
+settings_opens : (a b c : Number) (pairs : List (List ℕ)) (n m : ℕ) → settings_by a b c pairs n ≡ opens_to n (settings_by a b c pairs m)
+unfolding settings_by
+settings_opens (Value x) (Value y) (Value z) pairs n m = opened_opens (pairs_from (first_pairs x y z) pairs) n m
+settings_opens (Value x) (Value y) Unreadable pairs n m = refl
+settings_opens (Value x) Unreadable c pairs n m = refl
+settings_opens Unreadable b c pairs n m = refl
 
-opening-opens : (n m : ℕ) (fs : List (List ℕ)) → openingBy n fs ≡ opensTo n (openingBy m fs)
-opening-opens n m [] = refl
-opening-opens n m (a ∷ []) = refl
-opening-opens n m (a ∷ b ∷ []) = refl
-opening-opens n m (a ∷ b ∷ c ∷ pairs) = settings-opens (number_of 9 a) (number_of 9 b) (number_of 9 c) pairs n m
+opening_opens : (n m : ℕ) (fs : List (List ℕ)) → opening_by n fs ≡ opens_to n (opening_by m fs)
+opening_opens n m [] = refl
+opening_opens n m (a ∷ []) = refl
+opening_opens n m (a ∷ b ∷ []) = refl
+opening_opens n m (a ∷ b ∷ c ∷ pairs) = settings_opens (number_of 9 a) (number_of 9 b) (number_of 9 c) pairs n m
 
-pub line-opens : (n m : ℕ) (line : List ℕ) → lineOpening n line ≡ opensTo n (lineOpening m line)
-unfolding lineOpening
-line-opens n m line = go (leb (length line) MOST)
+pub line_opens : (n m : ℕ) (line : List ℕ) → line_opening n line ≡ opens_to n (line_opening m line)
+unfolding line_opening
+line_opens n m line = go (leb (length line) MOST)
   where
-    go : (b : Bool) → cond b (openingBy n (fields_of line)) O.Malformed ≡ opensTo n (cond b (openingBy m (fields_of line)) O.Malformed)
-    go true = opening-opens n m (fields_of line)
+    go : (b : Bool) → cond b (opening_by n (fields_of line)) O.Malformed ≡ opens_to n (cond b (opening_by m (fields_of line)) O.Malformed)
+    go true = opening_opens n m (fields_of line)
     go false = refl
 
 -- a first line that is whole is settings or malformed
-abbrev pub isSettled : Opening → Bool
-isSettled (O.Settings settings next) = true
-isSettled O.Malformed = true
-isSettled O.Unfinished = false
-isSettled O.End = false
+abbrev pub is_settled : Opening → Bool
+is_settled (O.Settings settings next) = true
+is_settled O.Malformed = true
+is_settled O.Unfinished = false
+is_settled O.End = false
 
-opened-settled : (p : Pairs) (n : ℕ) → isSettled (opened p n) ≡ true
+opened_settled : (p : Pairs) (n : ℕ) → is_settled (opened p n) ≡ true
 unfolding opened
-opened-settled p n = go p.awaited
+opened_settled p n = go p.awaited
   where
-    go : (a : Awaited) → isSettled (openedBy a p.settings n) ≡ true
+    go : (a : Awaited) → is_settled (opened_by a p.settings n) ≡ true
     go A.Name = refl
     go A.Kind = refl
     go (A.Time t i) = refl
     go A.Nothing = refl
 
-settings-settled : (a b c : Number) (pairs : List (List ℕ)) (n : ℕ) → isSettled (settingsBy a b c pairs n) ≡ true
-unfolding settingsBy
-settings-settled (Value x) (Value y) (Value z) pairs n = opened-settled (pairsFrom (firstPairs x y z) pairs) n
-settings-settled (Value x) (Value y) Unreadable pairs n = refl
-settings-settled (Value x) Unreadable c pairs n = refl
-settings-settled Unreadable b c pairs n = refl
+settings_settled : (a b c : Number) (pairs : List (List ℕ)) (n : ℕ) → is_settled (settings_by a b c pairs n) ≡ true
+unfolding settings_by
+settings_settled (Value x) (Value y) (Value z) pairs n = opened_settled (pairs_from (first_pairs x y z) pairs) n
+settings_settled (Value x) (Value y) Unreadable pairs n = refl
+settings_settled (Value x) Unreadable c pairs n = refl
+settings_settled Unreadable b c pairs n = refl
 
-fields-settled : (n : ℕ) (fs : List (List ℕ)) → isSettled (openingBy n fs) ≡ true
-fields-settled n [] = refl
-fields-settled n (a ∷ []) = refl
-fields-settled n (a ∷ b ∷ []) = refl
-fields-settled n (a ∷ b ∷ c ∷ pairs) = settings-settled (number_of 9 a) (number_of 9 b) (number_of 9 c) pairs n
+fields_settled : (n : ℕ) (fs : List (List ℕ)) → is_settled (opening_by n fs) ≡ true
+fields_settled n [] = refl
+fields_settled n (a ∷ []) = refl
+fields_settled n (a ∷ b ∷ []) = refl
+fields_settled n (a ∷ b ∷ c ∷ pairs) = settings_settled (number_of 9 a) (number_of 9 b) (number_of 9 c) pairs n
 
-pub opening-settled : (n : ℕ) (line : List ℕ) → isSettled (lineOpening n line) ≡ true
-unfolding lineOpening
-opening-settled n line = go (leb (length line) MOST)
+pub opening_settled : (n : ℕ) (line : List ℕ) → is_settled (line_opening n line) ≡ true
+unfolding line_opening
+opening_settled n line = go (leb (length line) MOST)
   where
-    go : (b : Bool) → isSettled (cond b (openingBy n (fields_of line)) O.Malformed) ≡ true
-    go true = fields-settled n (fields_of line)
+    go : (b : Bool) → is_settled (cond b (opening_by n (fields_of line)) O.Malformed) ≡ true
+    go true = fields_settled n (fields_of line)
     go false = refl
 
 -- what is handed over of a first line tells which one it was
 module _ (x : Opening) (f : First) (e : f ≡ handed x) where
-  pub handed-set : f.line ≡ F.Settings → x ≡ O.Settings f.settings f.next
-  handed-set k = rw e (go x (rw e at k))
+  pub handed_set : f.line ≡ F.Settings → x ≡ O.Settings f.settings f.next
+  handed_set k = rw e (go x (rw e at k))
     where
       go : (x : Opening) → (handed x).line ≡ F.Settings → x ≡ O.Settings (handed x).settings (handed x).next
       go (O.Settings s next) m = refl
@@ -142,8 +142,8 @@ module _ (x : Opening) (f : First) (e : f ≡ handed x) where
       go O.Unfinished m = let z : ◌≡◌ {A = ℕ} 0 1 = cc in absurd (omega arith)
       go O.End m = let z : ◌≡◌ {A = ℕ} 0 1 = cc in absurd (omega arith)
 
-  pub handed-malformed : f.line ≡ F.Malformed → x ≡ O.Malformed
-  handed-malformed k = go x (rw e at k)
+  pub handed_malformed : f.line ≡ F.Malformed → x ≡ O.Malformed
+  handed_malformed k = go x (rw e at k)
     where
       go : (x : Opening) → (handed x).line ≡ F.Malformed → x ≡ O.Malformed
       go (O.Settings s next) m = let z : ◌≡◌ {A = ℕ} 0 1 = cc in absurd (omega arith)
@@ -151,8 +151,8 @@ module _ (x : Opening) (f : First) (e : f ≡ handed x) where
       go O.Unfinished m = let z : ◌≡◌ {A = ℕ} 0 1 = cc in absurd (omega arith)
       go O.End m = let z : ◌≡◌ {A = ℕ} 0 1 = cc in absurd (omega arith)
 
-  pub handed-unfinished : f.line ≡ F.Unfinished → x ≡ O.Unfinished
-  handed-unfinished k = go x (rw e at k)
+  pub handed_unfinished : f.line ≡ F.Unfinished → x ≡ O.Unfinished
+  handed_unfinished k = go x (rw e at k)
     where
       go : (x : Opening) → (handed x).line ≡ F.Unfinished → x ≡ O.Unfinished
       go (O.Settings s next) m = let z : ◌≡◌ {A = ℕ} 0 1 = cc in absurd (omega arith)
@@ -160,8 +160,8 @@ module _ (x : Opening) (f : First) (e : f ≡ handed x) where
       go O.Unfinished m = refl
       go O.End m = let z : ◌≡◌ {A = ℕ} 0 1 = cc in absurd (omega arith)
 
-  pub handed-end : f.line ≡ F.End → x ≡ O.End
-  handed-end k = go x (rw e at k)
+  pub handed_end : f.line ≡ F.End → x ≡ O.End
+  handed_end k = go x (rw e at k)
     where
       go : (x : Opening) → (handed x).line ≡ F.End → x ≡ O.End
       go (O.Settings s next) m = let z : ◌≡◌ {A = ℕ} 0 1 = cc in absurd (omega arith)
@@ -174,30 +174,30 @@ pub data IsLine : Record → Type 0 where
   frame : {port h4 flag place next : ℕ} → IsLine (Frame port h4 flag place next)
   malformed : {next : ℕ} → IsLine (Malformed next)
 
-frame-line : (ports : ℕ) (p h : Number) (flag : ℕ) (payload : Bool) (place n : ℕ) → IsLine (frameBy ports p h flag payload place n)
-unfolding frameBy
-frame-line ports (Value x) (Value y) flag payload place n = go (ltb x ports && ltb y 256 && ltb flag 2 && payload)
+frame_line_lem : (ports : ℕ) (p h : Number) (flag : ℕ) (payload : Bool) (place n : ℕ) → IsLine (frame_by ports p h flag payload place n)
+unfolding frame_by
+frame_line_lem ports (Value x) (Value y) flag payload place n = go (ltb x ports && ltb y 256 && ltb flag 2 && payload)
   where
     go : (b : Bool) → IsLine (cond b (Frame x y flag place n) (Malformed n))
     go true = frame
     go false = malformed
-frame-line ports (Value x) Unreadable flag payload place n = malformed
-frame-line ports Unreadable h flag payload place n = malformed
+frame_line_lem ports (Value x) Unreadable flag payload place n = malformed
+frame_line_lem ports Unreadable h flag payload place n = malformed
 
-record-line : (ports size end n : ℕ) (fs : List (List ℕ)) → IsLine (recordBy ports size end n fs)
-record-line ports size end n [] = malformed
-record-line ports size end n (a ∷ []) = malformed
-record-line ports size end n (a ∷ b ∷ []) = malformed
-record-line ports size end n (a ∷ b ∷ c ∷ []) = malformed
-record-line ports size end n (a ∷ b ∷ c ∷ d ∷ []) = frame-line ports (number_of 9 a) (hexOf 2 b) (flagIn c) (isHex (size + size) d) (end - length d) n
-record-line ports size end n (a ∷ b ∷ c ∷ d ∷ e ∷ rest) = malformed
+record_line : (ports size end n : ℕ) (fs : List (List ℕ)) → IsLine (record_by ports size end n fs)
+record_line ports size end n [] = malformed
+record_line ports size end n (a ∷ []) = malformed
+record_line ports size end n (a ∷ b ∷ []) = malformed
+record_line ports size end n (a ∷ b ∷ c ∷ []) = malformed
+record_line ports size end n (a ∷ b ∷ c ∷ d ∷ []) = frame_line_lem ports (number_of 9 a) (hex_of 2 b) (flag_in c) (is_hex (size + size) d) (end - length d) n
+record_line ports size end n (a ∷ b ∷ c ∷ d ∷ e ∷ rest) = malformed
 
-pub is-line : (ports size at n : ℕ) (line : List ℕ) → IsLine (lineRecord ports size at n line)
-unfolding lineRecord
-is-line ports size at n line = go (leb (length line) MOST)
+pub is_line : (ports size at n : ℕ) (line : List ℕ) → IsLine (line_record ports size at n line)
+unfolding line_record
+is_line ports size at n line = go (leb (length line) MOST)
   where
-    go : (b : Bool) → IsLine (cond b (recordBy ports size (at + length line) n (fields_of line)) (Malformed n))
-    go true = record-line ports size (at + length line) n (fields_of line)
+    go : (b : Bool) → IsLine (cond b (record_by ports size (at + length line) n (fields_of line)) (Malformed n))
+    go true = record_line ports size (at + length line) n (fields_of line)
     go false = malformed
 
 -- the fields of a line, with what parts them, are as long as the line
@@ -205,52 +205,52 @@ unfoldable pub weight : List (List ℕ) → ℕ
 weight [] = 0
 weight (p ∷ ps) = suc (length p) + weight ps
 
-weight-ahead : (b : ℕ) (ps : List (List ℕ)) (n : ℕ) → weight ps ≡ suc n → weight (ahead b ps) ≡ suc (suc n)
+weight_ahead : (b : ℕ) (ps : List (List ℕ)) (n : ℕ) → weight ps ≡ suc n → weight (ahead b ps) ≡ suc (suc n)
 unfolding weight
-weight-ahead b [] n h = absurd (omega arith)
-weight-ahead b (p ∷ ps) n h = omega arith
+weight_ahead b [] n h = absurd (omega arith)
+weight_ahead b (p ∷ ps) n h = omega arith
 
-pub weight-fields : (line : List ℕ) → weight (fields_of line) ≡ suc (length line)
+pub weight_fields : (line : List ℕ) → weight (fields_of line) ≡ suc (length line)
 unfolding weight fields_of
-weight-fields [] = refl
-weight-fields (b ∷ line) = go (eqb b TAB) (weight-fields line)
+weight_fields [] = refl
+weight_fields (b ∷ line) = go (eqb b TAB) (weight_fields line)
   where
     go : (t : Bool) → weight (parted TAB ([] ∷ []) line) ≡ suc (length line) → weight (cond t ([] ∷ parted TAB ([] ∷ []) line) (ahead b (parted TAB ([] ∷ []) line))) ≡ suc (suc (length line))
     go true h = omega arith
-    go false h = weight-ahead b (parted TAB ([] ∷ []) line) (length line) h
+    go false h = weight_ahead b (parted TAB ([] ∷ []) line) (length line) h
 
-lies-none : (size end n : ℕ) → Lies size end (Malformed n)
-lies-none size end n = record { within = λ port h4 flag place next e. let z : ◌≡◌ {A = ℕ} 0 1 = cc in absurd (omega arith) }
+lies_none : (size end n : ℕ) → Lies size end (Malformed n)
+lies_none size end n = record { within = λ port h4 flag place next e. let z : ◌≡◌ {A = ℕ} 0 1 = cc in absurd (omega arith) }
 
-frame-lies : (ports : ℕ) (p h : Number) (flag : ℕ) (payload : Bool) (place n size end : ℕ) → (payload ≡ true → place + size + size ≤ end) → Lies size end (frameBy ports p h flag payload place n)
-unfolding frameBy
-frame-lies ports (Value x) (Value y) flag payload place n size end h = go (ltb x ports && ltb y 256 && ltb flag 2 && payload) refl
+frame_lies : (ports : ℕ) (p h : Number) (flag : ℕ) (payload : Bool) (place n size end : ℕ) → (payload ≡ true → place + size + size ≤ end) → Lies size end (frame_by ports p h flag payload place n)
+unfolding frame_by
+frame_lies ports (Value x) (Value y) flag payload place n size end h = go (ltb x ports && ltb y 256 && ltb flag 2 && payload) refl
   where
     go : (b : Bool) → (ltb x ports && ltb y 256 && ltb flag 2 && payload) ≡ b → Lies size end (cond b (Frame x y flag place n) (Malformed n))
     go true t = record { within = λ port h4 f q next e. let z : place ≡ q = cc in rw (← z) (h (and_right (ltb x ports && ltb y 256 && ltb flag 2) payload t)) }
-    go false t = lies-none size end n
-frame-lies ports (Value x) Unreadable flag payload place n size end h = lies-none size end n
-frame-lies ports Unreadable hh flag payload place n size end h = lies-none size end n
+    go false t = lies_none size end n
+frame_lies ports (Value x) Unreadable flag payload place n size end h = lies_none size end n
+frame_lies ports Unreadable hh flag payload place n size end h = lies_none size end n
 
-hex-length : (digits : ℕ) (field : List ℕ) → isHex digits field ≡ true → length field ≡ digits
-unfolding isHex
-hex-length digits field t = eqb-true (length field) digits (and_left (eqb (length field) digits) (areDigits 16 field) t)
+hex_length : (digits : ℕ) (field : List ℕ) → is_hex digits field ≡ true → length field ≡ digits
+unfolding is_hex
+hex_length digits field t = eqb-true (length field) digits (and_left (eqb (length field) digits) (are_digits 16 field) t)
 
-record-lies : (ports size end n : ℕ) (fs : List (List ℕ)) → weight fs ≡ suc end → Lies size end (recordBy ports size end n fs)
+record_lies : (ports size end n : ℕ) (fs : List (List ℕ)) → weight fs ≡ suc end → Lies size end (record_by ports size end n fs)
 unfolding weight
-record-lies ports size end n [] h = lies-none size end n
-record-lies ports size end n (a ∷ []) h = lies-none size end n
-record-lies ports size end n (a ∷ b ∷ []) h = lies-none size end n
-record-lies ports size end n (a ∷ b ∷ c ∷ []) h = lies-none size end n
-record-lies ports size end n (a ∷ b ∷ c ∷ d ∷ []) h =
-    frame-lies ports (number_of 9 a) (hexOf 2 b) (flagIn c) (isHex (size + size) d) (end - length d) n size end
-    (λ (t : isHex (size + size) d ≡ true). let l = hex-length (size + size) d t in let w : length d ≤ end = omega arith in omega arith)
-record-lies ports size end n (a ∷ b ∷ c ∷ d ∷ e ∷ rest) h = lies-none size end n
+record_lies ports size end n [] h = lies_none size end n
+record_lies ports size end n (a ∷ []) h = lies_none size end n
+record_lies ports size end n (a ∷ b ∷ []) h = lies_none size end n
+record_lies ports size end n (a ∷ b ∷ c ∷ []) h = lies_none size end n
+record_lies ports size end n (a ∷ b ∷ c ∷ d ∷ []) h =
+    frame_lies ports (number_of 9 a) (hex_of 2 b) (flag_in c) (is_hex (size + size) d) (end - length d) n size end
+    (λ (t : is_hex (size + size) d ≡ true). let l = hex_length (size + size) d t in let w : length d ≤ end = omega arith in omega arith)
+record_lies ports size end n (a ∷ b ∷ c ∷ d ∷ e ∷ rest) h = lies_none size end n
 
-pub line-lies : (ports size n : ℕ) (line : List ℕ) → Lies size (length line) (lineRecord ports size 0 n line)
-unfolding lineRecord
-line-lies ports size n line = go (leb (length line) MOST)
+pub line_lies : (ports size n : ℕ) (line : List ℕ) → Lies size (length line) (line_record ports size 0 n line)
+unfolding line_record
+line_lies ports size n line = go (leb (length line) MOST)
   where
-    go : (b : Bool) → Lies size (length line) (cond b (recordBy ports size (0 + length line) n (fields_of line)) (Malformed n))
-    go true = let z : 0 + length line ≡ length line = omega arith in rw z (record-lies ports size (length line) n (fields_of line) (weight-fields line))
-    go false = lies-none size (length line) n
+    go : (b : Bool) → Lies size (length line) (cond b (record_by ports size (0 + length line) n (fields_of line)) (Malformed n))
+    go true = let z : 0 + length line ≡ length line = omega arith in rw z (record_lies ports size (length line) n (fields_of line) (weight_fields line))
+    go false = lies_none size (length line) n

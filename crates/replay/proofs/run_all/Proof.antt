@@ -2,14 +2,14 @@ use mathlib.Core.Path.{◌≡◌}
 use Prim.Native.Nat.{◌-◌}
 use lib.ListN.{length}
 use borrow.Author.Rules.{rules}
-use Rattle.replay_lines.specs.Deeds.{Carried, deskWith}
+use Rattle.replay_lines.specs.Deeds.{Carried, desk_with}
 use Rattle.replay_lines.specs.Deeds.Carried.{same}
 use Rattle.replay_lines.specs.Laws.Carrying.{carried_on}
 use Rattle.replay.proofs.run_all.Statement.{statement}
 use Rattle.replay.proofs.run_all.Tie as tie
 
 abbrev invariant-loop : tie.invariant-loop
-invariant-loop count rows₀ store₀ out₀ now₀ i₀ rows store out now i = (length rows ≡ length rows₀) × (length store ≡ length store₀) × (length out ≡ length out₀) × Carried (deskWith now₀ rows₀ store₀) (deskWith now rows store)
+invariant-loop count rows₀ store₀ out₀ now₀ i₀ rows store out now i = (length rows ≡ length rows₀) × (length store ≡ length store₀) × (length out ≡ length out₀) × Carried (desk_with now₀ rows₀ store₀) (desk_with now rows store)
 
 abbrev decreases-loop : tie.decreases-loop
 decreases-loop count rows₀ store₀ out₀ now₀ i₀ rows store out now i = count - i

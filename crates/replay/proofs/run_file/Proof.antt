@@ -6,14 +6,14 @@ use lib.ListN.{length}
 use borrow.Author.Rules.{rules}
 use borrow.Author.Tests.{ltb-true}
 use Rattle.ground.specs.Truth.{and_right}
-use Rattle.replay_lines.specs.Deeds.{Carried, deskWith}
+use Rattle.replay_lines.specs.Deeds.{Carried, desk_with}
 use Rattle.replay_lines.specs.Deeds.Carried.{same}
 use Rattle.replay_lines.specs.Laws.Carrying.{carried_on}
 use Rattle.replay.proofs.run_file.Statement.{statement}
 use Rattle.replay.proofs.run_file.Tie as tie
 
 abbrev invariant-loop : tie.invariant-loop
-invariant-loop fd rows₀ store₀ out₀ buffer₀ now₀ kept₀ goes₀ turns₀ rows store out buffer now kept goes turns = (length buffer ≡ 65536) × (kept ≤ 65536) × (length rows ≡ length rows₀) × (length store ≡ length store₀) × (length out ≡ length out₀) × Carried (deskWith now₀ rows₀ store₀) (deskWith now rows store)
+invariant-loop fd rows₀ store₀ out₀ buffer₀ now₀ kept₀ goes₀ turns₀ rows store out buffer now kept goes turns = (length buffer ≡ 65536) × (kept ≤ 65536) × (length rows ≡ length rows₀) × (length store ≡ length store₀) × (length out ≡ length out₀) × Carried (desk_with now₀ rows₀ store₀) (desk_with now rows store)
 
 abbrev decreases-loop : tie.decreases-loop
 decreases-loop fd rows₀ store₀ out₀ buffer₀ now₀ kept₀ goes₀ turns₀ rows store out buffer now kept goes turns = turns

@@ -8,7 +8,7 @@ use lib.ListN.{length}
 use borrow.Author.Rules.{rules}
 use borrow.Author.Tests.{ltb-true}
 use Rattle.ground.specs.Truth.{and_right}
-use Rattle.replay_lines.specs.Deeds.{Carried, deskWith}
+use Rattle.replay_lines.specs.Deeds.{Carried, desk_with}
 use Rattle.replay_lines.specs.Deeds.Carried.{same}
 use Rattle.replay_lines.specs.Laws.Carrying.{carried_on}
 use Rattle.replay.proofs.run_text.Statement.{statement}
@@ -16,7 +16,7 @@ use Rattle.replay.proofs.run_text.Tie as tie
 
 abbrev invariant-loop : tie.invariant-loop
 invariant-loop text last rows₀ store₀ out₀ said₀ now₀ at₀ goes₀ turns₀ rows store out said now at goes turns =
-    (at ≤ length text) × (length rows ≡ length rows₀) × (length store ≡ length store₀) × (length out ≡ length out₀) × (4096 ≡ length said) × (length text ≤ 18446744073709551615) × Carried (deskWith now₀ rows₀ store₀) (deskWith now rows store)
+    (at ≤ length text) × (length rows ≡ length rows₀) × (length store ≡ length store₀) × (length out ≡ length out₀) × (4096 ≡ length said) × (length text ≤ 18446744073709551615) × Carried (desk_with now₀ rows₀ store₀) (desk_with now rows store)
 
 abbrev decreases-loop : tie.decreases-loop
 decreases-loop text last rows₀ store₀ out₀ said₀ now₀ at₀ goes₀ turns₀ rows store out said now at goes turns = turns

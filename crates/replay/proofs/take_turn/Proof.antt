@@ -1,7 +1,7 @@
 use mathlib.Core.Path.{sym}
 use lib.Seq.{length-take-le}
 use borrow.Author.Rules.{rules}
-use Rattle.replay_lines.specs.Laws.Carrying.{carried-once}
+use Rattle.replay_lines.specs.Laws.Carrying.{carried_once}
 use Rattle.replay.proofs.take_turn.Statement.{statement}
 use Rattle.replay.proofs.take_turn.Tie as tie
 
@@ -40,7 +40,7 @@ same-length-4 c = search rules
 returns : tie.Need-returns
 returns c =
     let at_turn = c.before.before.before.before.before.before.before.before.before.before.before.before.before in
-    (search rules, carried-once _ _ _ _ _ _ _ _ _ _ _ at_turn.turn.ensures.0 at_turn.turn.ensures.1 at_turn.turn.ensures.2)
+    (search rules, carried_once _ _ _ _ _ _ _ _ _ _ _ at_turn.turn.ensures.0 at_turn.turn.ensures.1 at_turn.turn.ensures.2)
 
 pub take-turn-spec : {M : Type 1} → statement M
 take-turn-spec = tie.close (tie.spec turn-requires at-most-requires slice-reshare-prefix-write-all slice-aggregate-write-all write-all-requires at-most-requires-2 same_length same-length-2 same-length-3 same-length-4 returns)

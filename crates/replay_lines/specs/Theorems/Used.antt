@@ -7,14 +7,14 @@ use borrow.Author.Tests.{ltb-true}
 use Rattle.bytes.specs.Bytes.{index_of}
 use Rattle.recording.specs.Opening.{Opening}
 use Rattle.recording.specs.Opening.{Opening as O}
-use Rattle.recording.specs.Theorems.Lines.{IsLine, goingTo, is-line, line-going, line-opens, opensTo}
+use Rattle.recording.specs.Theorems.Lines.{IsLine, going_to, is_line, line_going, line_opens, opens_to}
 use Rattle.recording.specs.Theorems.Lines.IsLine.{frame, malformed}
 use Rattle.recording.specs.declared.pairs.Settings.{Settings as GroupSettings}
 use Rattle.recording.specs.declared.record.Record.{Record}
 use Rattle.recording.specs.declared.record.Record.TheVariants.{Frame, Malformed, Long, Unfinished, End}
-use Rattle.recording.specs.Line.{MOST, foundOf}
-use Rattle.recording.specs.Opening.{lineOpening, openingIn}
-use Rattle.recording.specs.Record.{lastRecord, lineRecord, recordIn}
+use Rattle.recording.specs.Line.{MOST, found_of}
+use Rattle.recording.specs.Opening.{line_opening, opening_in}
+use Rattle.recording.specs.Record.{last_record, line_record, record_in}
 use Rattle.replay_lines.specs.declared.replay.Phase.{Phase}
 use Rattle.replay_lines.specs.declared.replay.Phase.TheVariants.{Settings, Reading, Fetching, Skipping, Ended}
 use Rattle.replay_lines.specs.declared.replay.Replay.{Replay}
@@ -30,26 +30,26 @@ OpensWithin bytes O.Malformed = Unit {0}
 OpensWithin bytes O.Unfinished = Unit {0}
 OpensWithin bytes O.End = Unit {0}
 
-to-within : (bytes n : ℕ) → n ≤ bytes → (x : Opening) → OpensWithin bytes (opensTo n x)
-to-within bytes n h (O.Settings s next) = h
-to-within bytes n h O.Malformed = tt
-to-within bytes n h O.Unfinished = tt
-to-within bytes n h O.End = tt
+to_within : (bytes n : ℕ) → n ≤ bytes → (x : Opening) → OpensWithin bytes (opens_to n x)
+to_within bytes n h (O.Settings s next) = h
+to_within bytes n h O.Malformed = tt
+to_within bytes n h O.Unfinished = tt
+to_within bytes n h O.End = tt
 
-first-within : (bytes n : ℕ) (l : List ℕ) → n ≤ bytes → OpensWithin bytes (lineOpening n l)
-first-within bytes n l h = rw (line-opens n 0 l) (to-within bytes n h (lineOpening 0 l))
+first_within : (bytes n : ℕ) (l : List ℕ) → n ≤ bytes → OpensWithin bytes (line_opening n l)
+first_within bytes n l h = rw (line_opens n 0 l) (to_within bytes n h (line_opening 0 l))
 
-opening-within : (last : Bool) (text : List ℕ) → OpensWithin (length text) (openingIn 0 last text)
-unfolding openingIn foundOf
-opening-within last text = go (length text == 0) (nat_lt (index_of LINE-END text) (length text)) (nat_lt MOST (length text)) last refl refl refl
+opening_within : (last : Bool) (text : List ℕ) → OpensWithin (length text) (opening_in 0 last text)
+unfolding opening_in found_of
+opening_within last text = go (length text == 0) (nat_lt (index_of LINE-END text) (length text)) (nat_lt MOST (length text)) last refl refl refl
   where
-    go : (a b c l : Bool) → (length text == 0) ≡ a → nat_lt (index_of LINE-END text) (length text) ≡ b → nat_lt MOST (length text) ≡ c → OpensWithin (length text) (openingIn 0 l text)
+    go : (a b c l : Bool) → (length text == 0) ≡ a → nat_lt (index_of LINE-END text) (length text) ≡ b → nat_lt MOST (length text) ≡ c → OpensWithin (length text) (opening_in 0 l text)
     go true b c l ea eb ec = rw ea tt
     go false true c l ea eb ec =
-        rw (ea, eb) (first-within (length text) (0 + index_of LINE-END text + 1) (take (index_of LINE-END text) text) (let k = ltb-true (index_of LINE-END text) (length text) eb in omega arith))
+        rw (ea, eb) (first_within (length text) (0 + index_of LINE-END text + 1) (take (index_of LINE-END text) text) (let k = ltb-true (index_of LINE-END text) (length text) eb in omega arith))
     go false false true l ea eb ec = rw (ea, eb, ec) tt
     go false false false false ea eb ec = rw (ea, eb, ec) tt
-    go false false false true ea eb ec = rw (ea, eb, ec) (first-within (length text) (0 + length text) text (omega arith))
+    go false false false true ea eb ec = rw (ea, eb, ec) (first_within (length text) (0 + length text) text (omega arith))
 
 abbrev LeadsWithin : ℕ → Record → Type 0
 LeadsWithin bytes (Frame port h4 flag place next) = next ≤ bytes
@@ -58,52 +58,52 @@ LeadsWithin bytes Long = Unit {0}
 LeadsWithin bytes Unfinished = Unit {0}
 LeadsWithin bytes End = Unit {0}
 
-going-within : (bytes n : ℕ) → n ≤ bytes → {x : Record} → IsLine x → LeadsWithin bytes (goingTo n x)
-going-within bytes n h frame = h
-going-within bytes n h malformed = h
+going_within : (bytes n : ℕ) → n ≤ bytes → {x : Record} → IsLine x → LeadsWithin bytes (going_to n x)
+going_within bytes n h frame = h
+going_within bytes n h malformed = h
 
-line-within : (bytes ports size n : ℕ) (l : List ℕ) → n ≤ bytes → LeadsWithin bytes (lineRecord ports size 0 n l)
-line-within bytes ports size n l h = rw (line-going ports size 0 n 0 l) (going-within bytes n h (is-line ports size 0 0 l))
+line_within : (bytes ports size n : ℕ) (l : List ℕ) → n ≤ bytes → LeadsWithin bytes (line_record ports size 0 n l)
+line_within bytes ports size n l h = rw (line_going ports size 0 n 0 l) (going_within bytes n h (is_line ports size 0 0 l))
 
 -- a line is not open
-pub line-closed : {x : Record} → IsLine x → T.isOpen x ≡ false
-line-closed frame = refl
-line-closed malformed = refl
+pub line_closed : {x : Record} → IsLine x → T.is_open x ≡ false
+line_closed frame = refl
+line_closed malformed = refl
 
-now-within : (ports size : ℕ) (last : Bool) (text : List ℕ) → LeadsWithin (length text) (T.recordNow ports size last text)
-unfolding T.recordNow recordIn foundOf lastRecord
-now-within ports size last text = go (length text == 0) (nat_lt (index_of LINE-END text) (length text)) (nat_lt MOST (length text)) last refl refl refl
+now_within : (ports size : ℕ) (last : Bool) (text : List ℕ) → LeadsWithin (length text) (T.record_now ports size last text)
+unfolding T.record_now record_in found_of last_record
+now_within ports size last text = go (length text == 0) (nat_lt (index_of LINE-END text) (length text)) (nat_lt MOST (length text)) last refl refl refl
   where
-    go : (a b c l : Bool) → (length text == 0) ≡ a → nat_lt (index_of LINE-END text) (length text) ≡ b → nat_lt MOST (length text) ≡ c → LeadsWithin (length text) (T.recordNow ports size l text)
+    go : (a b c l : Bool) → (length text == 0) ≡ a → nat_lt (index_of LINE-END text) (length text) ≡ b → nat_lt MOST (length text) ≡ c → LeadsWithin (length text) (T.record_now ports size l text)
     go true b c l ea eb ec = rw ea tt
     go false true c l ea eb ec =
-        rw (ea, eb, line-closed (is-line ports size 0 (0 + index_of LINE-END text + 1) (take (index_of LINE-END text) text)))
-        (line-within (length text) ports size (0 + index_of LINE-END text + 1) (take (index_of LINE-END text) text) (let k = ltb-true (index_of LINE-END text) (length text) eb in omega arith))
+        rw (ea, eb, line_closed (is_line ports size 0 (0 + index_of LINE-END text + 1) (take (index_of LINE-END text) text)))
+        (line_within (length text) ports size (0 + index_of LINE-END text + 1) (take (index_of LINE-END text) text) (let k = ltb-true (index_of LINE-END text) (length text) eb in omega arith))
     go false false true l ea eb ec = rw (ea, eb, ec) tt
     go false false false false ea eb ec = rw (ea, eb, ec) tt
-    go false false false true ea eb ec = rw (ea, eb, ec) (line-within (length text) ports size (0 + length text) text (omega arith))
+    go false false false true ea eb ec = rw (ea, eb, ec) (line_within (length text) ports size (0 + length text) text (omega arith))
 
 module _ (r : Replay) (text : List ℕ) (last : Bool) where
-  open-uses : (rows store said : ℕ) → (T.openTurn r text last rows store said).used ≤ length text
-  unfolding T.openTurn T.openWithTurn T.answeredTurn
-  open-uses rows store said = go (T.openLent rows said) (openingIn 0 last text) (opening-within last text)
+  open_uses : (rows store said : ℕ) → (T.open_turn r text last rows store said).used ≤ length text
+  unfolding T.open_turn T.open_with_turn T.answered_turn
+  open_uses rows store said = go (T.open_lent rows said) (opening_in 0 last text) (opening_within last text)
     where
-      set : (g : GroupSettings) (next : ℕ) → next ≤ length text → (b : Bool) → (cond b (T.startedTurn r g next) (T.answeredTurn r Ended 4 0)).used ≤ length text
+      set : (g : GroupSettings) (next : ℕ) → next ≤ length text → (b : Bool) → (cond b (T.started_turn r g next) (T.answered_turn r Ended 4 0)).used ≤ length text
       set g next h true = h
       set g next h false = omega arith
 
-      go : (b : Bool) (x : Opening) → OpensWithin (length text) x → (cond b (T.openTurnBy r store x) (T.refusedTurn r)).used ≤ length text
+      go : (b : Bool) (x : Opening) → OpensWithin (length text) x → (cond b (T.open_turn_by r store x) (T.refused_turn r)).used ≤ length text
       go true (O.Settings g next) h = set g next h (T.startable g store)
       go true O.Malformed h = omega arith
       go true O.Unfinished h = omega arith
       go true O.End h = omega arith
       go false x h = omega arith
 
-  read-uses : (rows store out said : ℕ) → (T.readTurn r text last rows store out said).used ≤ length text
-  unfolding T.readTurn T.framedTurn T.answeredTurn
-  read-uses rows store out said = go (T.isLent r rows store out said) (T.nowIn r text last) (now-within r.ports r.size last text)
+  read_uses : (rows store out said : ℕ) → (T.read_turn r text last rows store out said).used ≤ length text
+  unfolding T.read_turn T.framed_turn T.answered_turn
+  read_uses rows store out said = go (T.is_lent r rows store out said) (T.now_in r text last) (now_within r.ports r.size last text)
     where
-      go : (b : Bool) (x : Record) → LeadsWithin (length text) x → (cond b (T.read_by r text x) (T.refusedTurn r)).used ≤ length text
+      go : (b : Bool) (x : Record) → LeadsWithin (length text) x → (cond b (T.read_by r text x) (T.refused_turn r)).used ≤ length text
       go true (Frame port h4 flag place next) h = h
       go true (Malformed next) h = h
       go true Long h = omega arith
@@ -111,35 +111,35 @@ module _ (r : Replay) (text : List ℕ) (last : Bool) where
       go true End h = omega arith
       go false x h = omega arith
 
-  skip-uses : (T.skipTurn r text last).used ≤ length text
-  unfolding T.skipTurn
-  skip-uses = go (nat_lt (index_of LINE-END text) (length text)) refl
+  skip_uses : (T.skip_turn r text last).used ≤ length text
+  unfolding T.skip_turn
+  skip_uses = go (nat_lt (index_of LINE-END text) (length text)) refl
     where
       go : (b : Bool) → nat_lt (index_of LINE-END text) (length text) ≡ b
-          → (cond b (T.turned (T.inPhase r Reading r.line 0) (index_of LINE-END text + 1) 0 false) (T.turned (T.inPhase r (T.skippedTo last) r.line 0) (length text) 0 true)).used ≤ length text
+          → (cond b (T.turned (T.in_phase r Reading r.line 0) (index_of LINE-END text + 1) 0 false) (T.turned (T.in_phase r (T.skipped_to last) r.line 0) (length text) 0 true)).used ≤ length text
       go true e = let k = ltb-true (index_of LINE-END text) (length text) e in omega arith
       go false e = omega arith
 
-report-uses : (r : Replay) (rows : List (List ℕ)) (store out : List ℕ) (said : ℕ) → (T.reportTurn r rows store out said).used ≡ 0
-unfolding T.reportTurn T.fetchedTurn T.reportedTurn T.readOnTurn
-report-uses r rows store out said = go (T.isLent r (length rows) (length store) (length out) said) (nat_lt 0 r.left) (T.isDue r rows store out)
+report_uses : (r : Replay) (rows : List (List ℕ)) (store out : List ℕ) (said : ℕ) → (T.report_turn r rows store out said).used ≡ 0
+unfolding T.report_turn T.fetched_turn T.reported_turn T.read_on_turn
+report_uses r rows store out said = go (T.is_lent r (length rows) (length store) (length out) said) (nat_lt 0 r.left) (T.is_due r rows store out)
   where
     go : (a b c : Bool)
-        → (cond a (cond b (cond c (T.reportedTurn r (length (T.reportPrinted r rows store out))) (T.readOnTurn r)) (T.readOnTurn r)) (T.refusedTurn r)).used ≡ 0
+        → (cond a (cond b (cond c (T.reported_turn r (length (T.report_printed r rows store out))) (T.read_on_turn r)) (T.read_on_turn r)) (T.refused_turn r)).used ≡ 0
     go true true true = refl
     go true true false = refl
     go true false c = refl
     go false b c = refl
 
-pub turn-uses : (r : Replay) (text : List ℕ) (last : Bool) (rows : List (List ℕ)) (store out : List ℕ) (said : ℕ) → (T.turn_of r text last rows store out said).used ≤ length text
+pub turn_uses : (r : Replay) (text : List ℕ) (last : Bool) (rows : List (List ℕ)) (store out : List ℕ) (said : ℕ) → (T.turn_of r text last rows store out said).used ≤ length text
 unfolding T.turn_of
-turn-uses r text last rows store out said = by r.phase
+turn_uses r text last rows store out said = by r.phase
   where
-    by : (p : Phase) → (T.turnBy p r text last rows store out said).used ≤ length text
-    by Settings = open-uses r text last (length rows) (length store) said
-    by Reading = read-uses r text last (length rows) (length store) (length out) said
-    by Fetching = let e = report-uses r rows store out said in omega arith
-    by Skipping = skip-uses r text last
+    by : (p : Phase) → (T.turn_by p r text last rows store out said).used ≤ length text
+    by Settings = open_uses r text last (length rows) (length store) said
+    by Reading = read_uses r text last (length rows) (length store) (length out) said
+    by Fetching = let e = report_uses r rows store out said in omega arith
+    by Skipping = skip_uses r text last
     by Ended = omega arith
 
 -- what is left of the text behind the place that it hands back

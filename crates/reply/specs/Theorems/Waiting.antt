@@ -3,182 +3,182 @@
 use Rattle.std.specs.Prelude.{◌≡◌, refl, ◌⊎◌, ◌≢◌, Bool, true, false, List, ℕ, ◌+◌, ◌≤◌, ◌<◌}
 use Rattle.std.proofs.Math.Path.{sym}
 use Rattle.std.proofs.Common.{ap, ◌∙◌, inl, inr, ⊎_elim, true≢false, arith}
-use Rattle.ground.specs.Truth.{eq-or-ne, fails, le-or-lt}
+use Rattle.ground.specs.Truth.{eq_or_ne, fails, le_or_lt}
 use Rattle.reply.specs.Reports.{Apart, Claim, InHoldOff, InRestoring, Low, Other, Timed}
-use Rattle.reply.specs.Theorems.Keeping.{is-kept, keeps-own, kept_by}
+use Rattle.reply.specs.Theorems.Keeping.{is_kept, keeps_own, kept_by_lem}
 use Rattle.reply.specs.declared.members.Port.{Port}
 use Rattle.reply.specs.declared.waiting.Standing.{Standing}
-use Rattle.reply.specs.Choosing.{FREE, holderOf}
-use Rattle.reply.specs.Laws.Choosing.{holders-kept}
-use Rattle.reply.specs.Laws.Claims.{claim-alone, claim-candidate, claim-free, claim-lost, claim-own, keeps, keeps-elapsed, keeps-none, keeps-not, keeps-state, left-claim, left-idle, left-lost, with-rested, with-restoring, without-failed, without-kept}
-use Rattle.reply.specs.Laws.Members.{candidate-not-idle, has_left, ok-rested, rested, restoring, restoring-fail, restoring-left, was-number, was-state}
-use Rattle.reply.specs.Members.{failState, idleState, isCandidate, isIdle, isRestoring, okState, portAt, wasOk}
-use Rattle.reply.specs.Theorems.States.{OkUnder, ok-after, ok-apart, ok-holds, standing-is}
-use Rattle.reply.specs.Waiting.{chosen_of, hasClaim, keepsNumber, keptNumbers, standing, standingAt, standingBy, withClaim, withoutClaim}
+use Rattle.reply.specs.Choosing.{FREE, holder_of}
+use Rattle.reply.specs.Laws.Choosing.{holders_kept}
+use Rattle.reply.specs.Laws.Claims.{claim_alone, claim_candidate, claim_free, claim_lost, claim_own, keeps, keeps_elapsed, keeps_none, keeps_not, keeps_state_lem, left_claim, left_idle, left_lost, with_rested, with_restoring, without_failed, without_kept}
+use Rattle.reply.specs.Laws.Members.{candidate_not_idle, has_left_lem, ok_rested, rested, restoring, restoring_fail, restoring_left, was_number, was_state}
+use Rattle.reply.specs.Members.{fail_state, idle_state, is_candidate, is_idle, is_restoring, ok_state, port_at, was_ok}
+use Rattle.reply.specs.Theorems.States.{OkUnder, ok_after, ok_apart, ok_holds_lem, standing_is}
+use Rattle.reply.specs.Waiting.{chosen_of, has_claim, keeps_number, kept_numbers, standing, standing_at, standing_by, with_claim, without_claim}
 
 -- 'one that turns IDLE does so at once', from every state, and no timer runs
-pub idle-at-once : (ports : List Port) (n i : ℕ) → n ≤ 64 → i < n → isIdle (portAt ports i) ≡ true
-    → standingAt ports n i ≡ standing idleState (portAt ports i).number 0
-idle-at-once ports n i small b e = standing-is ports n i small b ∙ left-idle (chosen_of ports n) i (portAt ports i) e
+pub idle_at_once : (ports : List Port) (n i : ℕ) → n ≤ 64 → i < n → is_idle (port_at ports i) ≡ true
+    → standing_at ports n i ≡ standing idle_state (port_at ports i).number 0
+idle_at_once ports n i small b e = standing_is ports n i small b ∙ left_idle (chosen_of ports n) i (port_at ports i) e
 
 module _ (ports : List Port) (n : ℕ) (small : n ≤ 64) (apart : Apart ports n) (i : ℕ) (b : i < n) where
   abbrev p : Port
-  p = portAt ports i
+  p = port_at ports i
 
   abbrev C : List ℕ
   C = chosen_of ports n
 
   -- the test of the definitions is the claim, asked of the numbers after the report
-  pub claim-is : Claim ports n i → hasClaim C i p ≡ true
-  claim-is c =
-      let x : ℕ = holderOf C p.number in
-      ⊎_elim (λ (f : x ≡ FREE). claim-free C i p c.candidate f)
+  pub claim_is : Claim ports n i → has_claim C i p ≡ true
+  claim_is c =
+      let x : ℕ = holder_of C p.number in
+      ⊎_elim (λ (f : x ≡ FREE). claim_free C i p c.candidate f)
       (λ (some : x ≢ FREE).
-      let o : OkUnder ports n p.number x = ok-after ports n p.number x small apart refl some in
-      ⊎_elim (λ (e : x ≡ i). claim-own C i p c.candidate e) (λ (d : x ≢ i). absurd (c.alone x o.below d o.ok o.same)) (eq-or-ne x i))
-      (eq-or-ne x FREE)
+      let o : OkUnder ports n p.number x = ok_after ports n p.number x small apart refl some in
+      ⊎_elim (λ (e : x ≡ i). claim_own C i p c.candidate e) (λ (d : x ≢ i). absurd (c.alone x o.below d o.ok o.same)) (eq_or_ne x i))
+      (eq_or_ne x FREE)
 
-  pub is-claim : hasClaim C i p ≡ true → Claim ports n i
-  is-claim e =
+  pub is_claim : has_claim C i p ≡ true → Claim ports n i
+  is_claim e =
       record {
-        candidate = claim-candidate C i p e;
+        candidate = claim_candidate C i p e;
         alone = λ j bj d ok same.
-            let h : holderOf C p.number ≡ j = ap (λ (q : ℕ). holderOf C q) (sym same) ∙ ok-holds ports n j small bj ok in
-            ⊎_elim (λ (f : holderOf C p.number ≡ FREE). let w : j ≡ FREE = sym h ∙ f in omega arith)
-            (λ (o : holderOf C p.number ≡ i). d (sym h ∙ o))
-            (claim-alone C i p e);
+            let h : holder_of C p.number ≡ j = ap (λ (q : ℕ). holder_of C q) (sym same) ∙ ok_holds_lem ports n j small bj ok in
+            ⊎_elim (λ (f : holder_of C p.number ≡ FREE). let w : j ≡ FREE = sym h ∙ f in omega arith)
+            (λ (o : holder_of C p.number ≡ i). d (sym h ∙ o))
+            (claim_alone C i p e);
       }
 
-  no-claim : (Claim ports n i → ⊥) → hasClaim C i p ≡ false
-  no-claim d = fails (hasClaim C i p) (λ e. d (is-claim e))
+  no_claim : (Claim ports n i → ⊥) → has_claim C i p ≡ false
+  no_claim d = fails (has_claim C i p) (λ e. d (is_claim e))
 
-  lost-claim : hasClaim C i p ≡ false → Claim ports n i → ⊥
-  lost-claim e c = true≢false (sym (claim-is c) ∙ e)
+  lost_claim : has_claim C i p ≡ false → Claim ports n i → ⊥
+  lost_claim e c = true≢false (sym (claim_is c) ∙ e)
 
-  pub claim-or-not : Claim ports n i ⊎ (Claim ports n i → ⊥)
-  claim-or-not = go (hasClaim C i p) refl
+  pub claim_or_not : Claim ports n i ⊎ (Claim ports n i → ⊥)
+  claim_or_not = go (has_claim C i p) refl
     where
-      go : (c : Bool) → hasClaim C i p ≡ c → Claim ports n i ⊎ (Claim ports n i → ⊥)
-      go true e = inl (is-claim e)
-      go false e = inr (lost-claim e)
+      go : (c : Bool) → has_claim C i p ≡ c → Claim ports n i ⊎ (Claim ports n i → ⊥)
+      go true e = inl (is_claim e)
+      go false e = inr (lost_claim e)
 
   -- a port without its claim is no candidate, or another port is OK under its number
-  pub really-lost : (Claim ports n i → ⊥) → (isCandidate p ≡ false) ⊎ Other ports n i
-  really-lost d = go (isCandidate p) refl
+  pub really_lost : (Claim ports n i → ⊥) → (is_candidate p ≡ false) ⊎ Other ports n i
+  really_lost d = go (is_candidate p) refl
     where
-      go : (c : Bool) → isCandidate p ≡ c → (isCandidate p ≡ false) ⊎ Other ports n i
+      go : (c : Bool) → is_candidate p ≡ c → (is_candidate p ≡ false) ⊎ Other ports n i
       go false c = inl c
       go true c =
-          let lost = claim-lost C i p (no-claim d) c in
-          let o : OkUnder ports n p.number (holderOf C p.number) = ok-after ports n p.number (holderOf C p.number) small apart refl lost.0 in
-          inr (record { at = holderOf C p.number; below = o.below; ok = o.ok; same = o.same; other = lost.1 })
+          let lost = claim_lost C i p (no_claim d) c in
+          let o : OkUnder ports n p.number (holder_of C p.number) = ok_after ports n p.number (holder_of C p.number) small apart refl lost.0 in
+          inr (record { at = holder_of C p.number; below = o.below; ok = o.ok; same = o.same; other = lost.1 })
 
-  module _ (live : isIdle p ≡ false) where
-    claimed : Claim ports n i → standingAt ports n i ≡ withClaim p
-    claimed c = standing-is ports n i small b ∙ left-claim C i p live (claim-is c)
+  module _ (live : is_idle p ≡ false) where
+    claimed : Claim ports n i → standing_at ports n i ≡ with_claim p
+    claimed c = standing_is ports n i small b ∙ left_claim C i p live (claim_is c)
 
-    unclaimed : (Claim ports n i → ⊥) → standingAt ports n i ≡ withoutClaim C i p
-    unclaimed d = standing-is ports n i small b ∙ left-lost C i p live (no-claim d)
+    unclaimed : (Claim ports n i → ⊥) → standing_at ports n i ≡ without_claim C i p
+    unclaimed d = standing_is ports n i small b ∙ left_lost C i p live (no_claim d)
 
     -- Hold-off. A port that was OK and has its claim is OK under its new number, and no timer runs;
-    pub hold-claim : p.state ≡ okState → Claim ports n i → standingAt ports n i ≡ standing okState p.number 0
-    hold-claim s c = claimed c ∙ with-rested p (ok-rested p s)
+    pub hold_claim : p.state ≡ ok_state → Claim ports n i → standing_at ports n i ≡ standing ok_state p.number 0
+    hold_claim s c = claimed c ∙ with_rested p (ok_rested p s)
 
     -- without it, as long as hold-off is left, it is OK under its old number, and the counter is one more;
-    pub hold-kept : Low ports n → p.state ≡ okState → (Claim ports n i → ⊥) → p.elapsed < p.hold_off
-        → standingAt ports n i ≡ standing okState p.state_number (p.elapsed + 1)
+    pub hold_kept : Low ports n → p.state ≡ ok_state → (Claim ports n i → ⊥) → p.elapsed < p.hold_off
+        → standing_at ports n i ≡ standing ok_state p.state_number (p.elapsed + 1)
     unfolding chosen_of
-    hold-kept low s d r =
-        let h : holderOf (keptNumbers ports n) p.state_number ≡ i = is-kept ports n small apart i b (has_left p s r (low i b s) live) (no-claim d) in
-        let kept : holderOf C p.state_number ≡ i =
-        holders-kept ports n (keptNumbers ports n) p.state_number (λ (z : holderOf (keptNumbers ports n) p.state_number ≡ FREE). let w : i ≡ FREE = sym h ∙ z in omega arith)
+    hold_kept low s d r =
+        let h : holder_of (kept_numbers ports n) p.state_number ≡ i = is_kept ports n small apart i b (has_left_lem p s r (low i b s) live) (no_claim d) in
+        let kept : holder_of C p.state_number ≡ i =
+        holders_kept ports n (kept_numbers ports n) p.state_number (λ (z : holder_of (kept_numbers ports n) p.state_number ≡ FREE). let w : i ≡ FREE = sym h ∙ z in omega arith)
         ∙ h in
-        unclaimed d ∙ without-kept C i p (keeps C i p s r kept)
+        unclaimed d ∙ without_kept C i p (keeps C i p s r kept)
 
     -- and FAIL at the report at which the counter has reached the hold-off.
-    pub hold-over : (Claim ports n i → ⊥) → p.hold_off ≤ p.elapsed → standingAt ports n i ≡ standing failState p.number 0
-    hold-over d r = unclaimed d ∙ without-failed C i p (keeps-not C i p r)
+    pub hold_over : (Claim ports n i → ⊥) → p.hold_off ≤ p.elapsed → standing_at ports n i ≡ standing fail_state p.number 0
+    hold_over d r = unclaimed d ∙ without_failed C i p (keeps_not C i p r)
 
     -- 'An OK port that loses its claim goes FAIL only when it has stayed so for the hold-off': then, and only then
-    pub hold-exactly : Low ports n → p.state ≡ okState
-        → ((standingAt ports n i).state ≡ failState → (Claim ports n i → ⊥) × (p.hold_off ≤ p.elapsed))
-        × ((Claim ports n i → ⊥) × (p.hold_off ≤ p.elapsed) → (standingAt ports n i).state ≡ failState)
-    hold-exactly low s = (only, λ w. ap (λ (t : Standing). t.state) (hold-over w.0 w.1))
+    pub hold_exactly : Low ports n → p.state ≡ ok_state
+        → ((standing_at ports n i).state ≡ fail_state → (Claim ports n i → ⊥) × (p.hold_off ≤ p.elapsed))
+        × ((Claim ports n i → ⊥) × (p.hold_off ≤ p.elapsed) → (standing_at ports n i).state ≡ fail_state)
+    hold_exactly low s = (only, λ w. ap (λ (t : Standing). t.state) (hold_over w.0 w.1))
       where
-        only : (standingAt ports n i).state ≡ failState → (Claim ports n i → ⊥) × (p.hold_off ≤ p.elapsed)
+        only : (standing_at ports n i).state ≡ fail_state → (Claim ports n i → ⊥) × (p.hold_off ≤ p.elapsed)
         only f =
-            ⊎_elim (λ (c : Claim ports n i). let w : okState ≡ failState = sym (ap (λ (t : Standing). t.state) (hold-claim s c)) ∙ f in absurd (omega arith))
+            ⊎_elim (λ (c : Claim ports n i). let w : ok_state ≡ fail_state = sym (ap (λ (t : Standing). t.state) (hold_claim s c)) ∙ f in absurd (omega arith))
             (λ (d : Claim ports n i → ⊥).
             ⊎_elim (λ (o : p.hold_off ≤ p.elapsed). (d, o))
-            (λ (r : p.elapsed < p.hold_off). let w : okState ≡ failState = sym (ap (λ (t : Standing). t.state) (hold-kept low s d r)) ∙ f in absurd (omega arith))
-            (le-or-lt p.hold_off p.elapsed))
-            claim-or-not
+            (λ (r : p.elapsed < p.hold_off). let w : ok_state ≡ fail_state = sym (ap (λ (t : Standing). t.state) (hold_kept low s d r)) ∙ f in absurd (omega arith))
+            (le_or_lt p.hold_off p.elapsed))
+            claim_or_not
 
     -- Restoring. A port that was FAIL and has had its claim long enough is OK;
-    pub restore-over : Claim ports n i → p.restore ≤ p.elapsed → standingAt ports n i ≡ standing okState p.number 0
-    restore-over c r = claimed c ∙ with-rested p (rested p r)
+    pub restore_over : Claim ports n i → p.restore ≤ p.elapsed → standing_at ports n i ≡ standing ok_state p.number 0
+    restore_over c r = claimed c ∙ with_rested p (rested p r)
 
     -- until then it is FAIL, and the counter is one more;
-    pub restore-waits : p.state ≡ failState → Claim ports n i → p.elapsed < p.restore → standingAt ports n i ≡ standing failState p.number (p.elapsed + 1)
-    restore-waits s c r = claimed c ∙ with-restoring p (restoring p s r)
+    pub restore_waits : p.state ≡ fail_state → Claim ports n i → p.elapsed < p.restore → standing_at ports n i ≡ standing fail_state p.number (p.elapsed + 1)
+    restore_waits s c r = claimed c ∙ with_restoring p (restoring p s r)
 
     -- without its claim it begins anew.
-    pub restore-lost : p.state ≢ okState → (Claim ports n i → ⊥) → standingAt ports n i ≡ standing failState p.number 0
-    restore-lost s d = unclaimed d ∙ without-failed C i p (keeps-none C i p s)
+    pub restore_lost : p.state ≢ ok_state → (Claim ports n i → ⊥) → standing_at ports n i ≡ standing fail_state p.number 0
+    restore_lost s d = unclaimed d ∙ without_failed C i p (keeps_none C i p s)
 
     -- 'A FAIL port goes OK only when its claim has stood for the wait-to-restore': then, and only then
-    pub restore-exactly : p.state ≡ failState
-        → ((standingAt ports n i).state ≡ okState → Claim ports n i × (p.restore ≤ p.elapsed))
-        × (Claim ports n i × (p.restore ≤ p.elapsed) → (standingAt ports n i).state ≡ okState)
-    restore-exactly s = (only, λ w. ap (λ (t : Standing). t.state) (restore-over w.0 w.1))
+    pub restore_exactly : p.state ≡ fail_state
+        → ((standing_at ports n i).state ≡ ok_state → Claim ports n i × (p.restore ≤ p.elapsed))
+        × (Claim ports n i × (p.restore ≤ p.elapsed) → (standing_at ports n i).state ≡ ok_state)
+    restore_exactly s = (only, λ w. ap (λ (t : Standing). t.state) (restore_over w.0 w.1))
       where
-        only : (standingAt ports n i).state ≡ okState → Claim ports n i × (p.restore ≤ p.elapsed)
+        only : (standing_at ports n i).state ≡ ok_state → Claim ports n i × (p.restore ≤ p.elapsed)
         only f =
             ⊎_elim
             (λ (c : Claim ports n i).
             ⊎_elim (λ (o : p.restore ≤ p.elapsed). (c, o))
-            (λ (r : p.elapsed < p.restore). let w : failState ≡ okState = sym (ap (λ (t : Standing). t.state) (restore-waits s c r)) ∙ f in absurd (omega arith))
-            (le-or-lt p.restore p.elapsed))
+            (λ (r : p.elapsed < p.restore). let w : fail_state ≡ ok_state = sym (ap (λ (t : Standing). t.state) (restore_waits s c r)) ∙ f in absurd (omega arith))
+            (le_or_lt p.restore p.elapsed))
             (λ (d : Claim ports n i → ⊥).
-            let w : failState ≡ okState = sym (ap (λ (t : Standing). t.state) (restore-lost (λ (z : p.state ≡ okState). omega arith) d)) ∙ f in
+            let w : fail_state ≡ ok_state = sym (ap (λ (t : Standing). t.state) (restore_lost (λ (z : p.state ≡ ok_state). omega arith) d)) ∙ f in
             absurd (omega arith))
-            claim-or-not
+            claim_or_not
 
     -- From IDLE both ways are at once: hold-off is of OK ports, restoring of FAIL ones.
-    pub idle-to-ok : p.state ≡ idleState → Claim ports n i → standingAt ports n i ≡ standing okState p.number 0
-    idle-to-ok s c = claimed c ∙ with-rested p (rw s)
+    pub idle_to_ok : p.state ≡ idle_state → Claim ports n i → standing_at ports n i ≡ standing ok_state p.number 0
+    idle_to_ok s c = claimed c ∙ with_rested p (rw s)
 
-    pub idle-to-fail : p.state ≡ idleState → (Claim ports n i → ⊥) → standingAt ports n i ≡ standing failState p.number 0
-    idle-to-fail s d = restore-lost (λ (z : p.state ≡ okState). omega arith) d
+    pub idle_to_fail : p.state ≡ idle_state → (Claim ports n i → ⊥) → standing_at ports n i ≡ standing fail_state p.number 0
+    idle_to_fail s d = restore_lost (λ (z : p.state ≡ ok_state). omega arith) d
 
   -- 'Candidates that were OK under the same number choose first': such a one stays OK, whoever else asks for its number
-  pub was-ok-stays : isCandidate p ≡ true → wasOk p ≡ true → standingAt ports n i ≡ standing okState p.number 0
+  pub was_ok_stays : is_candidate p ≡ true → was_ok p ≡ true → standing_at ports n i ≡ standing ok_state p.number 0
   unfolding chosen_of
-  was-ok-stays c w =
-      standing-is ports n i small b
-      ∙ left-claim C i p (candidate-not-idle p c)
-      (claim-own C i p c (keeps-own ports n (keptNumbers ports n) i small apart (kept_by ports n) b c (was-state p w) (was-number p w)))
-      ∙ with-rested p (ok-rested p (was-state p w))
+  was_ok_stays c w =
+      standing_is ports n i small b
+      ∙ left_claim C i p (candidate_not_idle p c)
+      (claim_own C i p c (keeps_own ports n (kept_numbers ports n) i small apart (kept_by_lem ports n) b c (was_state p w) (was_number p w)))
+      ∙ with_rested p (ok_rested p (was_state p w))
 
   -- 'One whose number is still free becomes OK; all else are FAIL': a candidate is FAIL only where another port is OK with its number, or where it
   -- waits to restore
-  pub fail-other : isCandidate p ≡ true → (standingAt ports n i).state ≡ failState → (isRestoring p ≡ true) ⊎ Other ports n i
-  fail-other c f = go (isRestoring p) refl
+  pub fail_other : is_candidate p ≡ true → (standing_at ports n i).state ≡ fail_state → (is_restoring p ≡ true) ⊎ Other ports n i
+  fail_other c f = go (is_restoring p) refl
     where
-      go : (r : Bool) → isRestoring p ≡ r → (isRestoring p ≡ true) ⊎ Other ports n i
+      go : (r : Bool) → is_restoring p ≡ r → (is_restoring p ≡ true) ⊎ Other ports n i
       go true r = inl r
       go false r =
           inr
-          (⊎_elim (λ (none : isCandidate p ≡ false). absurd (true≢false (sym c ∙ none))) (λ (o : Other ports n i). o)
-          (really-lost
+          (⊎_elim (λ (none : is_candidate p ≡ false). absurd (true≢false (sym c ∙ none))) (λ (o : Other ports n i). o)
+          (really_lost
           (λ (k : Claim ports n i).
-          let w : okState ≡ failState = sym (ap (λ (t : Standing). t.state) (claimed (candidate-not-idle p c) k ∙ with-rested p r)) ∙ f in
+          let w : ok_state ≡ fail_state = sym (ap (λ (t : Standing). t.state) (claimed (candidate_not_idle p c) k ∙ with_rested p r)) ∙ f in
           omega arith)))
 
   -- 'During hold-off the port keeps its number against others': nobody else is OK under it
-  pub against-others : (standingAt ports n i).state ≡ okState → (j : ℕ) → j < n → j ≢ i → (standingAt ports n j).state ≡ okState
-      → (standingAt ports n j).number ≢ (standingAt ports n i).number
-  against-others ok j bj d okj same = d (ok-apart ports n j i small bj b okj ok same)
+  pub against_others : (standing_at ports n i).state ≡ ok_state → (j : ℕ) → j < n → j ≢ i → (standing_at ports n j).state ≡ ok_state
+      → (standing_at ports n j).number ≢ (standing_at ports n i).number
+  against_others ok j bj d okj same = d (ok_apart ports n j i small bj b okj ok same)
 
 -- 'Never are both running for one port (source document 002, annex C).'
 pub never_both : (s : Standing) → InHoldOff s → InRestoring s → ⊥
@@ -188,34 +188,34 @@ still : (p : Port) (state : ℕ) → Timed p (standing state p.number 0)
 still p state = record { idle = λ e. refl; holding = λ w. absurd (let z = w.1 in omega arith); restoring = λ w. absurd (let z = w.1 in omega arith) }
 
 module _ (C : List ℕ) (i : ℕ) (p : Port) where
-  timed-with : (r : Bool) → isRestoring p ≡ r → Timed p (withClaim p)
-  timed-with true r =
-      rw (with-restoring p r)
+  timed_with : (r : Bool) → is_restoring p ≡ r → Timed p (with_claim p)
+  timed_with true r =
+      rw (with_restoring p r)
       (record {
-        idle = λ (e : failState ≡ idleState). absurd (omega arith);
-        holding = λ w. absurd (let z : failState ≡ okState = w.0 in omega arith);
-        restoring = λ w. (restoring-fail p r, let z = restoring-left p r in omega arith);
+        idle = λ (e : fail_state ≡ idle_state). absurd (omega arith);
+        holding = λ w. absurd (let z : fail_state ≡ ok_state = w.0 in omega arith);
+        restoring = λ w. (restoring_fail p r, let z = restoring_left p r in omega arith);
       })
-  timed-with false r = rw (with-rested p r) (still p okState)
+  timed_with false r = rw (with_rested p r) (still p ok_state)
 
-  timed-without : (k : Bool) → keepsNumber C i p ≡ k → Timed p (withoutClaim C i p)
-  timed-without true k =
-      rw (without-kept C i p k)
+  timed_without : (k : Bool) → keeps_number C i p ≡ k → Timed p (without_claim C i p)
+  timed_without true k =
+      rw (without_kept C i p k)
       (record {
-        idle = λ (e : okState ≡ idleState). absurd (omega arith);
-        holding = λ w. (keeps-state C i p k, refl, let z = keeps-elapsed C i p k in omega arith);
-        restoring = λ w. absurd (let z : okState ≡ failState = w.0 in omega arith);
+        idle = λ (e : ok_state ≡ idle_state). absurd (omega arith);
+        holding = λ w. (keeps_state_lem C i p k, refl, let z = keeps_elapsed C i p k in omega arith);
+        restoring = λ w. absurd (let z : ok_state ≡ fail_state = w.0 in omega arith);
       })
-  timed-without false k = rw (without-failed C i p k) (still p failState)
+  timed_without false k = rw (without_failed C i p k) (still p fail_state)
 
-  timed-live : (c : Bool) → hasClaim C i p ≡ c → isIdle p ≡ false → Timed p (standingBy C i p)
-  timed-live true c e = rw (left-claim C i p e c) (timed-with (isRestoring p) refl)
-  timed-live false c e = rw (left-lost C i p e c) (timed-without (keepsNumber C i p) refl)
+  timed_live : (c : Bool) → has_claim C i p ≡ c → is_idle p ≡ false → Timed p (standing_by C i p)
+  timed_live true c e = rw (left_claim C i p e c) (timed_with (is_restoring p) refl)
+  timed_live false c e = rw (left_lost C i p e c) (timed_without (keeps_number C i p) refl)
 
-  timed-any : (a : Bool) → isIdle p ≡ a → Timed p (standingBy C i p)
-  timed-any true e = rw (left-idle C i p e) (still p idleState)
-  timed-any false e = timed-live (hasClaim C i p) refl e
+  timed_any : (a : Bool) → is_idle p ≡ a → Timed p (standing_by C i p)
+  timed_any true e = rw (left_idle C i p e) (still p idle_state)
+  timed_any false e = timed_live (has_claim C i p) refl e
 
-pub timed : (ports : List Port) (n i : ℕ) → n ≤ 64 → i < n → Timed (portAt ports i) (standingAt ports n i)
+pub timed : (ports : List Port) (n i : ℕ) → n ≤ 64 → i < n → Timed (port_at ports i) (standing_at ports n i)
 timed ports n i small b =
-    rw (standing-is ports n i small b) (timed-any (chosen_of ports n) i (portAt ports i) (isIdle (portAt ports i)) refl)
+    rw (standing_is ports n i small b) (timed_any (chosen_of ports n) i (port_at ports i) (is_idle (port_at ports i)) refl)

@@ -7,8 +7,8 @@ use Rattle.std.proofs.lemmas.Bool.{false≢true}
 use Prim.Native.Nat.{ℕ, ◌≤◌, ◌<◌}
 use borrow.Author.Tests.{eq-eqb, eqb-true, ltb-true, ltb-false, not-true}
 use Rattle.ground.specs.Truth.{and-true, and_left, and_right, fails}
-use Rattle.ground.specs.Counting.Laws.Ranks.{all-taken, some-top}
-use Rattle.ground.specs.Counting.Laws.Tests.{none-at, some_at, some_one}
+use Rattle.ground.specs.Counting.Laws.Ranks.{all_taken, some_top}
+use Rattle.ground.specs.Counting.Laws.Tests.{none_at, some_at, some_one}
 use Rattle.ground.specs.Counting.Words.{One, count, some}
 use Rattle.packet.specs.Words.{EOS}
 use Rattle.sender.specs.declared.table.State.{State}
@@ -17,118 +17,118 @@ use Rattle.sender.specs.declared.table.Table.{Table}
 use Rattle.sender.specs.Board.{highest, row_of, word_of}
 use Rattle.sender.specs.Calls.{Call, run}
 use Rattle.sender.specs.Commands.{start_of}
-use Rattle.sender.specs.Laws.Kept.{Sound, sound-run, sound-start}
-use Rattle.sender.specs.Laws.Numbered.{placed-member, add-member, member-cases}
-use Rattle.sender.specs.Numbering.{Demand2, is_placed, members, number_in, placed, sends, slotsIn, stateIn}
-use Rattle.sender.specs.Table.{isActive, isAdd, isMember}
+use Rattle.sender.specs.Laws.Kept.{Sound, sound_run, sound_start}
+use Rattle.sender.specs.Laws.Numbered.{placed_member, add_member, member_cases}
+use Rattle.sender.specs.Numbering.{Demand2, is_placed, members, number_in, placed, sends, slots_in, state_in}
+use Rattle.sender.specs.Table.{is_active, is_add, is_member}
 
 -- the word of an active member is EOS or NORM, and that of any other neither
-word-eos : (s : State) (last : Bool) → (word_of s last).0 ≡ EOS → (isActive s ≡ true) × (last ≡ true)
-word-eos Idle last e = absurd (omega arith)
-word-eos Add last e = absurd (omega arith)
-word-eos Active true e = (refl, refl)
-word-eos Active false e = absurd (omega arith)
-word-eos Dnu last e = absurd (omega arith)
+word_eos : (s : State) (last : Bool) → (word_of s last).0 ≡ EOS → (is_active s ≡ true) × (last ≡ true)
+word_eos Idle last e = absurd (omega arith)
+word_eos Add last e = absurd (omega arith)
+word_eos Active true e = (refl, refl)
+word_eos Active false e = absurd (omega arith)
+word_eos Dnu last e = absurd (omega arith)
 
-active-eos : (s : State) (last : Bool) → isActive s ≡ true → last ≡ true → (word_of s last).0 ≡ EOS
-active-eos Idle last a e = absurd (false≢true a)
-active-eos Add last a e = absurd (false≢true a)
-active-eos Active last a e = rw e
-active-eos Dnu last a e = absurd (false≢true a)
+active_eos : (s : State) (last : Bool) → is_active s ≡ true → last ≡ true → (word_of s last).0 ≡ EOS
+active_eos Idle last a e = absurd (false≢true a)
+active_eos Add last a e = absurd (false≢true a)
+active_eos Active last a e = rw e
+active_eos Dnu last a e = absurd (false≢true a)
 
-pub active-member : (s : State) → isActive s ≡ true → isMember s ≡ true
-active-member Idle a = a
-active-member Add a = refl
-active-member Active a = refl
-active-member Dnu a = refl
+pub active_member : (s : State) → is_active s ≡ true → is_member s ≡ true
+active_member Idle a = a
+active_member Add a = refl
+active_member Active a = refl
+active_member Dnu a = refl
 
 module _ (t : Table) where
   abbrev active : ℕ → Bool
-  active j = isActive (stateIn t j)
+  active j = is_active (state_in t j)
 
   abbrev above : ℕ → ℕ → Bool
   above q j = active j && ltb q (number_in t j)
 
-  highest-said : (q : ℕ) → highest t.slots (slotsIn t) q ≡ true → (j : ℕ) → j < slotsIn t → active j ≡ true → number_in t j ≤ q
+  highest_said : (q : ℕ) → highest t.slots (slots_in t) q ≡ true → (j : ℕ) → j < slots_in t → active j ≡ true → number_in t j ≤ q
   unfolding highest
-  highest-said q e j h a = ltb-false q (number_in t j) (rest (active j) (ltb q (number_in t j)) a (none-at (slotsIn t) (above q) (not-true _ e) j h))
+  highest_said q e j h a = ltb-false q (number_in t j) (rest (active j) (ltb q (number_in t j)) a (none_at (slots_in t) (above q) (not-true _ e) j h))
     where
       rest : (b c : Bool) → b ≡ true → (b && c) ≡ false → c ≡ false
       rest true c x y = y
       rest false c x y = absurd (false≢true x)
 
-  highest-true : (q : ℕ) → ((j : ℕ) → j < slotsIn t → active j ≡ true → number_in t j ≤ q) → highest t.slots (slotsIn t) q ≡ true
+  highest_true : (q : ℕ) → ((j : ℕ) → j < slots_in t → active j ≡ true → number_in t j ≤ q) → highest t.slots (slots_in t) q ≡ true
   unfolding highest
-  highest-true q l =
-      ap not (fails (some (slotsIn t) (above q)) (λ (e : some (slotsIn t) (above q) ≡ true).
-      let o = some_one (slotsIn t) (above q) e in
+  highest_true q l =
+      ap not (fails (some (slots_in t) (above q)) (λ (e : some (slots_in t) (above q) ≡ true).
+      let o = some_one (slots_in t) (above q) e in
       let j : ℕ = o.at in
       let w : q < number_in t j = ltb-true q (number_in t j) (and_right (active j) (ltb q (number_in t j)) o.holds) in
       let v : number_in t j ≤ q = l j o.below (and_left (active j) (ltb q (number_in t j)) o.holds) in
       omega arith))
 
   module _ (s : Sound t) where
-    eos : (i : ℕ) → i < slotsIn t → sends t i ≡ EOS → (active i ≡ true) × ((j : ℕ) → j < slotsIn t → active j ≡ true → number_in t j ≤ number_in t i)
+    eos : (i : ℕ) → i < slots_in t → sends t i ≡ EOS → (active i ≡ true) × ((j : ℕ) → j < slots_in t → active j ≡ true → number_in t j ≤ number_in t i)
     unfolding row_of
     eos i h e =
-        let w = word-eos (stateIn t i) (highest t.slots (slotsIn t) (number_in t i)) e in
-        (w.0, highest-said (number_in t i) w.1)
+        let w = word_eos (state_in t i) (highest t.slots (slots_in t) (number_in t i)) e in
+        (w.0, highest_said (number_in t i) w.1)
 
-    highest-eos : (i : ℕ) → i < slotsIn t → active i ≡ true → ((j : ℕ) → j < slotsIn t → active j ≡ true → number_in t j ≤ number_in t i) → sends t i ≡ EOS
+    highest_eos : (i : ℕ) → i < slots_in t → active i ≡ true → ((j : ℕ) → j < slots_in t → active j ≡ true → number_in t j ≤ number_in t i) → sends t i ≡ EOS
     unfolding row_of
-    highest-eos i h a l = active-eos (stateIn t i) (highest t.slots (slotsIn t) (number_in t i)) a (highest-true (number_in t i) l)
+    highest_eos i h a l = active_eos (state_in t i) (highest t.slots (slots_in t) (number_in t i)) a (highest_true (number_in t i) l)
 
-    each : (q : ℕ) → q < placed (stateIn t) (slotsIn t) → One (slotsIn t) (λ i. is_placed (stateIn t i) && eqb (number_in t i) q)
+    each : (q : ℕ) → q < placed (state_in t) (slots_in t) → One (slots_in t) (λ i. is_placed (state_in t i) && eqb (number_in t i) q)
     each q h =
-        all-taken (slotsIn t) (placed (stateIn t) (slotsIn t)) (λ i. is_placed (stateIn t i)) (number_in t)
-        (λ i j hi hj pi pj e. s.numbered.once i j hi hj (placed-member (stateIn t i) pi) (placed-member (stateIn t j) pj) e) s.numbered.low refl q h
+        all_taken (slots_in t) (placed (state_in t) (slots_in t)) (λ i. is_placed (state_in t i)) (number_in t)
+        (λ i j hi hj pi pj e. s.numbered.once i j hi hj (placed_member (state_in t i) pi) (placed_member (state_in t j) pj) e) s.numbered.low refl q h
 
-    each-add : (q : ℕ) → placed (stateIn t) (slotsIn t) ≤ q → q < members (stateIn t) (slotsIn t) → One (slotsIn t) (λ i. isAdd (stateIn t i) && eqb (number_in t i) q)
-    each-add q l h =
-        let w = all-taken (slotsIn t) (members (stateIn t) (slotsIn t)) (λ i. isMember (stateIn t i)) (number_in t) s.numbered.once s.numbered.top refl q h in
+    each_add : (q : ℕ) → placed (state_in t) (slots_in t) ≤ q → q < members (state_in t) (slots_in t) → One (slots_in t) (λ i. is_add (state_in t i) && eqb (number_in t i) q)
+    each_add q l h =
+        let w = all_taken (slots_in t) (members (state_in t) (slots_in t)) (λ i. is_member (state_in t i)) (number_in t) s.numbered.once s.numbered.top refl q h in
         let i : ℕ = w.at in
-        let m : isMember (stateIn t i) ≡ true = and_left (isMember (stateIn t i)) (eqb (number_in t i) q) w.holds in
-        let e : eqb (number_in t i) q ≡ true = and_right (isMember (stateIn t i)) (eqb (number_in t i) q) w.holds in
-        let a : isAdd (stateIn t i) ≡ true =
+        let m : is_member (state_in t i) ≡ true = and_left (is_member (state_in t i)) (eqb (number_in t i) q) w.holds in
+        let e : eqb (number_in t i) q ≡ true = and_right (is_member (state_in t i)) (eqb (number_in t i) q) w.holds in
+        let a : is_add (state_in t i) ≡ true =
         ⊎_elim
-        (λ (p : is_placed (stateIn t i) ≡ true).
+        (λ (p : is_placed (state_in t i) ≡ true).
         absurd (let k = s.numbered.low i w.below p in let g = eqb-true (number_in t i) q e in omega arith))
-        (λ (p : isAdd (stateIn t i) ≡ true). p) (member-cases (stateIn t i) m) in
-        record { at = i; below = w.below; holds = and-true (isAdd (stateIn t i)) _ a e }
+        (λ (p : is_add (state_in t i) ≡ true). p) (member_cases (state_in t i) m) in
+        record { at = i; below = w.below; holds = and-true (is_add (state_in t i)) _ a e }
 
-    one-eos : (i j : ℕ) → i < slotsIn t → j < slotsIn t → sends t i ≡ EOS → sends t j ≡ EOS → i ≡ j
-    one-eos i j hi hj ei ej =
+    one_eos : (i j : ℕ) → i < slots_in t → j < slots_in t → sends t i ≡ EOS → sends t j ≡ EOS → i ≡ j
+    one_eos i j hi hj ei ej =
         let wi = eos i hi ei in
         let wj = eos j hj ej in
         let a = wi.1 j hj wj.0 in
         let b = wj.1 i hi wi.0 in
-        s.numbered.once i j hi hj (active-member (stateIn t i) wi.0) (active-member (stateIn t j) wj.0) (omega arith)
+        s.numbered.once i j hi hj (active_member (state_in t i) wi.0) (active_member (state_in t j) wj.0) (omega arith)
 
-    some-eos : some (slotsIn t) active ≡ true → One (slotsIn t) (λ i. eqb (sends t i) EOS)
-    some-eos e =
-        let w = some-top (slotsIn t) active (number_in t) e in
-        record { at = w.at; below = w.below; holds = eq-eqb (sends t w.at) EOS (highest-eos w.at w.below w.holds w.above) }
+    some_eos : some (slots_in t) active ≡ true → One (slots_in t) (λ i. eqb (sends t i) EOS)
+    some_eos e =
+        let w = some_top (slots_in t) active (number_in t) e in
+        record { at = w.at; below = w.below; holds = eq-eqb (sends t w.at) EOS (highest_eos w.at w.below w.holds w.above) }
 
-    no-eos : some (slotsIn t) active ≡ false → (i : ℕ) → i < slotsIn t → sends t i ≡ EOS → ⊥
-    no-eos e i h x = true≢false (sym (some_at (slotsIn t) active i h (eos i h x).0) ∙ e)
+    no_eos : some (slots_in t) active ≡ false → (i : ℕ) → i < slots_in t → sends t i ≡ EOS → ⊥
+    no_eos e i h x = true≢false (sym (some_at (slots_in t) active i h (eos i h x).0) ∙ e)
 
-    pub sound-demand2 : Demand2 t
-    sound-demand2 =
+    pub sound_demand2 : Demand2 t
+    sound_demand2 =
         record {
           once = s.numbered.once;
           low = s.numbered.low;
           each = each;
           follow = s.numbered.follow;
-          last = λ i h a. s.numbered.top i h (add-member (stateIn t i) a);
-          each-add = each-add;
+          last = λ i h a. s.numbered.top i h (add_member (state_in t i) a);
+          each_add = each_add;
           idle = s.numbered.idles;
           eos = eos;
-          highest-eos = highest-eos;
-          some-eos = some-eos;
-          one-eos = one-eos;
-          no-eos = no-eos;
+          highest_eos = highest_eos;
+          some_eos = some_eos;
+          one_eos = one_eos;
+          no_eos = no_eos;
         }
 
 -- for every list of calls from every start
 pub demand2 : (kind count : ℕ) (calls : List Call) → Demand2 (run (start_of kind count).table calls)
-demand2 kind count calls = sound-demand2 (run (start_of kind count).table calls) (sound-run (start_of kind count).table calls (sound-start kind count))
+demand2 kind count calls = sound_demand2 (run (start_of kind count).table calls) (sound_run (start_of kind count).table calls (sound_start kind count))

@@ -9,64 +9,64 @@ use Rattle.bytes.specs.Bytes.{index_of}
 use Rattle.session_lines.specs.declared.session.Fed.{Fed}
 use Rattle.session_lines.specs.declared.session.Session.{Session}
 use Rattle.session_lines.specs.Output.{ROOM}
-use Rattle.session_lines.specs.Session.{fedText, feedBytes, feedOf, finishBytes, finishOf, lastText, over, usedOf}
-use Rattle.text.specs.Laws.Parted.{index-le}
+use Rattle.session_lines.specs.Session.{fed_text, feed_bytes, feed_of, finish_bytes, finish_of, last_text, over, used_of}
+use Rattle.text.specs.Laws.Parted.{index_le}
 use Rattle.text.specs.Text.{LINE-END}
 
-pub used_le : (input : List ℕ) → usedOf input ≤ length input
-unfolding usedOf
+pub used_le : (input : List ℕ) → used_of input ≤ length input
+unfolding used_of
 used_le input = go (ltb (index_of LINE-END input) (length input)) refl
   where
     go : (b : Bool) → ltb (index_of LINE-END input) (length input) ≡ b → cond b (index_of LINE-END input + 1) (index_of LINE-END input) ≤ length input
     go true e = let h = ltb-true (index_of LINE-END input) (length input) e in omega arith
-    go false e = index-le LINE-END input
+    go false e = index_le LINE-END input
 
 -- a part with a byte in it is not left as it was
-pub used-some : (input : List ℕ) → 0 < length input → 0 < usedOf input
-unfolding usedOf
-used-some input h = go (ltb (index_of LINE-END input) (length input)) refl
+pub used_some : (input : List ℕ) → 0 < length input → 0 < used_of input
+unfolding used_of
+used_some input h = go (ltb (index_of LINE-END input) (length input)) refl
   where
     go : (b : Bool) → ltb (index_of LINE-END input) (length input) ≡ b → 0 < cond b (index_of LINE-END input + 1) (index_of LINE-END input)
     go true e = omega arith
     go false e = let k = ltb-false (index_of LINE-END input) (length input) e in omega arith
 
 -- what is left of a part from a place on, fed
-pub fed-on : (input : List ℕ) (at used : ℕ) → at < length input → used ≡ usedOf (take (length input - at) (drop at input)) → (0 < used) × (at + used ≤ length input)
-fed-on input at used h e =
+pub fed_on : (input : List ℕ) (at used : ℕ) → at < length input → used ≡ used_of (take (length input - at) (drop at input)) → (0 < used) × (at + used ≤ length input)
+fed_on input at used h e =
     let d = length-drop at input in
     let n : length (take (length input - at) (drop at input)) ≡ length input - at = length-take-le (length input - at) (drop at input) (omega arith) in
-    let a = used-some (take (length input - at) (drop at input)) (omega arith) in
+    let a = used_some (take (length input - at) (drop at input)) (omega arith) in
     let b = used_le (take (length input - at) (drop at input)) in
     (omega arith, omega arith)
 
-over-le : (text out : List ℕ) → length text ≤ length (over text out)
-over-le text out = let n = length-append text (drop (length text) out) in omega arith
+over_le : (text out : List ℕ) → length text ≤ length (over text out)
+over_le text out = let n = length-append text (drop (length text) out) in omega arith
 
 -- the output lies in the buffer
-module _ (s : Session) (input out : List ℕ) (f : Fed) (new : List ℕ) (e : (f ≡ feedOf s input out) × (new ≡ feedBytes s input out)) where
-  fed-le : (feedOf s input out).written ≤ length (feedBytes s input out)
-  unfolding feedOf feedBytes
-  fed-le = go (ltb (length out) ROOM) refl
+module _ (s : Session) (input out : List ℕ) (f : Fed) (new : List ℕ) (e : (f ≡ feed_of s input out) × (new ≡ feed_bytes s input out)) where
+  fed_le : (feed_of s input out).written ≤ length (feed_bytes s input out)
+  unfolding feed_of feed_bytes
+  fed_le = go (ltb (length out) ROOM) refl
     where
-      go : (b : Bool) → ltb (length out) ROOM ≡ b → (feedOf s input out).written ≤ length (feedBytes s input out)
+      go : (b : Bool) → ltb (length out) ROOM ≡ b → (feed_of s input out).written ≤ length (feed_bytes s input out)
       go true h = rw h (omega arith)
-      go false h = rw h (over-le (fedText s input) out)
+      go false h = rw h (over_le (fed_text s input) out)
 
-  pub fed-within : f.written ≤ length new
-  fed-within = rw (e.0, e.1) fed-le
+  pub fed_within : f.written ≤ length new
+  fed_within = rw (e.0, e.1) fed_le
 
-  pub fed-used : ROOM ≤ length out → f.used ≡ usedOf input
-  unfolding feedOf
-  fed-used h = ap (λ (x : Fed). x.used) e.0 ∙ rw (le-ltb (length out) ROOM h)
+  pub fed_used : ROOM ≤ length out → f.used ≡ used_of input
+  unfolding feed_of
+  fed_used h = ap (λ (x : Fed). x.used) e.0 ∙ rw (le-ltb (length out) ROOM h)
 
-module _ (s : Session) (out : List ℕ) (f : Fed) (new : List ℕ) (e : (f ≡ finishOf s out) × (new ≡ finishBytes s out)) where
-  last-le : (finishOf s out).written ≤ length (finishBytes s out)
-  unfolding finishOf finishBytes
-  last-le = go (ltb (length out) ROOM) refl
+module _ (s : Session) (out : List ℕ) (f : Fed) (new : List ℕ) (e : (f ≡ finish_of s out) × (new ≡ finish_bytes s out)) where
+  last_le : (finish_of s out).written ≤ length (finish_bytes s out)
+  unfolding finish_of finish_bytes
+  last_le = go (ltb (length out) ROOM) refl
     where
-      go : (b : Bool) → ltb (length out) ROOM ≡ b → (finishOf s out).written ≤ length (finishBytes s out)
+      go : (b : Bool) → ltb (length out) ROOM ≡ b → (finish_of s out).written ≤ length (finish_bytes s out)
       go true h = rw h (omega arith)
-      go false h = rw h (over-le (lastText s) out)
+      go false h = rw h (over_le (last_text s) out)
 
   pub last_within : f.written ≤ length new
-  last_within = rw (e.0, e.1) last-le
+  last_within = rw (e.0, e.1) last_le

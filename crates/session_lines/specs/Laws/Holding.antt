@@ -4,9 +4,9 @@ use Rattle.std.proofs.Common.{ap, ◌∙◌, ⊎_elim, append_assoc, append-nil,
 use Prim.Native.Nat.{ℕ, ◌≤◌, ◌<◌}
 use Rattle.std.proofs.lemmas.List.{take-append-le}
 use Rattle.std.proofs.lemmas.Bool.{lt-leb}
-use Rattle.ground.specs.Truth.{le-or-lt}
+use Rattle.ground.specs.Truth.{le_or_lt}
 use Rattle.session_lines.specs.declared.kept.Kept.{Kept}
-use Rattle.session_lines.specs.Kept.{keepAll, keepOf, lineIn, nothingKept}
+use Rattle.session_lines.specs.Kept.{keep_all, keep_of, line_in, nothing_kept}
 use Rattle.session_lines.specs.Line.{line_of}
 
 pub record Holds (line : List ℕ) (k : Kept) : Type 0 where
@@ -14,13 +14,13 @@ pub record Holds (line : List ℕ) (k : Kept) : Type 0 where
   pub count : k.count ≡ length (take 81 line)
   pub bytes : take k.count k.bytes ≡ take 81 line
 
-pub holds-nothing : Holds [] nothingKept
-unfolding nothingKept
-holds-nothing = record { room = refl; count = refl; bytes = refl }
+pub holds_nothing : Holds [] nothing_kept
+unfolding nothing_kept
+holds_nothing = record { room = refl; count = refl; bytes = refl }
 
-holds-byte : (line : List ℕ) (k : Kept) (b : ℕ) → Holds line k → Holds (line ++ (b ∷ [])) (keepOf k b)
-unfolding keepOf
-holds-byte line k b h =
+holds_byte : (line : List ℕ) (k : Kept) (b : ℕ) → Holds line k → Holds (line ++ (b ∷ [])) (keep_of k b)
+unfolding keep_of
+holds_byte line k b h =
     let n : length (take 81 line) ≡ Prim.Native.Nat.min 81 (length line) = length-take 81 line in
     let c = h.count in
     let r = h.room in
@@ -41,24 +41,24 @@ holds-byte line k b h =
       count = rw a (let q = ap length d in omega arith);
       bytes = rw (add-one, take-suc-set k.bytes k.count b i, a, h.bytes, d);
     }))
-    (le-or-lt 81 (length line))
+    (le_or_lt 81 (length line))
 
-pub holds_more : (line : List ℕ) (k : Kept) (l : List ℕ) → Holds line k → Holds (line ++ l) (keepAll k l)
+pub holds_more : (line : List ℕ) (k : Kept) (l : List ℕ) → Holds line k → Holds (line ++ l) (keep_all k l)
 holds_more line k [] h = rw append-nil h
-holds_more line k (b ∷ l) h = rw append_assoc at (holds_more (line ++ (b ∷ [])) (keepOf k b) l (holds-byte line k b h))
+holds_more line k (b ∷ l) h = rw append_assoc at (holds_more (line ++ (b ∷ [])) (keep_of k b) l (holds_byte line k b h))
 
 -- a line of more than 80 bytes is malformed, and so are its first 81
-pub same-meaning : (line : List ℕ) → line_of (take 81 line) ≡ line_of line
+pub same_meaning : (line : List ℕ) → line_of (take 81 line) ≡ line_of line
 unfolding line_of
-same-meaning line =
+same_meaning line =
     ⊎_elim
     (λ (g : 81 ≤ length line).
     let n : 80 < length (take 81 line) = rw (length-take-le 81 line g) (omega arith) in
     let m : 80 < length line = omega arith in
     rw (lt-leb (length (take 81 line)) 80 n, lt-leb (length line) 80 m))
     (λ (g : length line < 81). rw (take_all 81 line (omega arith)))
-    (le-or-lt 81 (length line))
+    (le_or_lt 81 (length line))
 
-pub kept_line : (line : List ℕ) (k : Kept) → Holds line k → line_of (lineIn k) ≡ line_of line
-unfolding lineIn
-kept_line line k h = rw h.bytes (same-meaning line)
+pub kept_line : (line : List ℕ) (k : Kept) → Holds line k → line_of (line_in k) ≡ line_of line
+unfolding line_in
+kept_line line k h = rw h.bytes (same_meaning line)

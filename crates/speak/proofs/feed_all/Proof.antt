@@ -3,15 +3,15 @@ use Prim.Native.Nat.{◌≤◌, ◌-◌}
 use native.Mathlib.Omega.{arith}
 use lib.ListN.{length}
 use borrow.Author.Rules.{rules}
-use Rattle.session_lines.specs.Laws.Feeding.{fed-on}
+use Rattle.session_lines.specs.Laws.Feeding.{fed_on}
 use Rattle.speak.proofs.feed_all.Statement.{statement}
 use Rattle.speak.proofs.feed_all.Tie as tie
 
 abbrev invariant-loop : tie.invariant-loop
-invariant-loop input l₀ goes-on₀ at₀ l goes_on at = at ≤ length input
+invariant-loop input l₀ goes-on₀ at₀ l goes_on_lem at = at ≤ length input
 
 abbrev decreases-loop : tie.decreases-loop
-decreases-loop input l₀ goes-on₀ at₀ l goes_on at = length input - at
+decreases-loop input l₀ goes-on₀ at₀ l goes_on_lem at = length input - at
 
 loop-holds : tie.Need-loop-init invariant-loop decreases-loop
 loop-holds c = search rules
@@ -33,24 +33,24 @@ add_at c =
     let at-feed-some = c.before.before.before in
     let at-loop-test = at-feed-some.before.before in
     let at-loop = at-loop-test.before in
-    let at-start = at-loop.before.before in
-    let p = fed-on at-start.args.input.now at-loop.loop.at at-feed-some.feed-some.result.used at-loop-test.loop-test.true at-feed-some.feed-some.ensures in omega arith
+    let at_start_lem = at-loop.before.before in
+    let p = fed_on at_start_lem.args.input.now at-loop.loop.at at-feed-some.feed-some.result.used at-loop-test.loop-test.true at-feed-some.feed-some.ensures in omega arith
 
 loop-less : tie.Need-loop-smaller invariant-loop decreases-loop
 loop-less c =
     let at-feed-some = c.before.before.before in
     let at-loop-test = at-feed-some.before.before in
     let at-loop = at-loop-test.before in
-    let at-start = at-loop.before.before in
-    let p = fed-on at-start.args.input.now at-loop.loop.at at-feed-some.feed-some.result.used at-loop-test.loop-test.true at-feed-some.feed-some.ensures in omega arith
+    let at_start_lem = at-loop.before.before in
+    let p = fed_on at_start_lem.args.input.now at-loop.loop.at at-feed-some.feed-some.result.used at-loop-test.loop-test.true at-feed-some.feed-some.ensures in omega arith
 
 loop-again : tie.Need-loop-preserved invariant-loop decreases-loop
 loop-again c =
     let at-feed-some = c.before.before.before in
     let at-loop-test = at-feed-some.before.before in
     let at-loop = at-loop-test.before in
-    let at-start = at-loop.before.before in
-    let p = fed-on at-start.args.input.now at-loop.loop.at at-feed-some.feed-some.result.used at-loop-test.loop-test.true at-feed-some.feed-some.ensures in omega arith
+    let at_start_lem = at-loop.before.before in
+    let p = fed_on at_start_lem.args.input.now at-loop.loop.at at-feed-some.feed-some.result.used at-loop-test.loop-test.true at-feed-some.feed-some.ensures in omega arith
 
 returns : tie.Need-returns invariant-loop decreases-loop
 returns c = search rules

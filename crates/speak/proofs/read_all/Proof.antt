@@ -7,10 +7,10 @@ use Rattle.speak.proofs.read_all.Statement.{statement}
 use Rattle.speak.proofs.read_all.Tie as tie
 
 abbrev invariant-loop : tie.invariant-loop
-invariant-loop l₀ goes-on₀ turns₀ l goes_on turns = Unit {0}
+invariant-loop l₀ goes-on₀ turns₀ l goes_on_lem turns = Unit {0}
 
 abbrev decreases-loop : tie.decreases-loop
-decreases-loop l₀ goes-on₀ turns₀ l goes_on turns = turns
+decreases-loop l₀ goes-on₀ turns₀ l goes_on_lem turns = turns
 
 loop-holds : tie.Need-loop-init invariant-loop decreases-loop
 loop-holds c = search rules

@@ -2,17 +2,17 @@
 use Rattle.std.specs.Prelude.{◌≡◌, ◌||◌, List, ℕ, ◌≤◌, length}
 use Rattle.std.proofs.Common.{ap}
 use Rattle.ground.specs.Plain.{if◌then◌else◌, ◌==◌}
-use Rattle.packet.specs.Fixed.{fixedRulingOf}
-use Rattle.packet.specs.Kinds.{fixedKind}
+use Rattle.packet.specs.Fixed.{fixed_ruling_of}
+use Rattle.packet.specs.Kinds.{fixed_kind}
 use Rattle.packet.specs.Ruling.{refused}
 use Rattle.packet.specs.Shares.{shares_of}
-use Rattle.packet.specs.Theorems.ByTable.{ruling-with}
+use Rattle.packet.specs.Theorems.ByTable.{ruling_with_lem}
 use Rattle.packet.specs.declared.ruling.Ruling.{Ruling}
-use Rattle.step.specs.ByTable.{ownRulingWith, rulingInWith}
-use Rattle.step.specs.OwnCount.{ownNumber, ownRuling, rulingIn, withoutMfi2}
+use Rattle.step.specs.ByTable.{own_ruling_with, ruling_in_with}
+use Rattle.step.specs.OwnCount.{own_number, own_ruling, ruling_in, without_mfi2}
 
-pub own-ruling-with : {table : List (List ℕ)} → table ≡ shares_of → (kind epoch : ℕ) (nibbles : List ℕ) → 14 ≤ length nibbles
-    → ownRulingWith table kind epoch nibbles ≡ ownRuling kind epoch nibbles
-unfolding ownRulingWith ownRuling rulingInWith rulingIn
-own-ruling-with right kind epoch nibbles many =
-    ap (λ (r : Ruling). if withoutMfi2 kind || ownNumber epoch nibbles then (if kind == fixedKind then fixedRulingOf nibbles else r) else refused) (ruling-with right kind epoch nibbles many)
+pub own_ruling_with_lem : {table : List (List ℕ)} → table ≡ shares_of → (kind epoch : ℕ) (nibbles : List ℕ) → 14 ≤ length nibbles
+    → own_ruling_with table kind epoch nibbles ≡ own_ruling kind epoch nibbles
+unfolding own_ruling_with own_ruling ruling_in_with ruling_in
+own_ruling_with_lem right kind epoch nibbles many =
+    ap (λ (r : Ruling). if without_mfi2 kind || own_number epoch nibbles then (if kind == fixed_kind then fixed_ruling_of nibbles else r) else refused) (ruling_with_lem right kind epoch nibbles many)

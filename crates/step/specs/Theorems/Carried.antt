@@ -1,52 +1,52 @@
 -- A packet rules as it is read, but where it carries another number.
 use Rattle.std.specs.Prelude.{◌≡◌, refl, Bool, true, false, cond, not, ◌||◌, List, ℕ, ◌%◌, eqb, drop, get_or, take}
 use Rattle.std.proofs.Common.{eqb-true}
-use Rattle.ground.specs.Finite.{sameBits}
+use Rattle.ground.specs.Finite.{same_bits}
 use Rattle.ground.specs.Polynomial.{check}
-use Rattle.ground.specs.Truth.{cond-by}
-use Rattle.packet.specs.Crc.{crcOf}
+use Rattle.ground.specs.Truth.{cond_by}
+use Rattle.packet.specs.Crc.{crc_of}
 use Rattle.packet.specs.declared.layout.Fields.{Fields}
 use Rattle.packet.specs.declared.reader.Reading.{Reading}
 use Rattle.packet.specs.declared.reader.Reading.TheVariants.{Crc, Packet, Unassigned}
-use Rattle.packet.specs.Fixed.{fixedFields, fixedRulingOf, readFixedNibbles}
-use Rattle.packet.specs.Kinds.{fixedKind, vc12Kind}
-use Rattle.packet.specs.Layout.{byte_of, carriedIn, fields_of}
-use Rattle.packet.specs.Reading.{readFields, readNibbles}
-use Rattle.packet.specs.Ruling.{fieldsIn, readRow, refused, rulingBy, rulingOf}
-use Rattle.packet.specs.Vc12.{readVc12Bits, readVc12Row, rowBits, vc12Divisor, vc12Fields}
+use Rattle.packet.specs.Fixed.{fixed_fields, fixed_ruling_of, read_fixed_nibbles}
+use Rattle.packet.specs.Kinds.{fixed_kind, vc12_kind}
+use Rattle.packet.specs.Layout.{byte_of, carried_in, fields_of}
+use Rattle.packet.specs.Reading.{read_fields, read_nibbles}
+use Rattle.packet.specs.Ruling.{fields_in, read_row, refused, ruling_by, ruling_of}
+use Rattle.packet.specs.Vc12.{read_vc12_bits, read_vc12_row, row_bits, vc12_divisor, vc12_fields}
 use Rattle.packet.specs.Words.{FIXED}
-use Rattle.step.specs.Carried.{otherNumber, readingIn}
-use Rattle.step.specs.OwnCount.{ownNumber, ownRuling, rulingIn, withoutMfi2}
+use Rattle.step.specs.Carried.{other_number, reading_in}
+use Rattle.step.specs.OwnCount.{own_number, own_ruling, ruling_in, without_mfi2}
 
-pub ruled-as-read : (kind epoch : ℕ) (row : List ℕ) → ownRuling kind epoch row ≡ cond (otherNumber kind epoch row) refused (rulingBy (readingIn kind row))
-unfolding ownRuling otherNumber rulingIn readingIn fixedRulingOf rulingOf
-ruled-as-read kind epoch row = go (withoutMfi2 kind || ownNumber epoch row) (eqb kind fixedKind)
+pub ruled_as_read : (kind epoch : ℕ) (row : List ℕ) → own_ruling kind epoch row ≡ cond (other_number kind epoch row) refused (ruling_by (reading_in kind row))
+unfolding own_ruling other_number ruling_in reading_in fixed_ruling_of ruling_of
+ruled_as_read kind epoch row = go (without_mfi2 kind || own_number epoch row) (eqb kind fixed_kind)
   where
     go : (own fixed : Bool)
-        → cond own (cond fixed (rulingBy (readFixedNibbles row)) (rulingBy (readRow kind row))) refused ≡ cond (not own) refused (rulingBy (cond fixed (readFixedNibbles row) (readRow kind row)))
+        → cond own (cond fixed (ruling_by (read_fixed_nibbles row)) (ruling_by (read_row kind row))) refused ≡ cond (not own) refused (ruling_by (cond fixed (read_fixed_nibbles row) (read_row kind row)))
     go true true = refl
     go true false = refl
     go false fixed = refl
 
 -- What holds of a wrong CRC and of another word than FIXED under any number, of the fields of a right CRC under their own, and of a fixed group's packet under its own, holds of every reading under the number that stands in the row.
-pub read_as : (P : ℕ → Reading → Type 0) → ((epoch : ℕ) → P epoch Crc) → ((epoch : ℕ) → P epoch Unassigned) → ((f : Fields) → P f.epoch (readFields f)) → ((epoch sq : ℕ) → P epoch (Packet (fixedFields epoch sq)))
-    → (kind : ℕ) (row : List ℕ) → P (fieldsIn kind row).epoch (readingIn kind row)
-unfolding readingIn readRow readVc12Row readVc12Bits readNibbles readFixedNibbles fieldsIn fields_of
+pub read_as : (P : ℕ → Reading → Type 0) → ((epoch : ℕ) → P epoch Crc) → ((epoch : ℕ) → P epoch Unassigned) → ((f : Fields) → P f.epoch (read_fields f)) → ((epoch sq : ℕ) → P epoch (Packet (fixed_fields epoch sq)))
+    → (kind : ℕ) (row : List ℕ) → P (fields_in kind row).epoch (reading_in kind row)
+unfolding reading_in read_row read_vc12_row read_vc12_bits read_nibbles read_fixed_nibbles fields_in fields_of
 read_as P crc other right fixed kind row =
-    cond-by (P (fieldsIn kind row).epoch) (eqb kind fixedKind) (readFixedNibbles row) (readRow kind row)
+    cond_by (P (fields_in kind row).epoch) (eqb kind fixed_kind) (read_fixed_nibbles row) (read_row kind row)
     (λ e.
-    let z = eqb-true kind fixedKind e in
+    let z = eqb-true kind fixed_kind e in
     rw z
-    (cond-by (P (byte_of (get_or row 8 0) (get_or row 9 0))) (eqb (get_or row 10 0 % 16) FIXED)
-    (Packet (fixedFields (byte_of (get_or row 8 0) (get_or row 9 0)) (byte_of (get_or row 6 0) (get_or row 7 0)))) Unassigned
+    (cond_by (P (byte_of (get_or row 8 0) (get_or row 9 0))) (eqb (get_or row 10 0 % 16) FIXED)
+    (Packet (fixed_fields (byte_of (get_or row 8 0) (get_or row 9 0)) (byte_of (get_or row 6 0) (get_or row 7 0)))) Unassigned
     (λ w. fixed (byte_of (get_or row 8 0) (get_or row 9 0)) (byte_of (get_or row 6 0) (get_or row 7 0))) (λ w. other (byte_of (get_or row 8 0) (get_or row 9 0)))))
-    (λ e. by_row (eqb kind vc12Kind))
+    (λ e. by_row (eqb kind vc12_kind))
   where
     by_row : (b : Bool)
-        → P (cond b (vc12Fields (rowBits row)) (fields_of row)).epoch (cond b (readVc12Row row) (readNibbles row))
+        → P (cond b (vc12_fields (row_bits row)) (fields_of row)).epoch (cond b (read_vc12_row row) (read_nibbles row))
     by_row true =
-        cond-by (P (vc12Fields (rowBits row)).epoch) (sameBits (check vc12Divisor (take 29 (rowBits row))) (drop 29 (rowBits row))) (readFields (vc12Fields (rowBits row))) Crc
-        (λ w. right (vc12Fields (rowBits row))) (λ w. crc (vc12Fields (rowBits row)).epoch)
+        cond_by (P (vc12_fields (row_bits row)).epoch) (same_bits (check vc12_divisor (take 29 (row_bits row))) (drop 29 (row_bits row))) (read_fields (vc12_fields (row_bits row))) Crc
+        (λ w. right (vc12_fields (row_bits row))) (λ w. crc (vc12_fields (row_bits row)).epoch)
     by_row false =
-        cond-by (P (fields_of row).epoch) (eqb (crcOf (take 14 row)) (carriedIn row)) (readFields (fields_of row)) Crc
+        cond_by (P (fields_of row).epoch) (eqb (crc_of (take 14 row)) (carried_in row)) (read_fields (fields_of row)) Crc
         (λ w. right (fields_of row)) (λ w. crc (fields_of row).epoch)

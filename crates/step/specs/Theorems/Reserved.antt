@@ -5,26 +5,26 @@ use Rattle.std.proofs.Common.{subst, eqb-true}
 use Rattle.std.proofs.Math.Bool.{true, false}
 use Rattle.ground.specs.Plain.{if◌then◌else◌, ◌==◌}
 use Rattle.packet.specs.Reserved.{SameBeside, SameBesideBy, SameBesideVc12}
-use Rattle.packet.specs.Theorems.RuleAlike.{epoch-alike, fixed_alike, rule-alike}
+use Rattle.packet.specs.Theorems.RuleAlike.{epoch_alike, fixed_alike, rule_alike}
 use Rattle.packet.specs.declared.reader.Reading.TheVariants.{Crc}
 use Rattle.packet.specs.declared.ruling.Ruling.{Ruling}
-use Rattle.packet.specs.Kinds.{fixedKind, vc12Kind}
-use Rattle.packet.specs.Ruling.{readRow, refused}
-use Rattle.step.specs.OwnCount.{ownNumber, ownRuling, rulingIn}
+use Rattle.packet.specs.Kinds.{fixed_kind, vc12_kind}
+use Rattle.packet.specs.Ruling.{read_row, refused}
+use Rattle.step.specs.OwnCount.{own_number, own_ruling, ruling_in}
 
 module _ (kind epoch : ℕ) (row other : List ℕ) (same : SameBesideBy kind row other) where
-  own_same : (kind == vc12Kind || ownNumber epoch row) ≡ (kind == vc12Kind || ownNumber epoch other)
-  unfolding ownNumber
-  own_same = go (kind == vc12Kind) same
+  own_same : (kind == vc12_kind || own_number epoch row) ≡ (kind == vc12_kind || own_number epoch other)
+  unfolding own_number
+  own_same = go (kind == vc12_kind) same
     where
-      go : (b : Bool) → (if b then SameBesideVc12 row other else SameBeside row other) → (b || ownNumber epoch row) ≡ (b || ownNumber epoch other)
+      go : (b : Bool) → (if b then SameBesideVc12 row other else SameBeside row other) → (b || own_number epoch row) ≡ (b || own_number epoch other)
       go true s = refl
-      go false s = ap (λ (n : ℕ). n == epoch) (epoch-alike row other s)
+      go false s = ap (λ (n : ℕ). n == epoch) (epoch_alike row other s)
 
-  pub own-alike : ((kind == fixedKind) ≡ false → readRow kind row ≢ Crc) → ((kind == fixedKind) ≡ false → readRow kind other ≢ Crc) → ownRuling kind epoch row ≡ ownRuling kind epoch other
-  unfolding ownRuling rulingIn
-  own-alike one two = ap₂ (λ (own : Bool) (r : Ruling). if own then r else refused) own_same (inside (kind == fixedKind) refl)
+  pub own_alike : ((kind == fixed_kind) ≡ false → read_row kind row ≢ Crc) → ((kind == fixed_kind) ≡ false → read_row kind other ≢ Crc) → own_ruling kind epoch row ≡ own_ruling kind epoch other
+  unfolding own_ruling ruling_in
+  own_alike one two = ap₂ (λ (own : Bool) (r : Ruling). if own then r else refused) own_same (inside (kind == fixed_kind) refl)
     where
-      inside : (b : Bool) → (kind == fixedKind) ≡ b → rulingIn kind epoch row ≡ rulingIn kind epoch other
-      inside true e = rw e (fixed_alike row other (subst (λ (n : ℕ). SameBesideBy n row other) (eqb-true kind fixedKind e) same))
-      inside false e = rw e (rule-alike kind epoch row other same (one e) (two e))
+      inside : (b : Bool) → (kind == fixed_kind) ≡ b → ruling_in kind epoch row ≡ ruling_in kind epoch other
+      inside true e = rw e (fixed_alike row other (subst (λ (n : ℕ). SameBesideBy n row other) (eqb-true kind fixed_kind e) same))
+      inside false e = rw e (rule_alike kind epoch row other same (one e) (two e))

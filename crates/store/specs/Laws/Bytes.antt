@@ -9,67 +9,67 @@ use Rattle.ground.specs.Finite.{below, below_at, same_bit}
 abbrev pub powers : List ℕ
 powers = 1 ∷ 2 ∷ 4 ∷ 8 ∷ 16 ∷ 32 ∷ 64 ∷ 128 ∷ []
 
-pub power-is : (k : ℕ) → k < 8 → get_or powers k 0 ≡ 2 ^ k
-power-is k h = eqb-true (get_or powers k 0) (2 ^ k) (below_at 8 (λ j. eqb (get_or powers j 0) (2 ^ j)) refl k h)
+pub power_is : (k : ℕ) → k < 8 → get_or powers k 0 ≡ 2 ^ k
+power_is k h = eqb-true (get_or powers k 0) (2 ^ k) (below_at 8 (λ j. eqb (get_or powers j 0) (2 ^ j)) refl k h)
 
 -- a test at every two of the eight bits, and every byte
 everywhere : (ℕ → ℕ → ℕ → Bool) → Bool
 everywhere f = below 8 (λ k. below 8 (λ m. below 256 (f k m)))
 
-everywhere-at : (f : ℕ → ℕ → ℕ → Bool) → everywhere f ≡ true → (k m b : ℕ) → k < 8 → m < 8 → b < 256 → f k m b ≡ true
+everywhere_at : (f : ℕ → ℕ → ℕ → Bool) → everywhere f ≡ true → (k m b : ℕ) → k < 8 → m < 8 → b < 256 → f k m b ≡ true
 unfolding everywhere
-everywhere-at f t k m b hk hm hb =
+everywhere_at f t k m b hk hm hb =
     below_at 256 (f k m) (below_at 8 (λ j. below 256 (f k j)) (below_at 8 (λ i. below 8 (λ j. below 256 (f i j))) t k hk) m hm) b hb
 
 -- where bit k is not set, its power may be added
-fits-test : ℕ → ℕ → Bool
-fits-test k b = odd (b / 2 ^ k) || ltb (b + 2 ^ k) 256
+fits_test : ℕ → ℕ → Bool
+fits_test k b = odd (b / 2 ^ k) || ltb (b + 2 ^ k) 256
 
-fits-tests : below 8 (λ k. below 256 (fits-test k)) ≡ true
-unfolding fits-test
-fits-tests = refl
+fits_tests : below 8 (λ k. below 256 (fits_test k)) ≡ true
+unfolding fits_test
+fits_tests = refl
 
-pub marked-fits : (b k : ℕ) → b < 256 → k < 8 → odd (b / 2 ^ k) ≡ false → b + 2 ^ k < 256
-unfolding fits-test
-marked-fits b k hb hk e =
-    let t : (odd (b / 2 ^ k) || ltb (b + 2 ^ k) 256) ≡ true = below_at 256 (fits-test k) (below_at 8 (λ j. below 256 (fits-test j)) fits-tests k hk) b hb in
+pub marked_fits : (b k : ℕ) → b < 256 → k < 8 → odd (b / 2 ^ k) ≡ false → b + 2 ^ k < 256
+unfolding fits_test
+marked_fits b k hb hk e =
+    let t : (odd (b / 2 ^ k) || ltb (b + 2 ^ k) 256) ≡ true = below_at 256 (fits_test k) (below_at 8 (λ j. below 256 (fits_test j)) fits_tests k hk) b hb in
     ltb-true (b + 2 ^ k) 256 (rw e at t)
 
 -- bit m of a byte in which bit k is set
-marked-test : ℕ → ℕ → ℕ → Bool
-marked-test k m b = beq (odd (cond (odd (b / 2 ^ k)) b (b + 2 ^ k) / 2 ^ m)) (odd (b / 2 ^ m) || eqb m k)
+marked_test : ℕ → ℕ → ℕ → Bool
+marked_test k m b = beq (odd (cond (odd (b / 2 ^ k)) b (b + 2 ^ k) / 2 ^ m)) (odd (b / 2 ^ m) || eqb m k)
 
-marked-tests : everywhere marked-test ≡ true
-unfolding everywhere marked-test
-marked-tests = refl
+marked_tests : everywhere marked_test ≡ true
+unfolding everywhere marked_test
+marked_tests = refl
 
-pub marked-bit : (b k m : ℕ) → b < 256 → k < 8 → m < 8 → odd (cond (odd (b / 2 ^ k)) b (b + 2 ^ k) / 2 ^ m) ≡ odd (b / 2 ^ m) || eqb m k
-unfolding marked-test
-marked-bit b k m hb hk hm =
-    same_bit (odd (cond (odd (b / 2 ^ k)) b (b + 2 ^ k) / 2 ^ m)) (odd (b / 2 ^ m) || eqb m k) (everywhere-at marked-test marked-tests k m b hk hm hb)
+pub marked_bit : (b k m : ℕ) → b < 256 → k < 8 → m < 8 → odd (cond (odd (b / 2 ^ k)) b (b + 2 ^ k) / 2 ^ m) ≡ odd (b / 2 ^ m) || eqb m k
+unfolding marked_test
+marked_bit b k m hb hk hm =
+    same_bit (odd (cond (odd (b / 2 ^ k)) b (b + 2 ^ k) / 2 ^ m)) (odd (b / 2 ^ m) || eqb m k) (everywhere_at marked_test marked_tests k m b hk hm hb)
 
 -- bit m of a byte without bit k and all above
-cut-test : ℕ → ℕ → ℕ → Bool
-cut-test k m b = beq (odd (b % 2 ^ k / 2 ^ m)) (odd (b / 2 ^ m) && ltb m k)
+cut_test : ℕ → ℕ → ℕ → Bool
+cut_test k m b = beq (odd (b % 2 ^ k / 2 ^ m)) (odd (b / 2 ^ m) && ltb m k)
 
-cut-tests : everywhere cut-test ≡ true
-unfolding everywhere cut-test
-cut-tests = refl
+cut_tests : everywhere cut_test ≡ true
+unfolding everywhere cut_test
+cut_tests = refl
 
-pub cut-bit : (b k m : ℕ) → b < 256 → k < 8 → m < 8 → odd (b % 2 ^ k / 2 ^ m) ≡ odd (b / 2 ^ m) && ltb m k
-unfolding cut-test
-cut-bit b k m hb hk hm = same_bit (odd (b % 2 ^ k / 2 ^ m)) (odd (b / 2 ^ m) && ltb m k) (everywhere-at cut-test cut-tests k m b hk hm hb)
+pub cut_bit : (b k m : ℕ) → b < 256 → k < 8 → m < 8 → odd (b % 2 ^ k / 2 ^ m) ≡ odd (b / 2 ^ m) && ltb m k
+unfolding cut_test
+cut_bit b k m hb hk hm = same_bit (odd (b % 2 ^ k / 2 ^ m)) (odd (b / 2 ^ m) && ltb m k) (everywhere_at cut_test cut_tests k m b hk hm hb)
 
 -- bit m of a byte moved down by one, with the bit c on top
-passed-test : ℕ → ℕ → ℕ → Bool
-passed-test c m b = beq (odd ((b / 2 + c * 128) / 2 ^ m)) (cond (ltb m 7) (odd (b / 2 ^ (m + 1))) (odd c))
+passed_test : ℕ → ℕ → ℕ → Bool
+passed_test c m b = beq (odd ((b / 2 + c * 128) / 2 ^ m)) (cond (ltb m 7) (odd (b / 2 ^ (m + 1))) (odd c))
 
-passed-tests : below 2 (λ c. below 8 (λ m. below 256 (passed-test c m))) ≡ true
-unfolding passed-test
-passed-tests = refl
+passed_tests : below 2 (λ c. below 8 (λ m. below 256 (passed_test c m))) ≡ true
+unfolding passed_test
+passed_tests = refl
 
-pub passed-bit : (b c m : ℕ) → b < 256 → c < 2 → m < 8 → odd ((b / 2 + c * 128) / 2 ^ m) ≡ cond (ltb m 7) (odd (b / 2 ^ (m + 1))) (odd c)
-unfolding passed-test
-passed-bit b c m hb hc hm =
+pub passed_bit : (b c m : ℕ) → b < 256 → c < 2 → m < 8 → odd ((b / 2 + c * 128) / 2 ^ m) ≡ cond (ltb m 7) (odd (b / 2 ^ (m + 1))) (odd c)
+unfolding passed_test
+passed_bit b c m hb hc hm =
     same_bit (odd ((b / 2 + c * 128) / 2 ^ m)) (cond (ltb m 7) (odd (b / 2 ^ (m + 1))) (odd c))
-    (below_at 256 (passed-test c m) (below_at 8 (λ j. below 256 (passed-test c j)) (below_at 2 (λ i. below 8 (λ j. below 256 (passed-test i j))) passed-tests c hc) m hm) b hb)
+    (below_at 256 (passed_test c m) (below_at 8 (λ j. below 256 (passed_test c j)) (below_at 2 (λ i. below 8 (λ j. below 256 (passed_test i j))) passed_tests c hc) m hm) b hb)

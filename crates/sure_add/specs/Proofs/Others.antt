@@ -5,21 +5,21 @@ use Rattle.ground.specs.Truth.{fails}
 use Rattle.sender.specs.declared.table.Answer.TheVariants.{Done}
 use Rattle.sender.specs.declared.table.Table.{Table}
 use Rattle.sender.specs.Calls.Call.{AddSlot, Report}
-use Rattle.sender.specs.Commands.{addOf}
-use Rattle.sender.specs.Laws.Kept.{Sound, group-call}
-use Rattle.sender.specs.Laws.Speaking.{added-other, report-may}
-use Rattle.sender.specs.Numbering.{slotsIn, stateIn}
-use Rattle.sender.specs.Reports.{reportOf}
-use Rattle.sender.specs.Table.{isAdd, slotCount}
+use Rattle.sender.specs.Commands.{add_of}
+use Rattle.sender.specs.Laws.Kept.{Sound, group_call}
+use Rattle.sender.specs.Laws.Speaking.{added_other, report_may}
+use Rattle.sender.specs.Numbering.{slots_in, state_in}
+use Rattle.sender.specs.Reports.{report_of}
+use Rattle.sender.specs.Table.{is_add, slot_count}
 
 abbrev pub NoOther : ℕ → Table → Type 0
-NoOther i t = (j : ℕ) → j < slotsIn t → j ≢ i → isAdd (stateIn t j) ≡ false
+NoOther i t = (j : ℕ) → j < slots_in t → j ≢ i → is_add (state_in t j) ≡ false
 
 module _ (i : ℕ) (t : Table) (sound : Sound t) (none : NoOther i t) where
-  pub none-added : (addOf t i).answer ≡ Done → NoOther i (addOf t i).table
-  none-added done j h d = ap isAdd (added-other t i sound done j d) ∙ none j (rw (ap slotCount (group-call t (AddSlot i)).count) at h) d
+  pub none_added : (add_of t i).answer ≡ Done → NoOther i (add_of t i).table
+  none_added done j h d = ap is_add (added_other t i sound done j d) ∙ none j (rw (ap slot_count (group_call t (AddSlot i)).count) at h) d
 
-  pub none_told : (e mst ack : ℕ) → NoOther i (reportOf t e mst ack).table
+  pub none_told : (e mst ack : ℕ) → NoOther i (report_of t e mst ack).table
   none_told e mst ack j h d =
-      let b : j < slotsIn t = rw (ap slotCount (group-call t (Report e mst ack)).count) at h in
-      fails (isAdd (stateIn (reportOf t e mst ack).table j)) (λ x. true≢false (sym ((report-may t sound e mst ack j b).add x) ∙ none j b d))
+      let b : j < slots_in t = rw (ap slot_count (group_call t (Report e mst ack)).count) at h in
+      fails (is_add (state_in (report_of t e mst ack).table j)) (λ x. true≢false (sym ((report_may t sound e mst ack j b).add x) ∙ none j b d))

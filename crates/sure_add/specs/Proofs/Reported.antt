@@ -3,116 +3,116 @@ use Rattle.std.specs.Prelude.{◌≡◌, Bool, true, false, ◌&&◌, List, [], 
 use Rattle.std.proofs.Math.Path.{refl, ap}
 use Rattle.std.proofs.Common.{sym, ◌∙◌}
 use Rattle.std.proofs.Math.Bool.{not}
-use Rattle.ground.specs.Counting.Laws.Tests.{some-ext}
+use Rattle.ground.specs.Counting.Laws.Tests.{some_ext}
 use Rattle.ground.specs.Counting.Words.{some}
 use Rattle.packet.specs.declared.ruling.Ruling.{Ruling}
-use Rattle.packet.specs.Kinds.{fixedKind, mstFails, mstFirst}
+use Rattle.packet.specs.Kinds.{fixed_kind, mst_fails, mst_first}
 use Rattle.packet.specs.Mst.{Spoken}
-use Rattle.packet.specs.Theorems.Tags.{mst-eight}
-use Rattle.phases.specs.Laws.Passed.{passed-of-port}
-use Rattle.phases.specs.Passing.{notedBy}
-use Rattle.phases.specs.Sizes.{portsIn}
-use Rattle.receiver.specs.Fetch.{fetchOf}
+use Rattle.packet.specs.Theorems.Tags.{mst_eight}
+use Rattle.phases.specs.Laws.Passed.{passed_of_port}
+use Rattle.phases.specs.Passing.{noted_by}
+use Rattle.phases.specs.Sizes.{ports_in}
+use Rattle.receiver.specs.Fetch.{fetch_of}
 use Rattle.receiver.specs.Laws.Sizes.{size_is}
-use Rattle.receiver.specs.Laws.Told.{reply-port}
-use Rattle.receiver.specs.Report.{replyPort, replyPorts}
-use Rattle.receiver.specs.Shown.{replyOf}
+use Rattle.receiver.specs.Laws.Told.{reply_port_lem}
+use Rattle.receiver.specs.Report.{reply_port, reply_ports}
+use Rattle.receiver.specs.Shown.{reply_of}
 use Rattle.reply.specs.declared.members.Port.{Port as ReplyPort}
-use Rattle.reply.specs.Members.{okState}
+use Rattle.reply.specs.Members.{ok_state}
 use Rattle.reply.specs.Members as R
-use Rattle.reply.specs.Telling.{okHolds}
-use Rattle.reply.specs.Theorems.Mst.{mst-says}
-use Rattle.reply.specs.Waiting.{standingAt}
+use Rattle.reply.specs.Telling.{ok_holds}
+use Rattle.reply.specs.Theorems.Mst.{mst_says}
+use Rattle.reply.specs.Waiting.{standing_at}
 use Rattle.rows.specs.declared.group.Group.{Group}
 use Rattle.rows.specs.declared.member.Member.{Member}
-use Rattle.rows.specs.Group.{groupAt}
-use Rattle.rows.specs.Laws.Port.{port-marks, port-member}
-use Rattle.rows.specs.Member.{memberAt}
-use Rattle.rows.specs.Packets.{marksAt}
+use Rattle.rows.specs.Group.{group_at}
+use Rattle.rows.specs.Laws.Port.{port_marks, port_member}
+use Rattle.rows.specs.Member.{member_at}
+use Rattle.rows.specs.Packets.{marks_at}
 use Rattle.rows.specs.Port.{Port}
-use Rattle.rows.specs.Rows.{rowsFor}
-use Rattle.step.specs.OwnCount.{ownRuling}
-use Rattle.store.specs.Frames.{packetIn}
-use Rattle.store.specs.Marks.{firstMark}
-use Rattle.invariant.specs.Reports.{Given, passedRows}
-use Rattle.invariant.specs.Theorems.{report-standing}
-use Rattle.invariant.specs.Times.{standingIn}
+use Rattle.rows.specs.Rows.{rows_for}
+use Rattle.step.specs.OwnCount.{own_ruling}
+use Rattle.store.specs.Frames.{packet_in}
+use Rattle.store.specs.Marks.{first_mark}
+use Rattle.invariant.specs.Reports.{Given, passed_rows}
+use Rattle.invariant.specs.Theorems.{report_standing}
+use Rattle.invariant.specs.Times.{standing_in}
 
 -- an OK port holds q
 abbrev pub ok_in : List (List ℕ) → ℕ → Bool
-ok_in s q = some (portsIn (groupAt s)) (λ p. eqb (memberAt s p).state okState && eqb (memberAt s p).state_number q)
+ok_in s q = some (ports_in (group_at s)) (λ p. eqb (member_at s p).state ok_state && eqb (member_at s p).state_number q)
 
-module _ (s : List (List ℕ)) (few : portsIn (groupAt s) ≤ 64) (lcas : eqb (groupAt s).kind fixedKind ≡ false) where
+module _ (s : List (List ℕ)) (few : ports_in (group_at s) ≤ 64) (lcas : eqb (group_at s).kind fixed_kind ≡ false) where
   abbrev now : List ReplyPort
-  now = replyPorts (groupAt s) s (portsIn (groupAt s))
+  now = reply_ports (group_at s) s (ports_in (group_at s))
 
-  holds_same : (q : ℕ) → okHolds now (portsIn (groupAt s)) q ≡ ok_in s q
-  unfolding okHolds replyPort
-  holds_same q = some-ext (portsIn (groupAt s)) _ _ (λ p b. rw (reply-port (groupAt s) s (portsIn (groupAt s)) p few b) refl)
+  holds_same : (q : ℕ) → ok_holds now (ports_in (group_at s)) q ≡ ok_in s q
+  unfolding ok_holds reply_port
+  holds_same q = some_ext (ports_in (group_at s)) _ _ (λ p b. rw (reply_port_lem (group_at s) s (ports_in (group_at s)) p few b) refl)
 
   -- MST says OK of q where it speaks of it exactly if an OK port holds q
-  pub mst-in : (e q : ℕ) → Spoken (groupAt s).kind e q → mstFails (get_or (replyOf s e) 0 0) q ≡ not (ok_in s q)
-  unfolding replyOf
-  mst-in e q o = rw (lcas, size_is (portsIn (groupAt s)) few, ← o.is) (mst-says (groupAt s).kind now (portsIn (groupAt s)) e o.place (rw (mst-eight (groupAt s).kind) at o.below) ∙ ap not (holds_same (mstFirst (groupAt s).kind e + o.place)))
+  pub mst_in : (e q : ℕ) → Spoken (group_at s).kind e q → mst_fails (get_or (reply_of s e) 0 0) q ≡ not (ok_in s q)
+  unfolding reply_of
+  mst_in e q o = rw (lcas, size_is (ports_in (group_at s)) few, ← o.is) (mst_says (group_at s).kind now (ports_in (group_at s)) e o.place (rw (mst_eight (group_at s).kind) at o.below) ∙ ap not (holds_same (mst_first (group_at s).kind e + o.place)))
 
-module _ (s : List (List ℕ)) (store out report : List ℕ) (given : Given s store out report) (few : portsIn (groupAt s) ≤ 64) (enough : rowsFor (portsIn (groupAt s)) ≤ length s) where
+module _ (s : List (List ℕ)) (store out report : List ℕ) (given : Given s store out report) (few : ports_in (group_at s) ≤ 64) (enough : rows_for (ports_in (group_at s)) ≤ length s) where
   abbrev g : Group
-  g = groupAt s
+  g = group_at s
 
   abbrev n : ℕ
-  n = portsIn g
+  n = ports_in g
 
   abbrev passed : List (List ℕ)
-  passed = passedRows s store
+  passed = passed_rows s store
 
   abbrev seen : List ReplyPort
-  seen = replyPorts (groupAt passed) passed n
+  seen = reply_ports (group_at passed) passed n
 
   abbrev heard : ℕ → Ruling
-  heard p = ownRuling g.kind g.oldest (packetIn g p store)
+  heard p = own_ruling g.kind g.oldest (packet_in g p store)
 
-  pub sees : (p : ℕ) → p < n → R.portAt seen p ≡ replyPort (groupAt passed) passed p
-  sees p b = reply-port (groupAt passed) passed n p few b
+  pub sees : (p : ℕ) → p < n → R.port_at seen p ≡ reply_port (group_at passed) passed p
+  sees p b = reply_port_lem (group_at passed) passed n p few b
 
   -- the member's row as the epoch has passed
-  member_is : (p : ℕ) → p < n → memberAt passed p ≡ notedBy (memberAt s p) (firstMark (marksAt s p)) (heard p)
-  member_is p b = sym (port-member passed p) ∙ ap (λ (q : Port). q.member) (passed-of-port g store n s p b enough) ∙ rw (port-member s p, port-marks s p) refl
+  member_is : (p : ℕ) → p < n → member_at passed p ≡ noted_by (member_at s p) (first_mark (marks_at s p)) (heard p)
+  member_is p b = sym (port_member passed p) ∙ ap (λ (q : Port). q.member) (passed_of_port g store n s p b enough) ∙ rw (port_member s p, port_marks s p) refl
 
   -- its state and what goes with it are those of the report before
-  pub seen-state : (p : ℕ) → p < n → (R.portAt seen p).state ≡ (memberAt s p).state
-  unfolding replyPort notedBy
-  seen-state p b = ap (λ (q : ReplyPort). q.state) (sees p b) ∙ ap (λ (m : Member). m.state) (member_is p b)
+  pub seen_state : (p : ℕ) → p < n → (R.port_at seen p).state ≡ (member_at s p).state
+  unfolding reply_port noted_by
+  seen_state p b = ap (λ (q : ReplyPort). q.state) (sees p b) ∙ ap (λ (m : Member). m.state) (member_is p b)
 
-  pub seen-under : (p : ℕ) → p < n → (R.portAt seen p).state_number ≡ (memberAt s p).state_number
-  unfolding replyPort notedBy
-  seen-under p b = ap (λ (q : ReplyPort). q.state_number) (sees p b) ∙ ap (λ (m : Member). m.state_number) (member_is p b)
+  pub seen_under : (p : ℕ) → p < n → (R.port_at seen p).state_number ≡ (member_at s p).state_number
+  unfolding reply_port noted_by
+  seen_under p b = ap (λ (q : ReplyPort). q.state_number) (sees p b) ∙ ap (λ (m : Member). m.state_number) (member_is p b)
 
-  pub seen-elapsed : (p : ℕ) → p < n → (R.portAt seen p).elapsed ≡ (memberAt s p).elapsed
-  unfolding replyPort notedBy
-  seen-elapsed p b = ap (λ (q : ReplyPort). q.elapsed) (sees p b) ∙ ap (λ (m : Member). m.elapsed) (member_is p b)
+  pub seen_elapsed : (p : ℕ) → p < n → (R.port_at seen p).elapsed ≡ (member_at s p).elapsed
+  unfolding reply_port noted_by
+  seen_elapsed p b = ap (λ (q : ReplyPort). q.elapsed) (sees p b) ∙ ap (λ (m : Member). m.elapsed) (member_is p b)
 
   -- of a packet that is whole and good its word and number are seen
-  module _ (p : ℕ) (b : p < n) (whole : firstMark (marksAt s p) ≡ true) (good : (heard p).good ≡ true) where
-    pub seen-word : (R.portAt seen p).word ≡ (heard p).word
-    unfolding replyPort notedBy
-    seen-word = ap (λ (q : ReplyPort). q.word) (sees p b) ∙ ap (λ (m : Member). m.word) (member_is p b) ∙ rw (whole, good) refl
+  module _ (p : ℕ) (b : p < n) (whole : first_mark (marks_at s p) ≡ true) (good : (heard p).good ≡ true) where
+    pub seen_word : (R.port_at seen p).word ≡ (heard p).word
+    unfolding reply_port noted_by
+    seen_word = ap (λ (q : ReplyPort). q.word) (sees p b) ∙ ap (λ (m : Member). m.word) (member_is p b) ∙ rw (whole, good) refl
 
-    pub seen-number : (R.portAt seen p).number ≡ (heard p).number
-    unfolding replyPort notedBy
-    seen-number = ap (λ (q : ReplyPort). q.number) (sees p b) ∙ ap (λ (m : Member). m.number) (member_is p b) ∙ rw (whole, good) refl
+    pub seen_number : (R.port_at seen p).number ≡ (heard p).number
+    unfolding reply_port noted_by
+    seen_number = ap (λ (q : ReplyPort). q.number) (sees p b) ∙ ap (λ (m : Member). m.number) (member_is p b) ∙ rw (whole, good) refl
 
   -- what is left of each port
   abbrev after : List (List ℕ)
-  after = (fetchOf s store out report).rows
+  after = (fetch_of s store out report).rows
 
-  left : (p : ℕ) → p < n → standingIn after p ≡ ((standingAt seen n p).state ∷ (standingAt seen n p).number ∷ (memberAt s p).hold_off ∷ (memberAt s p).restore ∷ (standingAt seen n p).elapsed ∷ [])
-  left p b = report-standing p s store out report given b ∙ rw (size_is n few) refl
+  left : (p : ℕ) → p < n → standing_in after p ≡ ((standing_at seen n p).state ∷ (standing_at seen n p).number ∷ (member_at s p).hold_off ∷ (member_at s p).restore ∷ (standing_at seen n p).elapsed ∷ [])
+  left p b = report_standing p s store out report given b ∙ rw (size_is n few) refl
 
-  pub left-state : (p : ℕ) → p < n → (memberAt after p).state ≡ (standingAt seen n p).state
-  left-state p b = ap (λ (l : List ℕ). get_or l 0 0) (left p b)
+  pub left_state : (p : ℕ) → p < n → (member_at after p).state ≡ (standing_at seen n p).state
+  left_state p b = ap (λ (l : List ℕ). get_or l 0 0) (left p b)
 
-  pub left-under : (p : ℕ) → p < n → (memberAt after p).state_number ≡ (standingAt seen n p).number
-  left-under p b = ap (λ (l : List ℕ). get_or l 1 0) (left p b)
+  pub left_under : (p : ℕ) → p < n → (member_at after p).state_number ≡ (standing_at seen n p).number
+  left_under p b = ap (λ (l : List ℕ). get_or l 1 0) (left p b)
 
-  pub left-elapsed : (p : ℕ) → p < n → (memberAt after p).elapsed ≡ (standingAt seen n p).elapsed
-  left-elapsed p b = ap (λ (l : List ℕ). get_or l 4 0) (left p b)
+  pub left_elapsed : (p : ℕ) → p < n → (member_at after p).elapsed ≡ (standing_at seen n p).elapsed
+  left_elapsed p b = ap (λ (l : List ℕ). get_or l 4 0) (left p b)

@@ -2,24 +2,24 @@
 use Rattle.std.specs.Prelude.{◌≡◌, refl, Bool, true, false, [], ◌∷◌, ◌++◌, ℕ, zero, suc, ◌<◌, replicate}
 use Rattle.std.proofs.Common.{sym, ap, ◌∙◌, arith, ne_eqb}
 use Rattle.ground.specs.Plain.{if◌then◌else◌, ◌==◌, ◌<?◌}
-use Rattle.packet.specs.Kinds.{mstEpochs}
+use Rattle.packet.specs.Kinds.{mst_epochs}
 use Rattle.packet.specs.Words.{ADD, EOS, IDLE, NORM}
 use Rattle.sender.specs.declared.table.Answer.TheVariants.{Done}
 use Rattle.sender.specs.declared.table.Table.{Table}
 use Rattle.sender.specs.Calls.{run}
 use Rattle.sender.specs.Calls.Call.{AddSlot, Lapse, Report}
-use Rattle.sender.specs.Commands.{addOf}
-use Rattle.sender.specs.Numbering.{slotsIn, stateIn}
-use Rattle.sender.specs.Table.{isActive, isAdd}
-use Rattle.link.specs.History.{senderAt}
+use Rattle.sender.specs.Commands.{add_of}
+use Rattle.sender.specs.Numbering.{slots_in, state_in}
+use Rattle.sender.specs.Table.{is_active, is_add}
+use Rattle.link.specs.History.{sender_at}
 use Rattle.link.specs.Road.{times}
-use Rattle.link.specs.Running.{hasBegun}
+use Rattle.link.specs.Running.{has_begun}
 use Rattle.link.specs.Samples.Computing.{outcome}
 use Rattle.link.specs.Samples.Tracing.{course}
 use Rattle.sure_add.specs.Joined.{Adding, table_at}
 use Rattle.sure_add.specs.Samples.Looped.{Case, Right, history, joined, link, met, receiver, report, told}
-use Rattle.sure_add.specs.Samples.Starts.{begun-at, starts}
-use Rattle.sure_add.specs.Theorems.{sure-add}
+use Rattle.sure_add.specs.Samples.Starts.{begun_at_lem, starts}
+use Rattle.sure_add.specs.Theorems.{sure_add}
 use Rattle.sure_add.specs.Within.{ActiveWithin, bound}
 
 -- MST says OK of number 0 in the epoch of start 8, and of 0 and 1 in that of start 40. RS-Ack turns over with the first report, in which slot 0 is heard to be active.
@@ -55,37 +55,37 @@ right =
       sizes = refl;
       once = once;
       only = (omega arith, (omega arith, tt));
-      hold-times = record { within = refl; fits = refl };
-      restore-times = record { within = refl; fits = refl };
+      hold_times = record { within = refl; fits = refl };
+      restore_times = record { within = refl; fits = refl };
       fits = refl;
       bits = refl;
       sent = refl;
       replied = refl;
     }
 
-begun-then : hasBegun (starts (link case) (receiver case) 24 6).moment ≡ 1
+begun_then : has_begun (starts (link case) (receiver case) 24 6).moment ≡ 1
 unfolding outcome course starts
-begun-then = refl
+begun_then = refl
 
-active-then : (isActive (stateIn (senderAt (history case) 42).table 1) ≡ false) × (isActive (stateIn (senderAt (history case) 43).table 1) ≡ true)
+active_then : (is_active (state_in (sender_at (history case) 42).table 1) ≡ false) × (is_active (state_in (sender_at (history case) 43).table 1) ≡ true)
 unfolding outcome
-active-then = (refl, refl)
+active_then = (refl, refl)
 
 -- the table that the add finds
 abbrev found : Table
-found = run (senderAt (history case) 6).table (report case 7)
+found = run (sender_at (history case) 6).table (report case 7)
 
-accepted-then : (addOf found 1).answer ≡ Done
+accepted_then : (add_of found 1).answer ≡ Done
 unfolding outcome
-accepted-then = refl
+accepted_then = refl
 
-two-slots : slotsIn found ≡ 2
+two_slots : slots_in found ≡ 2
 unfolding outcome
-two-slots = refl
+two_slots = refl
 
-other-then : isAdd (stateIn found 0) ≡ false
+other_then : is_add (state_in found 0) ≡ false
 unfolding outcome
-other-then = refl
+other_then = refl
 
 adding : Adding (link case) (receiver case) 1 2 43 (joined case right) 1 6
 unfolding joined met
@@ -93,17 +93,17 @@ adding =
     record {
       earlier = report case 7;
       later = [];
-      one-report = told case right 7;
+      one_report = told case right 7;
       command = refl;
-      accepted = accepted-then;
+      accepted = accepted_then;
       no_other = λ u from to.
           ap (λ (c : Bool). if c then AddSlot 0 ∷ Report 0 0x7F 0 ∷ Lapse ∷ [] else if u == 7 then report case u ++ (AddSlot 1 ∷ []) else report case u) (ne_eqb u 0 (λ e. omega arith))
           ∙ ap (λ (c : Bool). if c then report case u ++ (AddSlot 1 ∷ []) else report case u) (ne_eqb u 7 (λ e. omega arith))
           ∙ told case right u;
-      readable = sym (begun-at (link case) (receiver case) 24 refl 6) ∙ begun-then;
-      settled = λ i l d. (let n = two-slots in let e : i ≡ 0 = omega arith in rw e other-then);
+      readable = sym (begun_at_lem (link case) (receiver case) 24 refl 6) ∙ begun_then;
+      settled = λ i l d. (let n = two_slots in let e : i ≡ 0 = omega arith in rw e other_then);
     }
 
-come-true : ActiveWithin (table_at (joined case right)) 1 6 (bound 0 1 2 0)
-unfolding bound mstEpochs joined met
-come-true = sure-add (link case) (receiver case) 1 2 1 6 (joined case right) adding
+come_true : ActiveWithin (table_at (joined case right)) 1 6 (bound 0 1 2 0)
+unfolding bound mst_epochs joined met
+come_true = sure_add (link case) (receiver case) 1 2 1 6 (joined case right) adding

@@ -2,20 +2,20 @@
 use Rattle.std.specs.Prelude.{Bool, true, ◌&&◌, List, [], ◌∷◌, ℕ, zero, suc, ◌+◌, ◌-◌, ◌%◌, get_or}
 use Rattle.ground.specs.Plain.{if◌then◌else◌, ◌==◌}
 use Rattle.ground.specs.Table.{tabulate}
-use Rattle.receiver.specs.Starting.{timeOf}
+use Rattle.receiver.specs.Starting.{time_of}
 use Rattle.reply.specs.declared.members.Port.{Port}
 use Rattle.reply.specs.declared.waiting.Standing.{Standing}
-use Rattle.reply.specs.Members.{portAt}
-use Rattle.reply.specs.Telling.{ackOf, mstOf}
-use Rattle.reply.specs.Waiting.{noStanding, standingsOf}
+use Rattle.reply.specs.Members.{port_at}
+use Rattle.reply.specs.Telling.{ack_of, mst_of}
+use Rattle.reply.specs.Waiting.{no_standing, standings_of}
 use Rattle.sender.specs.declared.board.Row.{Row}
 use Rattle.sender.specs.declared.table.Table.{Table}
-use Rattle.sender.specs.Board.{boardOf}
+use Rattle.sender.specs.Board.{board_of}
 use Rattle.sender.specs.Calls.{Call, run}
-use Rattle.sender.specs.Numbering.{slotsIn, stateIn}
+use Rattle.sender.specs.Numbering.{slots_in, state_in}
 use Rattle.sender.specs.Ranks.{row_at}
-use Rattle.sender.specs.Reports.{reportOf}
-use Rattle.sender.specs.Table.{isActive}
+use Rattle.sender.specs.Reports.{report_of}
+use Rattle.sender.specs.Table.{is_active}
 
 pub record Setting : Type 0 where
   -- the table at start 0, the calls between each start and the next, and the delays
@@ -26,7 +26,7 @@ pub record Setting : Type 0 where
   -- wrong readings: by how many starts the reply is read before the report is fetched, by how many epochs the back packet's number is taken too low, and whether the epoch is started before that packet is handed over
   pub ahead : ℕ
   pub late : ℕ
-  pub startsFirst : Bool
+  pub starts_first : Bool
   -- the number of the back epoch that runs from start 0 on
   pub number : ℕ
   -- each port's times, and whether it is readable at the report by a start
@@ -53,8 +53,8 @@ module _ (s : Setting) where
         told_word = p.told_word;
         told_number = p.told_number;
         readable = readable;
-        hold_off = timeOf s.hold i;
-        restore = timeOf s.restore i;
+        hold_off = time_of s.hold i;
+        restore = time_of s.restore i;
         elapsed = p.elapsed;
       }
 
@@ -77,10 +77,10 @@ module _ (s : Setting) where
   -- a report that takes in what a table has sent
   abbrev reported : (ℕ → Bool) → Table → At → Table → Table → At
   reported readable sent was next found =
-      let n = slotsIn next in
-      let heard = tabulate n (λ i. hears (portAt was.ports i) (row_at (boardOf sent).rows i) (readable i) i) in
-      let left = standingsOf heard n in
-      record { table = next; found = found; ports = tabulate n (λ i. told (portAt heard i) (get_or left i noStanding)); ack = ackOf heard n was.ack }
+      let n = slots_in next in
+      let heard = tabulate n (λ i. hears (port_at was.ports i) (row_at (board_of sent).rows i) (readable i) i) in
+      let left = standings_of heard n in
+      record { table = next; found = found; ports = tabulate n (λ i. told (port_at heard i) (get_or left i no_standing)); ack = ack_of heard n was.ack }
 
   -- before any report; when all ports have heard the table before the add, which has been sent for long; and at start 0
   abbrev fresh : At
@@ -101,13 +101,13 @@ module _ (s : Setting) where
       let answer = get_or all (s.back + s.ahead) first in
       let number = (s.number + 256 + k - s.back) % 256 in
       let asked = run now.found (s.calls k) in
-      let handed = (reportOf asked ((number + 256 - s.late) % 256) (mstOf 0 answer.ports (slotsIn asked) number) answer.ack).table in
-      reported (s.readable (suc k)) (get_or all s.out first).table now (if s.startsFirst then asked else handed) handed ∷ all
+      let handed = (report_of asked ((number + 256 - s.late) % 256) (mst_of 0 answer.ports (slots_in asked) number) answer.ack).table in
+      reported (s.readable (suc k)) (get_or all s.out first).table now (if s.starts_first then asked else handed) handed ∷ all
 
   -- the first start at which a slot is active; 0 where it is none up to k
   abbrev pub first_of : ℕ → ℕ → List At → ℕ
   first_of slot k [] = 0
-  first_of slot k (x ∷ rest) = let sooner = first_of slot (k - 1) rest in if isActive (stateIn x.table slot) && (sooner == 0) then k else sooner
+  first_of slot k (x ∷ rest) = let sooner = first_of slot (k - 1) rest in if is_active (state_in x.table slot) && (sooner == 0) then k else sooner
 
-  abbrev pub activeAt : (slot most : ℕ) → ℕ
-  activeAt slot most = first_of slot most (starts most)
+  abbrev pub active_at : (slot most : ℕ) → ℕ
+  active_at slot most = first_of slot most (starts most)

@@ -2,22 +2,22 @@
 use Rattle.std.specs.Prelude.{◌≡◌, refl, ◌≢◌, Bool, true, false, [], ◌∷◌, ℕ, ◌<◌, replicate}
 use Rattle.std.proofs.Common.{sym, ap, ◌∙◌, arith, ne_eqb}
 use Rattle.ground.specs.Plain.{if◌then◌else◌, ◌==◌, ◌<?◌}
-use Rattle.packet.specs.Kinds.{mstEpochs}
+use Rattle.packet.specs.Kinds.{mst_epochs}
 use Rattle.packet.specs.Words.{ADD, EOS, IDLE}
 use Rattle.sender.specs.declared.table.Answer.TheVariants.{Done}
 use Rattle.sender.specs.Calls.Call.{AddSlot}
-use Rattle.sender.specs.Commands.{addOf}
-use Rattle.sender.specs.Numbering.{slotsIn, stateIn}
-use Rattle.sender.specs.Table.{isActive}
-use Rattle.link.specs.History.{senderAt}
+use Rattle.sender.specs.Commands.{add_of}
+use Rattle.sender.specs.Numbering.{slots_in, state_in}
+use Rattle.sender.specs.Table.{is_active}
+use Rattle.link.specs.History.{sender_at}
 use Rattle.link.specs.Road.{times}
-use Rattle.link.specs.Running.{hasBegun}
+use Rattle.link.specs.Running.{has_begun}
 use Rattle.link.specs.Samples.Computing.{outcome}
 use Rattle.link.specs.Samples.Tracing.{course}
 use Rattle.sure_add.specs.Joined.{Adding, table_at}
 use Rattle.sure_add.specs.Samples.Looped.{Case, Right, history, joined, link, met, receiver, report, told}
-use Rattle.sure_add.specs.Samples.Starts.{begun-at, starts}
-use Rattle.sure_add.specs.Theorems.{sure-add}
+use Rattle.sure_add.specs.Samples.Starts.{begun_at_lem, starts}
+use Rattle.sure_add.specs.Theorems.{sure_add}
 use Rattle.sure_add.specs.Within.{ActiveWithin, bound}
 
 -- at the add the way back speaks of the numbers from 8 x 31 on; MST says OK of number 0 in the epoch of start 38
@@ -51,29 +51,29 @@ right =
       sizes = refl;
       once = once;
       only = (omega arith, tt);
-      hold-times = record { within = refl; fits = refl };
-      restore-times = record { within = refl; fits = refl };
+      hold_times = record { within = refl; fits = refl };
+      restore_times = record { within = refl; fits = refl };
       fits = refl;
       bits = refl;
       sent = refl;
       replied = refl;
     }
 
-begun-then : hasBegun (starts (link case) (receiver case) 26 5).moment ≡ 1
+begun_then : has_begun (starts (link case) (receiver case) 26 5).moment ≡ 1
 unfolding outcome course starts
-begun-then = refl
+begun_then = refl
 
-active-then : (isActive (stateIn (senderAt (history case) 38).table 0) ≡ false) × (isActive (stateIn (senderAt (history case) 39).table 0) ≡ true)
+active_then : (is_active (state_in (sender_at (history case) 38).table 0) ≡ false) × (is_active (state_in (sender_at (history case) 39).table 0) ≡ true)
 unfolding outcome
-active-then = (refl, refl)
+active_then = (refl, refl)
 
-accepted-then : (addOf (senderAt (history case) 5).table 0).answer ≡ Done
+accepted_then : (add_of (sender_at (history case) 5).table 0).answer ≡ Done
 unfolding outcome
-accepted-then = refl
+accepted_then = refl
 
-one-slot : slotsIn (senderAt (history case) 5).table ≡ 1
+one_slot : slots_in (sender_at (history case) 5).table ≡ 1
 unfolding outcome
-one-slot = refl
+one_slot = refl
 
 adding : Adding (link case) (receiver case) 0 0 39 (joined case right) 0 5
 unfolding joined met
@@ -81,17 +81,17 @@ adding =
     record {
       earlier = [];
       later = report case 6;
-      one-report = told case right 6;
+      one_report = told case right 6;
       command = refl;
-      accepted = accepted-then;
+      accepted = accepted_then;
       no_other = λ u from to. ap (λ (c : Bool). if c then AddSlot 0 ∷ report case u else report case u) (ne_eqb u 6 (λ e. omega arith)) ∙ told case right u;
-      readable = sym (begun-at (link case) (receiver case) 26 refl 5) ∙ begun-then;
+      readable = sym (begun_at_lem (link case) (receiver case) 26 refl 5) ∙ begun_then;
       settled = λ i l d. absurd (none i l d);
     }
   where
-    none : (i : ℕ) → i < slotsIn (senderAt (history case) 5).table → i ≢ 0 → ⊥
-    none i l d = let e = one-slot in omega arith
+    none : (i : ℕ) → i < slots_in (sender_at (history case) 5).table → i ≢ 0 → ⊥
+    none i l d = let e = one_slot in omega arith
 
-come-true : ActiveWithin (table_at (joined case right)) 0 5 (bound 0 0 0 0)
-unfolding bound mstEpochs joined met
-come-true = sure-add (link case) (receiver case) 0 0 0 5 (joined case right) adding
+come_true : ActiveWithin (table_at (joined case right)) 0 5 (bound 0 0 0 0)
+unfolding bound mst_epochs joined met
+come_true = sure_add (link case) (receiver case) 0 0 0 5 (joined case right) adding

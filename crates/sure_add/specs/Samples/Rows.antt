@@ -5,9 +5,9 @@ use Rattle.sender.specs.declared.table.Table.{Table}
 use Rattle.sender.specs.Calls.{Call}
 use Rattle.sender.specs.Calls.Call.{AddSlot, Lapse, RemoveSlot, Report}
 use Rattle.sender.specs.Shown.{after}
-use Rattle.reply.specs.Members.{portAt}
-use Rattle.sure_add.specs.Samples.Loop.{At, Setting, activeAt, starts}
-use Rattle.sure_add.specs.Samples.Opened.{activeAtStart}
+use Rattle.reply.specs.Members.{port_at}
+use Rattle.sure_add.specs.Samples.Loop.{At, Setting, active_at, starts}
+use Rattle.sure_add.specs.Samples.Opened.{active_at_start}
 
 -- adds of slots from the first on, so many
 abbrev pub adds : ℕ → ℕ → List Call
@@ -15,20 +15,20 @@ adds from zero = []
 adds from (suc n) = AddSlot from ∷ adds (suc from) n
 
 -- a table of so many slots of which some, from the first on, are active
-abbrev pub withActive : (slots from n : ℕ) → Table
-withActive slots from n = after slots (adds from n ++ (Report 0 0x00 0 ∷ Lapse ∷ []))
+abbrev pub with_active : (slots from n : ℕ) → Table
+with_active slots from n = after slots (adds from n ++ (Report 0 0x00 0 ∷ Lapse ∷ []))
 
 -- a slot added between start 0 and start 1, and nothing else amiss
 abbrev pub plain : (slots n a b e slot : ℕ) → Setting
 plain slots n a b e slot =
     record {
-      before = withActive slots 0 n;
+      before = with_active slots 0 n;
       calls = λ k. if k == 0 then AddSlot slot ∷ [] else [];
       out = a;
       back = b;
       ahead = 0;
       late = 0;
-      startsFirst = false;
+      starts_first = false;
       number = e;
       hold = [];
       restore = [];
@@ -39,13 +39,13 @@ plain slots n a b e slot =
 abbrev pub failed : (r e : ℕ) → Setting
 failed r e =
     record {
-      before = withActive 2 0 2;
+      before = with_active 2 0 2;
       calls = λ k. if k == 0 then RemoveSlot 1 ∷ Lapse ∷ AddSlot 1 ∷ [] else [];
       out = 0;
       back = 0;
       ahead = 0;
       late = 0;
-      startsFirst = false;
+      starts_first = false;
       number = e;
       hold = [];
       restore = 0 ∷ r ∷ [];
@@ -71,21 +71,21 @@ rows =
 -- the rows that come out otherwise, by the start that is computed
 failing : List Row → List ℕ
 failing [] = []
-failing (r ∷ rest) = let at = activeAt r.setting r.slot (r.start + 1) in if at == r.start then failing rest else at ∷ failing rest
+failing (r ∷ rest) = let at = active_at r.setting r.slot (r.start + 1) in if at == r.start then failing rest else at ∷ failing rest
 
 all_come : failing rows ≡ []
-unfolding activeAtStart failing rows
+unfolding active_at_start failing rows
 all_come = refl
 
 -- port 1's state, number and counter at starts 8 to 0 of the last row: FAIL by having been dark, restoring for five reports, OK
 abbrev second : At → List ℕ
-second x = let p = portAt x.ports 1 in p.state ∷ p.state_number ∷ p.elapsed ∷ []
+second x = let p = port_at x.ports 1 in p.state ∷ p.state_number ∷ p.elapsed ∷ []
 
 abbrev seconds : List At → List (List ℕ)
 seconds [] = []
 seconds (x ∷ rest) = second x ∷ seconds rest
 
-dark-then : seconds (starts (failed 5 26) 8)
+dark_then : seconds (starts (failed 5 26) 8)
     ≡ (2 ∷ 1 ∷ 0 ∷ []) ∷ (2 ∷ 1 ∷ 0 ∷ []) ∷ (1 ∷ 1 ∷ 5 ∷ []) ∷ (1 ∷ 1 ∷ 4 ∷ []) ∷ (1 ∷ 1 ∷ 3 ∷ []) ∷ (1 ∷ 1 ∷ 2 ∷ []) ∷ (1 ∷ 1 ∷ 1 ∷ []) ∷ (1 ∷ 1 ∷ 0 ∷ []) ∷ (1 ∷ 1 ∷ 0 ∷ []) ∷ []
-unfolding activeAtStart
-dark-then = refl
+unfolding active_at_start
+dark_then = refl

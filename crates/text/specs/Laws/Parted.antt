@@ -4,21 +4,21 @@ use Rattle.std.proofs.Common.{le_of_suc-le-suc, not-suc-le-zero, arith}
 use Rattle.bytes.specs.Bytes.{index_of, index_after}
 use Rattle.text.specs.Text.{parted}
 
-pub index-le : (m : ℕ) (l : List ℕ) → index_of m l ≤ length l
+pub index_le : (m : ℕ) (l : List ℕ) → index_of m l ≤ length l
 unfolding index_of index_after
-index-le m [] = omega arith
-index-le m (b ∷ l) = go (eqb b m) (index-le m l)
+index_le m [] = omega arith
+index_le m (b ∷ l) = go (eqb b m) (index_le m l)
   where
     go : (t : Bool) → index_of m l ≤ length l → index_after t (index_of m l) ≤ suc (length l)
     go true h = omega arith
     go false h = omega arith
 
 -- up to the first mark, and behind it
-pub parted-more : (m : ℕ) (z : List (List ℕ)) (l : List ℕ) → index_of m l < length l
+pub parted_more : (m : ℕ) (z : List (List ℕ)) (l : List ℕ) → index_of m l < length l
     → parted m z l ≡ take (index_of m l) l ∷ parted m z (drop (suc (index_of m l)) l)
 unfolding index_of index_after
-parted-more m z [] h = absurd (not-suc-le-zero h)
-parted-more m z (b ∷ l) h = go (eqb b m) refl (parted-more m z l)
+parted_more m z [] h = absurd (not-suc-le-zero h)
+parted_more m z (b ∷ l) h = go (eqb b m) refl (parted_more m z l)
   where
     go : (t : Bool) → eqb b m ≡ t → (index_of m l < length l → parted m z l ≡ take (index_of m l) l ∷ parted m z (drop (suc (index_of m l)) l))
         → parted m z (b ∷ l) ≡ take (index_of m (b ∷ l)) (b ∷ l) ∷ parted m z (drop (suc (index_of m (b ∷ l))) (b ∷ l))
@@ -26,10 +26,10 @@ parted-more m z (b ∷ l) h = go (eqb b m) refl (parted-more m z l)
     go false e rest = let k : index_of m l < length l = le_of_suc-le-suc (rw e at h) in rw (e, rest k)
 
 -- no mark
-pub parted-none : (m : ℕ) (l : List ℕ) → index_of m l ≡ length l → parted m ([] ∷ []) l ≡ l ∷ []
+pub parted_none : (m : ℕ) (l : List ℕ) → index_of m l ≡ length l → parted m ([] ∷ []) l ≡ l ∷ []
 unfolding index_of index_after
-parted-none m [] h = refl
-parted-none m (b ∷ l) h = go (eqb b m) refl (parted-none m l)
+parted_none m [] h = refl
+parted_none m (b ∷ l) h = go (eqb b m) refl (parted_none m l)
   where
     go : (t : Bool) → eqb b m ≡ t → (index_of m l ≡ length l → parted m ([] ∷ []) l ≡ l ∷ []) → parted m ([] ∷ []) (b ∷ l) ≡ (b ∷ l) ∷ []
     go true e rest = let k = rw e at h in absurd (omega arith)

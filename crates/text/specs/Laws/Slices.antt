@@ -6,51 +6,51 @@ use native.Mathlib.Omega.{arith}
 use Rattle.std.proofs.Math.Seq.{slice, drop-drop, length-slice, take-nil}
 use Rattle.std.proofs.lemmas.List.{drop-append-le}
 use Rattle.bytes.specs.Bytes.{index_of}
-use Rattle.text.specs.Laws.Parted.{index-le, parted-more, parted-none}
+use Rattle.text.specs.Laws.Parted.{index_le, parted_more, parted_none}
 use Rattle.text.specs.Text.{TAB, fields_of}
 
-pub end-within : (l : List ℕ) (limit : ℕ) → limit < length l → limit ≡ length (take limit l)
-end-within l limit h = sym (length-take-le limit l (omega arith))
+pub end_within : (l : List ℕ) (limit : ℕ) → limit < length l → limit ≡ length (take limit l)
+end_within l limit h = sym (length-take-le limit l (omega arith))
 
-pub end-past : (l : List ℕ) (limit : ℕ) → length l ≤ limit → length l ≡ length (take limit l)
-end-past l limit h = rw (take_all limit l h)
+pub end_past : (l : List ℕ) (limit : ℕ) → length l ≤ limit → length l ≡ length (take limit l)
+end_past l limit h = rw (take_all limit l h)
 
-take-end : (limit : ℕ) (l : List ℕ) → take (length (take limit l)) l ≡ take limit l
-take-end zero l = refl
-take-end (suc n) [] = refl
-take-end (suc n) (x ∷ l) = ap (λ (r : List ℕ). x ∷ r) (take-end n l)
+take_end : (limit : ℕ) (l : List ℕ) → take (length (take limit l)) l ≡ take limit l
+take_end zero l = refl
+take_end (suc n) [] = refl
+take_end (suc n) (x ∷ l) = ap (λ (r : List ℕ). x ∷ r) (take_end n l)
 
-pub slice-suc : (l : List ℕ) (at end : ℕ) → at ≤ end → end < length l → slice at (end + 1) l ≡ slice at end l ++ (get_or l end 0 ∷ [])
-slice-suc l at end h k =
+pub slice_suc : (l : List ℕ) (at end : ℕ) → at ≤ end → end < length l → slice at (end + 1) l ≡ slice at end l ++ (get_or l end 0 ∷ [])
+slice_suc l at end h k =
     let m : at ≤ length (take end l) = rw (length-take-le end l (omega arith)) h in
     rw (add-one, take-suc l end 0 k) (drop-append-le at (take end l) (get_or l end 0 ∷ []) m)
 
 module _ (l : List ℕ) (limit end : ℕ) (e : end ≡ length (take limit l)) where
-  pub end-le : end ≤ length l
-  end-le = let m = length-take limit l in omega arith
+  pub end_le : end ≤ length l
+  end_le = let m = length-take limit l in omega arith
 
-  pub slice-end : (at : ℕ) → slice at end l ≡ slice at limit l
-  slice-end at = rw (e, take-end limit l)
+  pub slice_end : (at : ℕ) → slice at end l ≡ slice at limit l
+  slice_end at = rw (e, take_end limit l)
 
-  pub slice-none : (at : ℕ) → end ≤ at → slice at limit l ≡ []
-  slice-none at h = drop_of_length-le (take limit l) {i = at} (omega arith)
+  pub slice_none : (at : ℕ) → end ≤ at → slice at limit l ≡ []
+  slice_none at h = drop_of_length-le (take limit l) {i = at} (omega arith)
 
-  pub slice-more : (at : ℕ) → at < end → slice at limit l ≡ get_or l at 0 ∷ slice (at + 1) limit l
-  slice-more at h =
+  pub slice_more : (at : ℕ) → at < end → slice at limit l ≡ get_or l at 0 ∷ slice (at + 1) limit l
+  slice_more at h =
       let k : at < length (take limit l) = omega arith in
       let m : at < limit = (let q = length-take limit l in omega arith) in
       rw (add-one, drop-cons (take limit l) at 0 k, get_or-take limit l at 0 m)
 
-  pub slice-length : (at : ℕ) → length (slice at limit l) ≡ end - at
-  slice-length at = length-drop at (take limit l) ∙ rw (← e)
+  pub slice_length : (at : ℕ) → length (slice at limit l) ≡ end - at
+  slice_length at = length-drop at (take limit l) ∙ rw (← e)
 
 -- a byte of a part is a byte of the text
 module _ (l : List ℕ) (at limit i : ℕ) (h : i < length (slice at limit l)) where
   before : at + i < length (take limit l)
   before = let n = length-drop at (take limit l) in omega arith
 
-  pub slice-within : at + i < length l
-  slice-within = let n = length-take limit l in let b = before in omega arith
+  pub slice_within : at + i < length l
+  slice_within = let n = length-take limit l in let b = before in omega arith
 
   pub slice_at : get_or (slice at limit l) i 0 ≡ get_or l (at + i) 0
   slice_at =
@@ -59,34 +59,34 @@ module _ (l : List ℕ) (at limit i : ℕ) (h : i < length (slice at limit l)) w
       let k : at + i < limit = omega arith in
       rw (get_or-drop at (take limit l) i 0, get_or-take limit l (at + i) 0 k)
 
-pub take-slice : (at i end : ℕ) (l : List ℕ) → at + i ≤ end → take i (slice at end l) ≡ slice at (at + i) l
-take-slice zero i end l h =
+pub take_slice : (at i end : ℕ) (l : List ℕ) → at + i ≤ end → take i (slice at end l) ≡ slice at (at + i) l
+take_slice zero i end l h =
     let e : 0 + i ≡ i = omega arith in
     rw e (take-take i end l (omega arith))
-take-slice (suc at) i zero l h = absurd (omega arith)
-take-slice (suc at) i (suc end) [] h =
+take_slice (suc at) i zero l h = absurd (omega arith)
+take_slice (suc at) i (suc end) [] h =
     let e : suc at + i ≡ suc (at + i) = omega arith in
     rw (e, take-nil)
-take-slice (suc at) i (suc end) (x ∷ l) h =
+take_slice (suc at) i (suc end) (x ∷ l) h =
     let e : suc at + i ≡ suc (at + i) = omega arith in
-    rw e (take-slice at i end l (omega arith))
+    rw e (take_slice at i end l (omega arith))
 
 module _ (l : List ℕ) (at end first : ℕ) (h : at ≤ end) (k : end ≤ length l) (e : first ≡ at + index_of TAB (slice at end l)) where
-  pub first-le : first ≤ end
-  first-le = let n = length-slice at end l k in let m = index-le TAB (slice at end l) in omega arith
+  pub first_le : first ≤ end
+  first_le = let n = length-slice at end l k in let m = index_le TAB (slice at end l) in omega arith
 
-  pub fields-last : end ≤ first → fields_of (slice at end l) ≡ slice at end l ∷ []
+  pub fields_last : end ≤ first → fields_of (slice at end l) ≡ slice at end l ∷ []
   unfolding fields_of
-  fields-last b =
+  fields_last b =
       let n = length-slice at end l k in
-      let m = index-le TAB (slice at end l) in
-      parted-none TAB (slice at end l) (omega arith)
+      let m = index_le TAB (slice at end l) in
+      parted_none TAB (slice at end l) (omega arith)
 
-  pub fields-more : first < end → fields_of (slice at end l) ≡ slice at first l ∷ fields_of (slice (first + 1) end l)
+  pub fields_more : first < end → fields_of (slice at end l) ≡ slice at first l ∷ fields_of (slice (first + 1) end l)
   unfolding fields_of
-  fields-more b =
+  fields_more b =
       let n = length-slice at end l k in
       let i = index_of TAB (slice at end l) in
       let s : at + suc i ≡ first + 1 = omega arith in
-      parted-more TAB ([] ∷ []) (slice at end l) (omega arith)
-      ∙ rw (take-slice at i end l (omega arith), drop-drop (suc i) at (take end l), s, ← e)
+      parted_more TAB ([] ∷ []) (slice at end l) (omega arith)
+      ∙ rw (take_slice at i end l (omega arith), drop-drop (suc i) at (take end l), s, ← e)

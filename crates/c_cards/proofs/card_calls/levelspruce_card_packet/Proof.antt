@@ -1,7 +1,7 @@
 -- The call meets its contract: 9, 1, and then what the card answers and writes.
 -- The state is only read: behind the refusals it is a card's (`opened`), and the packet by the slot's owner and the group's own part is the one of that card (`packet-by`).
 use native.Mathlib.Omega.{arith}
-use Rattle.c_cards.proofs.TwoGroups.{first-at, opened, packet-by, packet-shut, read-part, second_at}
+use Rattle.c_cards.proofs.TwoGroups.{first_at, opened, packet_by, packet_shut, read_part, second_at}
 use Rattle.c_cards.proofs.card_calls.levelspruce_card_packet.Statement.{statement}
 use Rattle.c_cards.proofs.card_calls.levelspruce_card_packet.Tie as tie
 
@@ -11,7 +11,7 @@ refusal-requires c κs = omega arith
 returns : tie.Need-returns
 returns c =
     let args = c.before.before.before.before.args in
-    packet-shut args.state.now args.group _ c.before.refusal.ensures c.if1.true args.slot args.h4.now
+    packet_shut args.state.now args.group _ c.before.refusal.ensures c.if1.true args.slot args.h4.now
 
 owner-at-requires : tie.Need-owner-at-requires
 owner-at-requires c κs =
@@ -57,8 +57,8 @@ returns-2 c =
     let at-if1 = at-owner.before in
     let args = at-if1.before.before.before.before.args in
     let o = opened args.state.now args.group _ at-if1.before.refusal.ensures at-if1.if1.false in
-    let part = read-part args.group 64 args.state.now (first-at _ at-if2.if2.true) o.sized (omega arith) in
-    packet-by args.state.now args.group o args.slot args.h4.now _ _ _ _ at-owner.owner_at.ensures part at-packet.packet-in.ensures.0 at-packet.packet-in.ensures.1
+    let part = read_part args.group 64 args.state.now (first_at _ at-if2.if2.true) o.sized (omega arith) in
+    packet_by args.state.now args.group o args.slot args.h4.now _ _ _ _ at-owner.owner_at.ensures part at-packet.packet-in.ensures.0 at-packet.packet-in.ensures.1
 
 sub-packet-in-2 : tie.Need-overflow-sub-packet-in-2
 sub-packet-in-2 c =
@@ -99,8 +99,8 @@ returns-3 c =
     let at-if1 = at-owner.before in
     let args = at-if1.before.before.before.before.args in
     let o = opened args.state.now args.group _ at-if1.before.refusal.ensures at-if1.if1.false in
-    let part = read-part args.group 461 args.state.now (second_at _ at-if2.if2.false) o.sized (omega arith) in
-    packet-by args.state.now args.group o args.slot args.h4.now _ _ _ _ at-owner.owner_at.ensures part at-packet.packet-in2.ensures.0 at-packet.packet-in2.ensures.1
+    let part = read_part args.group 461 args.state.now (second_at _ at-if2.if2.false) o.sized (omega arith) in
+    packet_by args.state.now args.group o args.slot args.h4.now _ _ _ _ at-owner.owner_at.ensures part at-packet.packet-in2.ensures.0 at-packet.packet-in2.ensures.1
 
 pub levelspruce-card-packet-spec : {M : Type 1} → statement M
 levelspruce-card-packet-spec =

@@ -1,6 +1,6 @@
 -- The call meets its contract: 9, 1, and then what the card answers.
 -- Refused, the state is as given (`call-shut`). Otherwise the state is a card's (`opened`), and of what it is afterwards the owner row and the group's part are written (`call_kept`).
-use Rattle.c_cards.proofs.TwoGroups.{opened, call-shut, call_kept}
+use Rattle.c_cards.proofs.TwoGroups.{opened, call_shut, call_kept}
 use Rattle.cards.specs.Calls.Call.{Release}
 use native.Mathlib.Omega.{arith}
 use mathlib.Core.Bool.{true}
@@ -13,15 +13,15 @@ refusal-requires c κs = omega arith
 
 returns : tie.Need-returns
 returns c =
-    let at-start = c.before.before.before in
-    let args = at-start.args in
-    call-shut args.state.now args.group _ c.before.refusal.ensures c.if1.true true (Release args.slot)
+    let at_start_lem = c.before.before.before in
+    let args = at_start_lem.args in
+    call_shut args.state.now args.group _ c.before.refusal.ensures c.if1.true true (Release args.slot)
 
 own-card-requires : tie.Need-own-card-requires
 own-card-requires c κs =
     let at-refusal = c.before.before in
-    let at-start = at-refusal.before.before in
-    (opened at-start.args.state.now at-start.args.group _ at-refusal.refusal.ensures c.before.if1.false).sized
+    let at_start_lem = at-refusal.before.before in
+    (opened at_start_lem.args.state.now at_start_lem.args.group _ at-refusal.refusal.ensures c.before.if1.false).sized
 
 release-requires : tie.Need-release-requires
 release-requires c κs = omega arith
@@ -30,8 +30,8 @@ keep-requires : tie.Need-keep-requires
 keep-requires c κs =
     let at-if1 = c.before.before.before.before in
     let at-refusal = at-if1.before in
-    let at-start = at-refusal.before.before in
-    (opened at-start.args.state.now at-start.args.group _ at-refusal.refusal.ensures at-if1.if1.false).sized
+    let at_start_lem = at-refusal.before.before in
+    (opened at_start_lem.args.state.now at_start_lem.args.group _ at-refusal.refusal.ensures at-if1.if1.false).sized
 
 same_length : tie.Need-same-length
 same_length c = omega arith
@@ -43,8 +43,8 @@ returns-2 c =
     let at-own-card = at-release.before in
     let at-if1 = at-own-card.before.before in
     let at-refusal = at-if1.before in
-    let at-start = at-refusal.before.before in
-    let args = at-start.args in
+    let at_start_lem = at-refusal.before.before in
+    let args = at_start_lem.args in
     call_kept args.state.now args.group (opened args.state.now args.group _ at-refusal.refusal.ensures at-if1.if1.false) _ at-own-card.own-card.ensures true (Release args.slot) _ _ _ refl at-release.release.ensures at-keep.keep.ensures
 
 pub levelspruce-card-release-spec : {M : Type 1} → statement M

@@ -1,7 +1,7 @@
 -- The call meets its contract: 9, 1, 8 for a field that is no byte, and then what the group's sender answers.
 -- Refused, the state is as given (`call-shut`). Otherwise the state is a card's (`opened`), and of what it is afterwards the owner row and the group's part are written (`call_kept`).
 use Rattle.c_face.proofs.SenderCalls.{Three, three_said}
-use Rattle.c_cards.proofs.TwoGroups.{opened, call-shut, call-unfit, call_kept}
+use Rattle.c_cards.proofs.TwoGroups.{opened, call_shut, call_unfit, call_kept}
 use Rattle.c_face.specs.Senders.{are_bytes}
 use Rattle.cards.specs.Calls.Call.{StartEpoch}
 use native.Mathlib.Omega.{arith}
@@ -15,9 +15,9 @@ refusal-requires c κs = omega arith
 
 returns : tie.Need-returns
 returns c =
-    let at-start = c.before.before.before in
-    let args = at-start.args in
-    call-shut args.state.now args.group _ c.before.refusal.ensures c.if1.true (are_bytes args.gid args.mst args.rs-ack) (StartEpoch args.gid args.mst args.rs-ack)
+    let at_start_lem = c.before.before.before in
+    let args = at_start_lem.args in
+    call_shut args.state.now args.group _ c.before.refusal.ensures c.if1.true (are_bytes args.gid args.mst args.rs-ack) (StartEpoch args.gid args.mst args.rs-ack)
 
 are-bytes-requires : tie.Need-are-bytes-requires
 are-bytes-requires c κs = omega arith
@@ -26,39 +26,39 @@ returns-2 : tie.Need-returns-2
 returns-2 c =
     let at-if1 = c.before.before in
     let at-refusal = at-if1.before in
-    let at-start = at-refusal.before.before in
-    let args = at-start.args in
-    call-unfit args.state.now args.group (opened args.state.now args.group _ at-refusal.refusal.ensures at-if1.if1.false) (are_bytes args.gid args.mst args.rs-ack) (StartEpoch args.gid args.mst args.rs-ack) (sym c.before.are-bytes.ensures ∙ not-true _ c.if2.true)
+    let at_start_lem = at-refusal.before.before in
+    let args = at_start_lem.args in
+    call_unfit args.state.now args.group (opened args.state.now args.group _ at-refusal.refusal.ensures at-if1.if1.false) (are_bytes args.gid args.mst args.rs-ack) (StartEpoch args.gid args.mst args.rs-ack) (sym c.before.are-bytes.ensures ∙ not-true _ c.if2.true)
 
 own-card-requires : tie.Need-own-card-requires
 own-card-requires c κs =
     let at-if1 = c.before.before.before in
     let at-refusal = at-if1.before in
-    let at-start = at-refusal.before.before in
-    (opened at-start.args.state.now at-start.args.group _ at-refusal.refusal.ensures at-if1.if1.false).sized
+    let at_start_lem = at-refusal.before.before in
+    (opened at_start_lem.args.state.now at_start_lem.args.group _ at-refusal.refusal.ensures at-if1.if1.false).sized
 
 cast-start-epoch : tie.Need-overflow-cast-start-epoch
 cast-start-epoch c =
     let at-if2 = c.before.before in
     let at-are-bytes = at-if2.before in
-    let at-start = at-are-bytes.before.before.before.before in
-    let args = at-start.args in
+    let at_start_lem = at-are-bytes.before.before.before.before in
+    let args = at_start_lem.args in
     let t : Three args.gid args.mst args.rs-ack = three_said _ _ _ (sym at-are-bytes.are-bytes.ensures ∙ not-false _ at-if2.if2.false) in record { fits = t.first }
 
 cast-start-epoch-2 : tie.Need-overflow-cast-start-epoch-2
 cast-start-epoch-2 c =
     let at-if2 = c.before.before in
     let at-are-bytes = at-if2.before in
-    let at-start = at-are-bytes.before.before.before.before in
-    let args = at-start.args in
+    let at_start_lem = at-are-bytes.before.before.before.before in
+    let args = at_start_lem.args in
     let t : Three args.gid args.mst args.rs-ack = three_said _ _ _ (sym at-are-bytes.are-bytes.ensures ∙ not-false _ at-if2.if2.false) in record { fits = t.second }
 
 cast-start-epoch-3 : tie.Need-overflow-cast-start-epoch-3
 cast-start-epoch-3 c =
     let at-if2 = c.before.before in
     let at-are-bytes = at-if2.before in
-    let at-start = at-are-bytes.before.before.before.before in
-    let args = at-start.args in
+    let at_start_lem = at-are-bytes.before.before.before.before in
+    let args = at_start_lem.args in
     let t : Three args.gid args.mst args.rs-ack = three_said _ _ _ (sym at-are-bytes.are-bytes.ensures ∙ not-false _ at-if2.if2.false) in record { fits = t.third }
 
 start-epoch-requires : tie.Need-start-epoch-requires
@@ -68,8 +68,8 @@ keep-requires : tie.Need-keep-requires
 keep-requires c κs =
     let at-if1 = c.before.before.before.before.before.before in
     let at-refusal = at-if1.before in
-    let at-start = at-refusal.before.before in
-    (opened at-start.args.state.now at-start.args.group _ at-refusal.refusal.ensures at-if1.if1.false).sized
+    let at_start_lem = at-refusal.before.before in
+    (opened at_start_lem.args.state.now at_start_lem.args.group _ at-refusal.refusal.ensures at-if1.if1.false).sized
 
 same_length : tie.Need-same-length
 same_length c = omega arith
@@ -83,8 +83,8 @@ returns-3 c =
     let at-are-bytes = at-if2.before in
     let at-if1 = at-are-bytes.before in
     let at-refusal = at-if1.before in
-    let at-start = at-refusal.before.before in
-    let args = at-start.args in
+    let at_start_lem = at-refusal.before.before in
+    let args = at_start_lem.args in
     call_kept args.state.now args.group (opened args.state.now args.group _ at-refusal.refusal.ensures at-if1.if1.false) _ at-own-card.own-card.ensures (are_bytes args.gid args.mst args.rs-ack) (StartEpoch args.gid args.mst args.rs-ack) _ _ _ (sym at-are-bytes.are-bytes.ensures ∙ not-false _ at-if2.if2.false) at-start-epoch.start-epoch.ensures at-keep.keep.ensures
 
 pub levelspruce-card-start-epoch-spec : {M : Type 1} → statement M

@@ -1,4 +1,4 @@
-use Rattle.c_cards.proofs.TwoGroups.{card-alone}
+use Rattle.c_cards.proofs.TwoGroups.{card_alone}
 use native.Mathlib.Omega.{arith}
 use Rattle.c_cards.proofs.card_calls.own_card.Statement.{statement}
 use Rattle.c_cards.proofs.card_calls.own_card.Tie as tie
@@ -10,7 +10,7 @@ part-in-requires : tie.Need-part-in-requires
 part-in-requires c κs = omega arith
 
 returns : tie.Need-returns
-returns c = card-alone c.before.before.before.args.group _ _ _ c.before.owners-in.ensures c.part_in.ensures
+returns c = card_alone c.before.before.before.args.group _ _ _ c.before.owners-in.ensures c.part_in.ensures
 
 pub own-card-spec : {M : Type 1} → statement M
 own-card-spec =

@@ -4,8 +4,8 @@ use Prim.Native.Nat.{◌≤◌, ◌-◌}
 use native.Mathlib.Omega.{arith}
 use lib.ListN.{length, get_or}
 use Rattle.ground.specs.Counting.Each.{Done, done_none, done_more}
-use Rattle.c_cards.specs.Cards.{ownersIn}
-use Rattle.c_face.proofs.Wholes.{done-whole}
+use Rattle.c_cards.specs.Cards.{owners_in}
+use Rattle.c_face.proofs.Wholes.{done_whole}
 use Rattle.c_cards.proofs.card_calls.owners_in.Statement.{statement}
 use Rattle.c_cards.proofs.card_calls.owners_in.Tie as tie
 
@@ -34,8 +34,8 @@ loop-again : tie.Need-loop-preserved invariant-loop decreases-loop
 loop-again c = (c.before.before.loop.invariant.0, omega arith, done_more _ c.before.before.loop.invariant.2 refl)
 
 returns : tie.Need-returns invariant-loop decreases-loop
-unfolding ownersIn
-returns c = done-whole c.before.loop.invariant.2 (omega arith) c.before.loop.invariant.0
+unfolding owners_in
+returns c = done_whole c.before.loop.invariant.2 (omega arith) c.before.loop.invariant.0
 
 pub owners-in-spec : {M : Type 1} → statement M
 owners-in-spec =

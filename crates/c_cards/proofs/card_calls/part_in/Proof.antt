@@ -1,7 +1,7 @@
 -- Each of the two parts of a card's state, cut out by its ends, is the definition's part of the group (`read-part`), and the sender is read of it.
 -- A group other than 0 has the second part.
-use Rattle.c_cards.proofs.TwoGroups.{first-at, second_at, read-part}
-use Rattle.c_face.specs.Keeping.{senderOf}
+use Rattle.c_cards.proofs.TwoGroups.{first_at, second_at, read_part}
+use Rattle.c_face.specs.Keeping.{sender_of}
 use mathlib.Core.Path.{◌∙◌, ap}
 use native.Mathlib.Omega.{arith}
 use Rattle.c_cards.proofs.card_calls.part_in.Statement.{statement}
@@ -20,7 +20,7 @@ sender-of-requires : tie.Need-sender-of-requires
 sender-of-requires c κs = omega arith
 
 returns : tie.Need-returns
-returns c = c.sender-of.ensures ∙ ap senderOf (read-part c.before.before.before.before.args.group 64 c.before.before.before.before.args.state.now (first-at _ c.before.before.if1.true) c.before.before.before.before.requires (omega arith))
+returns c = c.sender-of.ensures ∙ ap sender_of (read_part c.before.before.before.before.args.group 64 c.before.before.before.before.args.state.now (first_at _ c.before.before.if1.true) c.before.before.before.before.requires (omega arith))
 
 sub-sender-of-2 : tie.Need-overflow-sub-sender-of-2
 sub-sender-of-2 c = omega arith
@@ -35,7 +35,7 @@ sender-of-requires-2 : tie.Need-sender-of-requires-2
 sender-of-requires-2 c κs = omega arith
 
 returns-2 : tie.Need-returns-2
-returns-2 c = c.sender-of2.ensures ∙ ap senderOf (read-part c.before.before.before.before.args.group 461 c.before.before.before.before.args.state.now (second_at _ c.before.before.if1.false) c.before.before.before.before.requires (omega arith))
+returns-2 c = c.sender-of2.ensures ∙ ap sender_of (read_part c.before.before.before.before.args.group 461 c.before.before.before.before.args.state.now (second_at _ c.before.before.if1.false) c.before.before.before.before.requires (omega arith))
 
 pub part-in-spec : {M : Type 1} → statement M
 part-in-spec =

@@ -1,5 +1,5 @@
 -- The owner row over the first 64 bytes, then the group's part over its own: the definition's two fillings in the same order (`own-whole`).
-use Rattle.c_cards.proofs.TwoGroups.{own-whole}
+use Rattle.c_cards.proofs.TwoGroups.{own_whole}
 use borrow.Author.Rules.{rules}
 use lib.ListN.{length, length-map}
 use mathlib.Core.Path.{◌≡◌}
@@ -15,8 +15,8 @@ slice-aggregate-put-bytes c = search rules
 
 put-bytes-requires : tie.Need-put-bytes-requires
 put-bytes-requires c κs =
-    let at-start = c.before.before.before.before.before in
-    let l : length at-start.args.card.owners ≡ 64 = simp length-map at at-start.well-formed.0.1.1.0.1.0.1 in rw l (omega arith)
+    let at_start_lem = c.before.before.before.before.before in
+    let l : length at_start_lem.args.card.owners ≡ 64 = simp length-map at at_start_lem.well-formed.0.1.1.0.1.0.1 in rw l (omega arith)
 
 put-part-requires : tie.Need-put-part-requires
 put-part-requires c κs = omega arith
@@ -29,9 +29,9 @@ returns c =
     let at-put-part = c.before.before in
     let at-put-bytes = at-put-part.before.before.before.before in
     let at-sender-of = at-put-bytes.before.before.before in
-    let at-start = at-sender-of.before.before.before in
-    let args = at-start.args in
-    own-whole args.group args.card _ args.state.now _ _ (simp length-map at at-start.well-formed.0.1.1.0.1.0.1) at-put-bytes.put-bytes.ensures at-sender-of.sender-of.ensures at-put-part.put-part.ensures
+    let at_start_lem = at-sender-of.before.before.before in
+    let args = at_start_lem.args in
+    own_whole args.group args.card _ args.state.now _ _ (simp length-map at at_start_lem.well-formed.0.1.1.0.1.0.1) at-put-bytes.put-bytes.ensures at-sender-of.sender-of.ensures at-put-part.put-part.ensures
 
 pub put-own-spec : {M : Type 1} → statement M
 put-own-spec =

@@ -1,4 +1,4 @@
-use Rattle.c_cards.proofs.TwoGroups.{owned-whole}
+use Rattle.c_cards.proofs.TwoGroups.{owned_whole}
 use native.Mathlib.Omega.{arith}
 use Rattle.c_cards.proofs.card_calls.put_owned.Statement.{statement}
 use Rattle.c_cards.proofs.card_calls.put_owned.Tie as tie
@@ -13,7 +13,7 @@ same_length : tie.Need-same-length
 same_length c = omega arith
 
 returns : tie.Need-returns
-returns c = owned-whole c.before.before.before.before.before.before.args.t1 c.before.before.before.before.before.before.args.out.now _ (omega arith) c.before.before.before.before.before.before.requires c.before.before.put-bytes.ensures
+returns c = owned_whole c.before.before.before.before.before.before.args.t1 c.before.before.before.before.before.before.args.out.now _ (omega arith) c.before.before.before.before.before.before.requires c.before.before.put-bytes.ensures
 
 pub put-owned-spec : {M : Type 1} → statement M
 put-owned-spec =

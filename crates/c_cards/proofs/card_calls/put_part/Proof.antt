@@ -1,5 +1,5 @@
 -- A sender put into the part lent, cut out by its ends, fills the state from the part's place on and leaves the rest (`write-part`), for each group.
-use Rattle.c_cards.proofs.TwoGroups.{first-at, second_at, write-part}
+use Rattle.c_cards.proofs.TwoGroups.{first_at, second_at, write_part}
 use native.Mathlib.Omega.{arith}
 use Rattle.c_cards.proofs.card_calls.put_part.Statement.{statement}
 use Rattle.c_cards.proofs.card_calls.put_part.Tie as tie
@@ -20,7 +20,7 @@ same_length : tie.Need-same-length
 same_length c = omega arith
 
 returns : tie.Need-returns
-returns c = write-part c.before.before.before.before.before.before.args.group 64 c.before.before.before.before.before.before.args.state.now (first-at _ c.before.before.before.before.if1.true) c.before.before.before.before.before.before.requires (omega arith) c.before.before.before.before.before.before.args.sender _ c.before.before.put-sender.ensures
+returns c = write_part c.before.before.before.before.before.before.args.group 64 c.before.before.before.before.before.before.args.state.now (first_at _ c.before.before.before.before.if1.true) c.before.before.before.before.before.before.requires (omega arith) c.before.before.before.before.before.before.args.sender _ c.before.before.put-sender.ensures
 
 sub-put-sender-2 : tie.Need-overflow-sub-put-sender-2
 sub-put-sender-2 c = omega arith
@@ -38,7 +38,7 @@ same-length-2 : tie.Need-same-length-2
 same-length-2 c = omega arith
 
 returns-2 : tie.Need-returns-2
-returns-2 c = write-part c.before.before.before.before.before.before.args.group 461 c.before.before.before.before.before.before.args.state.now (second_at _ c.before.before.before.before.if1.false) c.before.before.before.before.before.before.requires (omega arith) c.before.before.before.before.before.before.args.sender _ c.before.before.put-sender2.ensures
+returns-2 c = write_part c.before.before.before.before.before.before.args.group 461 c.before.before.before.before.before.before.args.state.now (second_at _ c.before.before.before.before.if1.false) c.before.before.before.before.before.before.requires (omega arith) c.before.before.before.before.before.before.args.sender _ c.before.before.put-sender2.ensures
 
 pub put-part-spec : {M : Type 1} → statement M
 put-part-spec =

@@ -2,7 +2,7 @@
 use mathlib.Core.Path.{◌∙◌, refl, sym}
 use native.Mathlib.Omega.{arith}
 use borrow.Author.Tests.{eq-eqb, le-ltb, lt-ltb, ne_eqb}
-use Rattle.sender.specs.Table.{slotCount}
+use Rattle.sender.specs.Table.{slot_count}
 use Rattle.c_cards.proofs.card_calls.slot_refusal.Statement.{statement}
 use Rattle.c_cards.proofs.card_calls.slot_refusal.Tie as tie
 
@@ -16,20 +16,20 @@ cast-if1 : tie.Need-overflow-cast-if1
 cast-if1 c = omega arith
 
 returns : tie.Need-returns
-unfolding slotCount
+unfolding slot_count
 returns c =
     let args = c.before.before.before.args in
     rw (le-ltb args.slot _ (rw c.before.size-byte.ensures at c.if1.true)) refl
 
 returns-2 : tie.Need-returns-2
-unfolding slotCount
+unfolding slot_count
 returns-2 c =
     let at_count = c.before.before in
     let args = at_count.before.before.args in
     rw (lt-ltb args.slot _ (rw at_count.size-byte.ensures at c.before.if1.false), eq-eqb args.owner _ (c.if2.true ∙ at_count.before.mark_of.ensures)) refl
 
 returns-3 : tie.Need-returns-3
-unfolding slotCount
+unfolding slot_count
 returns-3 c =
     let at_count = c.before.before in
     let args = at_count.before.before.args in

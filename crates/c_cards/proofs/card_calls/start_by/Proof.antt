@@ -2,10 +2,10 @@
 use mathlib.Core.Path.{◌∙◌, sym}
 use native.Mathlib.Omega.{arith}
 use borrow.Author.Tests.{not-true, not-false}
-use Rattle.c_face.proofs.SenderCalls.{epoch-byte, kind-byte}
-use Rattle.c_cards.proofs.TwoGroups.{start_none, start-length, start_outside, start-unfit, start-done}
+use Rattle.c_face.proofs.SenderCalls.{epoch_byte, kind_byte}
+use Rattle.c_cards.proofs.TwoGroups.{start_none, start_length, start_outside, start_unfit, start_done}
 use Rattle.ground.specs.Truth.{and_left, and_right}
-use Rattle.c_face.specs.Senders.{isEpoch}
+use Rattle.c_face.specs.Senders.{is_epoch}
 use Rattle.c_cards.proofs.card_calls.start_by.Statement.{statement}
 use Rattle.c_cards.proofs.card_calls.start_by.Tie as tie
 
@@ -22,7 +22,7 @@ returns-2 : tie.Need-returns-2
 returns-2 c =
     let at-if1 = c.before.before in
     let args = at-if1.before.before.args in
-    start-length args.kind args.count args.first-epoch-0 args.first-epoch-1 _ at-if1.if1.true (sym c.before.is-no-start.ensures ∙ c.if2.false)
+    start_length args.kind args.count args.first-epoch-0 args.first-epoch-1 _ at-if1.if1.true (sym c.before.is-no-start.ensures ∙ c.if2.false)
 
 is-no-start-requires-2 : tie.Need-is-no-start-requires-2
 is-no-start-requires-2 c κs = omega arith
@@ -43,7 +43,7 @@ returns-3 c =
     start_outside args.kind args.count args.first-epoch-0 args.first-epoch-1 _ _ at-if1.if1.false (sym at-no-start.is-no-start2.ensures ∙ at-if3.if3.true) at-put-start.put-start.ensures
 
 cast-are-epochs : tie.Need-overflow-cast-are-epochs
-cast-are-epochs c = record { fits = kind-byte _ c.before.before.before.before.args.count (sym c.before.is-no-start2.ensures ∙ c.if3.false) }
+cast-are-epochs c = record { fits = kind_byte _ c.before.before.before.before.args.count (sym c.before.is-no-start2.ensures ∙ c.if3.false) }
 
 are-epochs-requires : tie.Need-are-epochs-requires
 are-epochs-requires c κs = omega arith
@@ -54,22 +54,22 @@ returns-4 c =
     let at-no-start = at-if3.before in
     let at-if1 = at-no-start.before in
     let args = at-if1.before.before.args in
-    start-unfit args.kind args.count args.first-epoch-0 args.first-epoch-1 _ at-if1.if1.false (sym at-no-start.is-no-start2.ensures ∙ at-if3.if3.false) (sym c.before.are-epochs.ensures ∙ not-true _ c.if4.true)
+    start_unfit args.kind args.count args.first-epoch-0 args.first-epoch-1 _ at-if1.if1.false (sym at-no-start.is-no-start2.ensures ∙ at-if3.if3.false) (sym c.before.are-epochs.ensures ∙ not-true _ c.if4.true)
 
 cast-put-start : tie.Need-overflow-cast-put-start
 cast-put-start c =
     let at-no-start = c.before.before.before in
-    record { fits = kind-byte _ at-no-start.before.before.before.args.count (sym at-no-start.is-no-start2.ensures ∙ c.before.before.if3.false) }
+    record { fits = kind_byte _ at-no-start.before.before.before.args.count (sym at-no-start.is-no-start2.ensures ∙ c.before.before.if3.false) }
 
 cast-put-start-2 : tie.Need-overflow-cast-put-start-2
 cast-put-start-2 c =
     let args = c.before.before.before.before.before.before.args in
-    record { fits = epoch-byte args.kind args.first-epoch-0 (and_left (isEpoch args.kind args.first-epoch-0) (isEpoch args.kind args.first-epoch-1) (sym c.before.are-epochs.ensures ∙ not-false _ c.if4.false)) }
+    record { fits = epoch_byte args.kind args.first-epoch-0 (and_left (is_epoch args.kind args.first-epoch-0) (is_epoch args.kind args.first-epoch-1) (sym c.before.are-epochs.ensures ∙ not-false _ c.if4.false)) }
 
 cast-put-start-3 : tie.Need-overflow-cast-put-start-3
 cast-put-start-3 c =
     let args = c.before.before.before.before.before.before.args in
-    record { fits = epoch-byte args.kind args.first-epoch-1 (and_right (isEpoch args.kind args.first-epoch-0) (isEpoch args.kind args.first-epoch-1) (sym c.before.are-epochs.ensures ∙ not-false _ c.if4.false)) }
+    record { fits = epoch_byte args.kind args.first-epoch-1 (and_right (is_epoch args.kind args.first-epoch-0) (is_epoch args.kind args.first-epoch-1) (sym c.before.are-epochs.ensures ∙ not-false _ c.if4.false)) }
 
 put-start-requires-2 : tie.Need-put-start-requires-2
 put-start-requires-2 c κs = omega arith
@@ -86,7 +86,7 @@ returns-5 c =
     let at-no-start = at-if3.before in
     let at-if1 = at-no-start.before in
     let args = at-if1.before.before.args in
-    start-done args.kind args.count args.first-epoch-0 args.first-epoch-1 _ _ at-if1.if1.false (sym at-no-start.is-no-start2.ensures ∙ at-if3.if3.false) (sym at-epoch.are-epochs.ensures ∙ not-false _ at-if4.if4.false) at-put-start2.put-start2.ensures
+    start_done args.kind args.count args.first-epoch-0 args.first-epoch-1 _ _ at-if1.if1.false (sym at-no-start.is-no-start2.ensures ∙ at-if3.if3.false) (sym at-epoch.are-epochs.ensures ∙ not-false _ at-if4.if4.false) at-put-start2.put-start2.ensures
 
 pub start-by-spec : {M : Type 1} → statement M
 start-by-spec =

@@ -1,5 +1,5 @@
 use mathlib.Core.Path.{refl}
-use Rattle.c_cards.specs.Changes.{changesFrom}
+use Rattle.c_cards.specs.Changes.{changes_from}
 use native.Mathlib.Omega.{arith}
 use Rattle.c_cards.proofs.changes.changes_from.Statement.{statement}
 use Rattle.c_cards.proofs.changes.changes_from.Tie as tie
@@ -17,7 +17,7 @@ wait-from-requires : tie.Need-wait-from-requires
 wait-from-requires c κs = omega arith
 
 returns : tie.Need-returns
-unfolding changesFrom
+unfolding changes_from
 returns c = rw (c.wait-from.ensures, c.before.list-from.ensures) refl
 
 pub changes-from-spec : {M : Type 1} → statement M

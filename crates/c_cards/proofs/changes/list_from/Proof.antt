@@ -4,13 +4,13 @@ use Prim.Native.Nat.{◌≤◌, ◌-◌}
 use native.Mathlib.Omega.{arith}
 use lib.ListN.{length}
 use Rattle.ground.specs.Counting.Each.{Done, done_more, done_none}
-use Rattle.c_cards.specs.Changes.{changeFrom, list_from}
-use Rattle.c_face.proofs.Wholes.{done-whole}
+use Rattle.c_cards.specs.Changes.{change_from, list_from}
+use Rattle.c_face.proofs.Wholes.{done_whole}
 use Rattle.c_cards.proofs.changes.list_from.Statement.{statement}
 use Rattle.c_cards.proofs.changes.list_from.Tie as tie
 
 abbrev invariant-loop : tie.invariant-loop
-invariant-loop bytes list₀ i₀ list i = (length list₀ ≡ 64) × (i ≤ 64) × Done i (changeFrom bytes) list₀ list
+invariant-loop bytes list₀ i₀ list i = (length list₀ ≡ 64) × (i ≤ 64) × Done i (change_from bytes) list₀ list
 
 abbrev decreases-loop : tie.decreases-loop
 decreases-loop bytes list₀ i₀ list i = 64 - i
@@ -41,7 +41,7 @@ loop-again c = (c.before.before.loop.invariant.0, omega arith, done_more _ c.bef
 
 returns : tie.Need-returns invariant-loop decreases-loop
 unfolding list_from
-returns c = done-whole c.before.loop.invariant.2 (omega arith) c.before.loop.invariant.0
+returns c = done_whole c.before.loop.invariant.2 (omega arith) c.before.loop.invariant.0
 
 pub list-from-spec : {M : Type 1} → statement M
 list-from-spec = tie.close (tie.spec invariant-loop decreases-loop change-from-requires loop-holds change-from-requires-2 mul-list array-set-from-list add-i loop-less loop-again returns)

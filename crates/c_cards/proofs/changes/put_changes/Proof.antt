@@ -1,4 +1,4 @@
-use Rattle.c_cards.proofs.Telling.{changes-whole}
+use Rattle.c_cards.proofs.Telling.{changes_whole}
 use native.Mathlib.Omega.{arith}
 use Rattle.c_cards.proofs.changes.put_changes.Statement.{statement}
 use Rattle.c_cards.proofs.changes.put_changes.Tie as tie
@@ -23,8 +23,8 @@ returns c =
     let at-put-list = c.before.before in
     let at-put-bytes = at-put-list.before.before.before.before in
     let at-wait-code = at-put-bytes.before.before.before.before in
-    let at-start = at-wait-code.before.before in
-    changes-whole at-start.args.changes _ at-start.args.out.now _ _ at-start.requires at-wait-code.wait-code.ensures at-put-bytes.put-bytes.ensures at-put-list.put-list.ensures
+    let at_start_lem = at-wait-code.before.before in
+    changes_whole at_start_lem.args.changes _ at_start_lem.args.out.now _ _ at_start_lem.requires at-wait-code.wait-code.ensures at-put-bytes.put-bytes.ensures at-put-list.put-list.ensures
 
 pub put-changes-spec : {M : Type 1} → statement M
 put-changes-spec = tie.close (tie.spec wait-code-requires slice-aggregate-put-bytes put-bytes-requires put-list-requires same_length returns)

@@ -3,20 +3,20 @@ use mathlib.Core.Path.{◌≡◌}
 use Prim.Native.Nat.{◌*◌, ◌≤◌, ◌-◌}
 use native.Mathlib.Omega.{arith}
 use lib.ListN.{length}
-use Rattle.ground.specs.Drawn.{Filling, filling-none}
-use Rattle.c_cards.specs.Changes.{listByte}
-use Rattle.c_cards.proofs.Telling.{five-more}
+use Rattle.ground.specs.Drawn.{Filling, filling_none}
+use Rattle.c_cards.specs.Changes.{list_byte}
+use Rattle.c_cards.proofs.Telling.{five_more}
 use Rattle.c_cards.proofs.changes.put_list.Statement.{statement}
 use Rattle.c_cards.proofs.changes.put_list.Tie as tie
 
 abbrev invariant-loop : tie.invariant-loop
-invariant-loop out₀ list i₀ out i = (length list ≡ 64) × (i ≤ 64) × Filling 2 (5 * i) (listByte list) out₀ out
+invariant-loop out₀ list i₀ out i = (length list ≡ 64) × (i ≤ 64) × Filling 2 (5 * i) (list_byte list) out₀ out
 
 abbrev decreases-loop : tie.decreases-loop
 decreases-loop out₀ list i₀ out i = 64 - i
 
 loop-holds : tie.Need-loop-init invariant-loop decreases-loop
-loop-holds c = (omega arith, omega arith, filling-none _ _ _)
+loop-holds c = (omega arith, omega arith, filling_none _ _ _)
 
 mul-change : tie.Need-overflow-mul-change invariant-loop decreases-loop
 mul-change c = omega arith
@@ -39,8 +39,8 @@ add-put-bytes c = omega arith
 put-bytes-requires : tie.Need-put-bytes-requires invariant-loop decreases-loop
 put-bytes-requires c κs =
     let at-loop = c.before.before.before.before.before in
-    let at-start = at-loop.before.before in
-    let f = at-loop.loop.invariant.2.len in let l = at-start.requires in omega arith
+    let at_start_lem = at-loop.before.before in
+    let f = at-loop.loop.invariant.2.len in let l = at_start_lem.requires in omega arith
 
 add-i : tie.Need-overflow-add-i invariant-loop decreases-loop
 add-i c = omega arith
@@ -53,8 +53,8 @@ loop-again c =
     let at-put-bytes = c.before.before in
     let at-change-bytes = at-put-bytes.before.before.before in
     let at-loop = at-change-bytes.before.before.before in
-    let at-start = at-loop.before.before in
-    (at-loop.loop.invariant.0, omega arith, five-more at-start.args.t1 at-loop.loop.i _ at-change-bytes.change-bytes.ensures at-loop.loop.invariant.2 at-put-bytes.put-bytes.ensures)
+    let at_start_lem = at-loop.before.before in
+    (at-loop.loop.invariant.0, omega arith, five_more at_start_lem.args.t1 at-loop.loop.i _ at-change-bytes.change-bytes.ensures at-loop.loop.invariant.2 at-put-bytes.put-bytes.ensures)
 
 same_length : tie.Need-same-length invariant-loop decreases-loop
 same_length c = c.before.loop.invariant.2.len

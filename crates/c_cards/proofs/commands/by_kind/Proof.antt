@@ -1,7 +1,7 @@
 -- Each of the four kinds is the definition's case, with the contract of its own call; any other number is 8 and leaves the state (`no_kind`).
 use mathlib.Core.Path.{refl}
 use native.Mathlib.Omega.{arith}
-use Rattle.c_cards.specs.Orders.{kindAnswerOn, kindStateOn}
+use Rattle.c_cards.specs.Orders.{kind_answer_on, kind_state_on}
 use Rattle.c_cards.proofs.Ordering.{no_kind}
 use Rattle.c_cards.proofs.commands.by_kind.Statement.{statement}
 use Rattle.c_cards.proofs.commands.by_kind.Tie as tie
@@ -22,32 +22,32 @@ same_length : tie.Need-same-length
 same_length c = omega arith
 
 returns : tie.Need-returns
-unfolding kindAnswerOn kindStateOn
+unfolding kind_answer_on kind_state_on
 returns c = rw c.before.before.before.before.match.keys1 c.before.before.levelspruce-card-add.ensures
 
 same-length-2 : tie.Need-same-length-2
 same-length-2 c = omega arith
 
 returns-2 : tie.Need-returns-2
-unfolding kindAnswerOn kindStateOn
+unfolding kind_answer_on kind_state_on
 returns-2 c = rw c.before.before.before.before.match.keys2 c.before.before.levelspruce-card-remove.ensures
 
 same-length-3 : tie.Need-same-length-3
 same-length-3 c = omega arith
 
 returns-3 : tie.Need-returns-3
-unfolding kindAnswerOn kindStateOn
+unfolding kind_answer_on kind_state_on
 returns-3 c = rw c.before.before.before.before.match.keys3 c.before.before.levelspruce-card-claim.ensures
 
 same-length-4 : tie.Need-same-length-4
 same-length-4 c = omega arith
 
 returns-4 : tie.Need-returns-4
-unfolding kindAnswerOn kindStateOn
+unfolding kind_answer_on kind_state_on
 returns-4 c = rw c.before.before.before.before.match.keys4 c.before.before.levelspruce-card-release.ensures
 
 returns-5 : tie.Need-returns-5
-unfolding kindAnswerOn kindStateOn
+unfolding kind_answer_on kind_state_on
 returns-5 c = let r = c.match.rest in rw (no_kind _ r.0.0.0.1 r.0.0.1 r.0.1 r.1) (refl, refl)
 
 pub by-kind-spec : {M : Type 1} → statement M

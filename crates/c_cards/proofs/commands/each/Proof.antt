@@ -4,12 +4,12 @@ use mathlib.Core.Path.{◌≡◌, refl}
 use Prim.Native.Nat.{◌-◌, ◌≤◌}
 use native.Mathlib.Omega.{arith}
 use lib.ListN.{length}
-use Rattle.c_cards.proofs.Ordering.{bytes-all, bytes-length, bytes_next, bytes_at, in_list, list_all, list_length, list-next, listAt}
+use Rattle.c_cards.proofs.Ordering.{bytes_all, bytes_length, bytes_next, bytes_at, in_list, list_all, list_length, list_next, list_at}
 use Rattle.c_cards.proofs.commands.each.Statement.{statement}
 use Rattle.c_cards.proofs.commands.each.Tie as tie
 
 abbrev invariant-loop : tie.invariant-loop
-invariant-loop state₀ commands answers₀ i₀ state answers i = (i ≤ length commands) × (state ≡ bytes_at state₀ commands i) × (answers ≡ listAt state₀ commands answers₀ i)
+invariant-loop state₀ commands answers₀ i₀ state answers i = (i ≤ length commands) × (state ≡ bytes_at state₀ commands i) × (answers ≡ list_at state₀ commands answers₀ i)
 
 abbrev decreases-loop : tie.decreases-loop
 decreases-loop state₀ commands answers₀ i₀ state answers i = length commands - i
@@ -30,9 +30,9 @@ slice-write-answers : tie.Need-slice-write-answers invariant-loop decreases-loop
 slice-write-answers c =
     let at-loop-test = c.before.before.before.before.before in
     let at-loop = at-loop-test.before in
-    let at-start = at-loop.before.before.before in
-    let args = at-start.args in
-    in_list args.state.now args.commands.now args.answers.now at-loop.loop.i _ at-loop.loop.invariant.2 at-start.requires at-loop-test.loop-test.true
+    let at_start_lem = at-loop.before.before.before in
+    let args = at_start_lem.args in
+    in_list args.state.now args.commands.now args.answers.now at-loop.loop.i _ at-loop.loop.invariant.2 at_start_lem.requires at-loop-test.loop-test.true
 
 add-i : tie.Need-overflow-add-i invariant-loop decreases-loop
 add-i c = omega arith
@@ -44,31 +44,31 @@ loop-again : tie.Need-loop-preserved invariant-loop decreases-loop
 loop-again c =
     let at_one = c.before.before in
     let at-loop = at_one.before.before.before.before in
-    let at-start = at-loop.before.before.before in
-    let args = at-start.args in (
+    let at_start_lem = at-loop.before.before.before in
+    let args = at_start_lem.args in (
       omega arith,
       bytes_next args.state.now args.commands.now at-loop.loop.i _ _ at-loop.loop.invariant.1 at_one.one.ensures.1,
-      list-next args.state.now args.commands.now args.answers.now at-loop.loop.i _ _ _ at-loop.loop.invariant.1 at-loop.loop.invariant.2 at_one.one.ensures.0,
+      list_next args.state.now args.commands.now args.answers.now at-loop.loop.i _ _ _ at-loop.loop.invariant.1 at-loop.loop.invariant.2 at_one.one.ensures.0,
     )
 
 same_length : tie.Need-same-length invariant-loop decreases-loop
 same_length c =
-    let at-start = c.before.before.before.before in
-    bytes-length at-start.args.state.now at-start.args.commands.now c.before.loop.i _ c.before.loop.invariant.1
+    let at_start_lem = c.before.before.before.before in
+    bytes_length at_start_lem.args.state.now at_start_lem.args.commands.now c.before.loop.i _ c.before.loop.invariant.1
 
 same-length-2 : tie.Need-same-length-2 invariant-loop decreases-loop
 same-length-2 c =
-    let at-start = c.before.before.before.before in
-    let args = at-start.args in
+    let at_start_lem = c.before.before.before.before in
+    let args = at_start_lem.args in
     list_length args.state.now args.commands.now args.answers.now c.before.loop.i _ c.before.loop.invariant.2
 
 returns : tie.Need-returns invariant-loop decreases-loop
 returns c =
-    let at-start = c.before.before.before.before in
-    let args = at-start.args in
+    let at_start_lem = c.before.before.before.before in
+    let args = at_start_lem.args in
     let e : c.before.loop.i ≡ length args.commands.now = omega arith in (
-      bytes-all args.state.now args.commands.now c.before.loop.i _ e c.before.loop.invariant.1,
-      list_all args.state.now args.commands.now args.answers.now c.before.loop.i _ at-start.requires e c.before.loop.invariant.2,
+      bytes_all args.state.now args.commands.now c.before.loop.i _ e c.before.loop.invariant.1,
+      list_all args.state.now args.commands.now args.answers.now c.before.loop.i _ at_start_lem.requires e c.before.loop.invariant.2,
     )
 
 pub each_spec : {M : Type 1} → statement M

@@ -1,7 +1,7 @@
 -- The call meets its contract: 9, 1, and then what is told of the board going out of the group's sender.
 -- Behind both refusals the state is a card's (`opened`).
 use native.Mathlib.Omega.{arith}
-use Rattle.c_cards.proofs.Tells.{card-shut, card-tells}
+use Rattle.c_cards.proofs.Tells.{card_shut, card_tells}
 use Rattle.c_cards.proofs.TwoGroups.{opened}
 use Rattle.c_cards.proofs.going.levelspruce_card_changes.Statement.{statement}
 use Rattle.c_cards.proofs.going.levelspruce_card_changes.Tie as tie
@@ -13,7 +13,7 @@ returns : tie.Need-returns
 returns c =
     let at-refusal = c.before in
     let args = at-refusal.before.before.before.before.args in
-    card-shut args.state.now args.group _ _ _ at-refusal.refusal.ensures c.if1.true
+    card_shut args.state.now args.group _ _ _ at-refusal.refusal.ensures c.if1.true
 
 part-in-requires : tie.Need-part-in-requires
 part-in-requires c κs =
@@ -41,7 +41,7 @@ returns-2 c =
     let at-if1 = at-part-in.before in
     let at-refusal = at-if1.before in
     let args = at-refusal.before.before.before.before.args in
-    card-tells args.state.now args.group _ _ (opened args.state.now args.group _ at-refusal.refusal.ensures at-if1.if1.false) _ _ _ _ _ at-part-in.part_in.ensures at-taken.taken.ensures at-tell.tell.ensures
+    card_tells args.state.now args.group _ _ (opened args.state.now args.group _ at-refusal.refusal.ensures at-if1.if1.false) _ _ _ _ _ at-part-in.part_in.ensures at-taken.taken.ensures at-tell.tell.ensures
 
 pub levelspruce-card-changes-spec : {M : Type 1} → statement M
 levelspruce-card-changes-spec =

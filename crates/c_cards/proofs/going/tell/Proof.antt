@@ -1,15 +1,15 @@
 -- The board told and the changes, each of its length, then what comparing answers; under 0 both are written.
 -- Each exit cites one law of Tells, in the order of the tests.
 use native.Mathlib.Omega.{arith}
-use Rattle.c_cards.proofs.Tells.{tell-done, tell-first, tell-refusal, tell-second, told-compared}
+use Rattle.c_cards.proofs.Tells.{tell_done, tell_first, tell_refusal, tell_second, told_compared}
 use Rattle.c_cards.proofs.going.tell.Statement.{statement}
 use Rattle.c_cards.proofs.going.tell.Tie as tie
 
 returns : tie.Need-returns
-returns c = tell-first _ _ _ c.if1.true
+returns c = tell_first _ _ _ c.if1.true
 
 returns-2 : tie.Need-returns-2
-returns-2 c = tell-second _ _ _ c.before.if1.false c.if2.true
+returns-2 c = tell_second _ _ _ c.before.if1.false c.if2.true
 
 board-from-requires : tie.Need-board-from-requires
 board-from-requires c κs = omega arith
@@ -29,8 +29,8 @@ returns-3 c =
     let at-board-from = at-changes-between.before in
     let at-if2 = at-board-from.before.before in
     let at-if1 = at-if2.before in
-    let s = told-compared _ _ _ _ at-board-from.board-from.ensures at-changes-between.changes-between.ensures in
-    tell-refusal _ _ _ at-if1.if1.false at-if2.if2.false _ s _ c.before.number.ensures c.if3.true
+    let s = told_compared _ _ _ _ at-board-from.board-from.ensures at-changes-between.changes-between.ensures in
+    tell_refusal _ _ _ at-if1.if1.false at-if2.if2.false _ s _ c.before.number.ensures c.if3.true
 
 put-changes-requires : tie.Need-put-changes-requires
 put-changes-requires c κs = omega arith
@@ -54,8 +54,8 @@ returns-4 c =
     let at-board-from = at-changes-between.before in
     let at-if2 = at-board-from.before.before in
     let at-if1 = at-if2.before in
-    let s = told-compared _ _ _ _ at-board-from.board-from.ensures at-changes-between.changes-between.ensures in
-    tell-done _ _ _ at-if1.if1.false at-if2.if2.false _ s _ at-number.number.ensures _ _ at-if3.if3.false at-put-board.put-board.ensures at-put-changes.put-changes.ensures
+    let s = told_compared _ _ _ _ at-board-from.board-from.ensures at-changes-between.changes-between.ensures in
+    tell_done _ _ _ at-if1.if1.false at-if2.if2.false _ s _ at-number.number.ensures _ _ at-if3.if3.false at-put-board.put-board.ensures at-put-changes.put-changes.ensures
 
 pub tell-spec : {M : Type 1} → statement M
 tell-spec =

@@ -1,8 +1,8 @@
 -- The call meets its contract: what the planner refuses, then 9 for the buffer, and under 0 the plan's 65 bytes.
 -- Each exit cites one law on an answer into a lent buffer (`lent-refused`, `lent-short`, `lent-done`), with the planner's number (`plan-number`).
 use mathlib.Core.Path.{◌∙◌, ap}
-use Rattle.c_cards.specs.Plans.{planBytesOf}
-use Rattle.c_cards.proofs.Planning.{lent-done, lent-refused, lent-short, plan-number}
+use Rattle.c_cards.specs.Plans.{plan_bytes_of}
+use Rattle.c_cards.proofs.Planning.{lent_done, lent_refused, lent_short, plan_number_lem}
 use native.Mathlib.Omega.{arith}
 use Rattle.c_cards.proofs.plans.levelspruce_paths_plan.Statement.{statement}
 use Rattle.c_cards.proofs.plans.levelspruce_paths_plan.Tie as tie
@@ -16,17 +16,17 @@ number-requires c κs = omega arith
 returns : tie.Need-returns
 returns c =
     let at-plan = c.before.before in
-    let at-start = at-plan.before.before.before in
-    let args = at-start.args in
-    lent-refused _ _ 65 _ _ (plan-number args.delays.now args.k args.window at-plan.plan.result c.before.number.result c.before.number.ensures at-plan.plan.ensures) c.if1.true
+    let at_start_lem = at-plan.before.before.before in
+    let args = at_start_lem.args in
+    lent_refused _ _ 65 _ _ (plan_number_lem args.delays.now args.k args.window at-plan.plan.result c.before.number.result c.before.number.ensures at-plan.plan.ensures) c.if1.true
 
 returns-2 : tie.Need-returns-2
 returns-2 c =
     let at-number = c.before.before in
     let at-plan = at-number.before in
-    let at-start = at-plan.before.before.before in
-    let args = at-start.args in
-    lent-short _ _ 65 _ _ (plan-number args.delays.now args.k args.window at-plan.plan.result at-number.number.result at-number.number.ensures at-plan.plan.ensures) c.before.if1.false c.if2.true
+    let at_start_lem = at-plan.before.before.before in
+    let args = at_start_lem.args in
+    lent_short _ _ 65 _ _ (plan_number_lem args.delays.now args.k args.window at-plan.plan.result at-number.number.result at-number.number.ensures at-plan.plan.ensures) c.before.if1.false c.if2.true
 
 put-plan-requires : tie.Need-put-plan-requires
 put-plan-requires c κs = omega arith
@@ -41,9 +41,9 @@ returns-3 c =
     let at-if1 = at-if2.before in
     let at-number = at-if1.before in
     let at-plan = at-number.before in
-    let at-start = at-plan.before.before.before in
-    let args = at-start.args in
-    lent-done _ _ 65 _ _ (plan-number args.delays.now args.k args.window at-plan.plan.result at-number.number.result at-number.number.ensures at-plan.plan.ensures) at-if1.if1.false at-if2.if2.false _ (at-put-plan.put-plan.ensures ∙ ap planBytesOf at-plan.plan.ensures)
+    let at_start_lem = at-plan.before.before.before in
+    let args = at_start_lem.args in
+    lent_done _ _ 65 _ _ (plan_number_lem args.delays.now args.k args.window at-plan.plan.result at-number.number.result at-number.number.ensures at-plan.plan.ensures) at-if1.if1.false at-if2.if2.false _ (at-put-plan.put-plan.ensures ∙ ap plan_bytes_of at-plan.plan.ensures)
 
 pub levelspruce-paths-plan-spec : {M : Type 1} → statement M
 levelspruce-paths-plan-spec =

@@ -1,17 +1,17 @@
 use mathlib.Core.Path.{◌∙◌, ap}
 use native.Mathlib.Omega.{arith}
-use Rattle.c_face.specs.Boards.{boardBytesOf}
-use Rattle.c_face.proofs.Showing.{shown-state, shown-room, shown-done}
+use Rattle.c_face.specs.Boards.{board_bytes_of}
+use Rattle.c_face.proofs.Showing.{shown_state, shown_room, shown_done}
 use Rattle.c_face.proofs.boards.levelspruce_sender_board.Statement.{statement}
-use Rattle.sender.specs.Board.{boardOf}
+use Rattle.sender.specs.Board.{board_of}
 use Rattle.sender.specs.declared.epochs.Sender.{Sender}
 use Rattle.c_face.proofs.boards.levelspruce_sender_board.Tie as tie
 
 returns : tie.Need-returns
-returns c = shown-state 130 _ _ _ c.if1.true
+returns c = shown_state 130 _ _ _ c.if1.true
 
 returns-2 : tie.Need-returns-2
-returns-2 c = shown-room 130 _ _ _ c.before.if1.false c.if2.true
+returns-2 c = shown_room 130 _ _ _ c.before.if1.false c.if2.true
 
 sender-of-requires : tie.Need-sender-of-requires
 sender-of-requires c κs = omega arith
@@ -32,7 +32,7 @@ returns-3 c =
     let at-sender-of = at-board-of.before.before in
     let at-if2 = at-sender-of.before in
     let at-if1 = at-if2.before in
-    shown-done 130 _ _ _ _ at-if1.if1.false at-if2.if2.false (at-put-board.put-board.ensures ∙ ap boardBytesOf (at-board-of.board-of.ensures ∙ ap (λ (s : Sender). boardOf s.table) at-sender-of.sender-of.ensures))
+    shown_done 130 _ _ _ _ at-if1.if1.false at-if2.if2.false (at-put-board.put-board.ensures ∙ ap board_bytes_of (at-board-of.board-of.ensures ∙ ap (λ (s : Sender). board_of s.table) at-sender-of.sender-of.ensures))
 
 pub levelspruce-sender-board-spec : {M : Type 1} → statement M
 levelspruce-sender-board-spec =

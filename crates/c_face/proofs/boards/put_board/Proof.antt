@@ -1,8 +1,8 @@
 -- `put_board` meets its contract: the count, at most 64, and the wait, then each slot's word and number.
 -- Two pieces fill the whole buffer (`board-whole`).
 use native.Mathlib.Omega.{arith}
-use Rattle.sender.specs.Table.{slotCount}
-use Rattle.c_face.proofs.Showing.{board-whole}
+use Rattle.sender.specs.Table.{slot_count}
+use Rattle.c_face.proofs.Showing.{board_whole}
 use Rattle.c_face.proofs.boards.put_board.Statement.{statement}
 use Rattle.c_face.proofs.boards.put_board.Tie as tie
 
@@ -25,14 +25,14 @@ same_length : tie.Need-same-length
 same_length c = omega arith
 
 returns : tie.Need-returns
-unfolding slotCount
+unfolding slot_count
 returns c =
     let at-put-rows = c.before.before in
     let at-put-bytes = at-put-rows.before.before.before.before in
     let at-size-byte = at-put-bytes.before.before.before.before in
     let at-one-if = at-size-byte.before in
-    let at-start = at-one-if.before.before in
-    board-whole at-start.args.board _ _ at-start.args.out.now _ _ at-start.requires at-size-byte.size-byte.ensures
+    let at_start_lem = at-one-if.before.before in
+    board_whole at_start_lem.args.board _ _ at_start_lem.args.out.now _ _ at_start_lem.requires at-size-byte.size-byte.ensures
     at-one-if.one-if.ensures at-put-bytes.put-bytes.ensures at-put-rows.put-rows.ensures
 
 pub put-board-spec : {M : Type 1} → statement M

@@ -2,7 +2,7 @@ use mathlib.Core.Path.{◌≡◌}
 use Prim.Native.Nat.{◌≤◌, ◌-◌}
 use native.Mathlib.Omega.{arith}
 use lib.ListN.{length, get_or}
-use Rattle.ground.specs.Drawn.{Filling, filling-none, filling-more}
+use Rattle.ground.specs.Drawn.{Filling, filling_none, filling_more}
 use Rattle.c_face.proofs.keeping.put_bytes.Statement.{statement}
 use Rattle.c_face.proofs.keeping.put_bytes.Tie as tie
 
@@ -13,7 +13,7 @@ abbrev decreases-loop : tie.decreases-loop
 decreases-loop from at out₀ k₀ out k = length from - k
 
 loop-holds : tie.Need-loop-init invariant-loop decreases-loop
-loop-holds c = (omega arith, filling-none _ _ _)
+loop-holds c = (omega arith, filling_none _ _ _)
 
 shared-slice-read-out : tie.Need-shared-slice-read-out invariant-loop decreases-loop
 shared-slice-read-out c = omega arith
@@ -31,7 +31,7 @@ loop-less : tie.Need-loop-smaller invariant-loop decreases-loop
 loop-less c = omega arith
 
 loop-again : tie.Need-loop-preserved invariant-loop decreases-loop
-loop-again c = (omega arith, filling-more c.before.before.loop.invariant.1)
+loop-again c = (omega arith, filling_more c.before.before.loop.invariant.1)
 
 same_length : tie.Need-same-length invariant-loop decreases-loop
 same_length c = c.before.loop.invariant.1.len

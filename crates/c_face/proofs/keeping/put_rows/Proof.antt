@@ -1,20 +1,20 @@
 use mathlib.Core.Path.{◌≡◌}
 use Prim.Native.Nat.{◌≤◌, ◌-◌}
 use native.Mathlib.Omega.{arith}
-use Rattle.ground.specs.Drawn.{Filling, filling-none}
-use Rattle.c_face.specs.Keeping.{rowsByte}
-use Rattle.c_face.proofs.Wholes.{filling-put}
+use Rattle.ground.specs.Drawn.{Filling, filling_none}
+use Rattle.c_face.specs.Keeping.{rows_byte}
+use Rattle.c_face.proofs.Wholes.{filling_put}
 use Rattle.c_face.proofs.keeping.put_rows.Statement.{statement}
 use Rattle.c_face.proofs.keeping.put_rows.Tie as tie
 
 abbrev invariant-loop : tie.invariant-loop
-invariant-loop at out₀ rows k₀ out k = (k ≤ 128) × Filling at k (rowsByte rows) out₀ out
+invariant-loop at out₀ rows k₀ out k = (k ≤ 128) × Filling at k (rows_byte rows) out₀ out
 
 abbrev decreases-loop : tie.decreases-loop
 decreases-loop at out₀ rows k₀ out k = 128 - k
 
 loop-holds : tie.Need-loop-init invariant-loop decreases-loop
-loop-holds c = (omega arith, filling-none _ _ _)
+loop-holds c = (omega arith, filling_none _ _ _)
 
 mul-row-byte : tie.Need-overflow-mul-row-byte invariant-loop decreases-loop
 mul-row-byte c = omega arith
@@ -38,7 +38,7 @@ loop-less : tie.Need-loop-smaller invariant-loop decreases-loop
 loop-less c = omega arith
 
 loop-again : tie.Need-loop-preserved invariant-loop decreases-loop
-loop-again c = (omega arith, filling-put _ c.before.before.before.loop.invariant.1 c.row-byte.ensures)
+loop-again c = (omega arith, filling_put _ c.before.before.before.loop.invariant.1 c.row-byte.ensures)
 
 same_length : tie.Need-same-length invariant-loop decreases-loop
 same_length c = c.before.loop.invariant.1.len

@@ -33,8 +33,8 @@ returns c =
     let at-put-rows = at-put-rows2.before.before.before.before in
     let at-put-slots = at-put-rows.before.before.before.before in
     let at-field-bytes = at-put-slots.before.before in
-    let at-start = at-field-bytes.before.before.before.before.before.before.before.before in
-    put_whole at-start.args.sender _ at-start.args.state.now _ _ _ _ at-start.requires at-field-bytes.field-bytes.ensures at-put-slots.put-slots.ensures at-put-rows.put-rows.ensures at-put-rows2.put-rows2.ensures at-put-bytes.put-bytes.ensures
+    let at_start_lem = at-field-bytes.before.before.before.before.before.before.before.before in
+    put_whole at_start_lem.args.sender _ at_start_lem.args.state.now _ _ _ _ at_start_lem.requires at-field-bytes.field-bytes.ensures at-put-slots.put-slots.ensures at-put-rows.put-rows.ensures at-put-rows2.put-rows2.ensures at-put-bytes.put-bytes.ensures
 
 pub put-sender-spec : {M : Type 1} → statement M
 put-sender-spec =

@@ -1,20 +1,20 @@
 use mathlib.Core.Path.{◌≡◌}
 use Prim.Native.Nat.{◌≤◌, ◌-◌}
 use native.Mathlib.Omega.{arith}
-use Rattle.ground.specs.Drawn.{Filling, filling-none}
-use Rattle.c_face.specs.Keeping.{slotsByte}
-use Rattle.c_face.proofs.Wholes.{filling-first}
+use Rattle.ground.specs.Drawn.{Filling, filling_none}
+use Rattle.c_face.specs.Keeping.{slots_byte}
+use Rattle.c_face.proofs.Wholes.{filling_first}
 use Rattle.c_face.proofs.keeping.put_slots.Statement.{statement}
 use Rattle.c_face.proofs.keeping.put_slots.Tie as tie
 
 abbrev invariant-loop : tie.invariant-loop
-invariant-loop out₀ slots k₀ out k = (k ≤ 128) × Filling 0 k (slotsByte slots) out₀ out
+invariant-loop out₀ slots k₀ out k = (k ≤ 128) × Filling 0 k (slots_byte slots) out₀ out
 
 abbrev decreases-loop : tie.decreases-loop
 decreases-loop out₀ slots k₀ out k = 128 - k
 
 loop-holds : tie.Need-loop-init invariant-loop decreases-loop
-loop-holds c = (omega arith, filling-none _ _ _)
+loop-holds c = (omega arith, filling_none _ _ _)
 
 mul-slot-byte : tie.Need-overflow-mul-slot-byte invariant-loop decreases-loop
 mul-slot-byte c = omega arith
@@ -35,7 +35,7 @@ loop-less : tie.Need-loop-smaller invariant-loop decreases-loop
 loop-less c = omega arith
 
 loop-again : tie.Need-loop-preserved invariant-loop decreases-loop
-loop-again c = (omega arith, filling-first _ c.before.before.before.loop.invariant.1 c.slot-byte.ensures)
+loop-again c = (omega arith, filling_first _ c.before.before.before.loop.invariant.1 c.slot-byte.ensures)
 
 same_length : tie.Need-same-length invariant-loop decreases-loop
 same_length c = c.before.loop.invariant.1.len

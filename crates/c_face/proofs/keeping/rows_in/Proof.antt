@@ -2,8 +2,8 @@ use mathlib.Core.Path.{◌≡◌, refl}
 use Prim.Native.Nat.{◌≤◌, ◌-◌}
 use native.Mathlib.Omega.{arith}
 use lib.ListN.{length}
-use Rattle.c_face.specs.Keeping.{row_in, rowsIn}
-use Rattle.c_face.proofs.Wholes.{done-whole}
+use Rattle.c_face.specs.Keeping.{row_in, rows_in}
+use Rattle.c_face.proofs.Wholes.{done_whole}
 use Rattle.c_face.proofs.keeping.rows_in.Statement.{statement}
 use Rattle.ground.specs.Counting.Each.{Done, done_none, done_more}
 use Rattle.c_face.proofs.keeping.rows_in.Tie as tie
@@ -36,8 +36,8 @@ loop-again : tie.Need-loop-preserved invariant-loop decreases-loop
 loop-again c = (c.before.before.loop.invariant.0, omega arith, done_more _ c.before.before.loop.invariant.2 c.row-in.ensures)
 
 returns : tie.Need-returns invariant-loop decreases-loop
-unfolding rowsIn
-returns c = done-whole c.before.loop.invariant.2 (omega arith) c.before.loop.invariant.0
+unfolding rows_in
+returns c = done_whole c.before.loop.invariant.2 (omega arith) c.before.loop.invariant.0
 
 pub rows-in-spec : {M : Type 1} → statement M
 rows-in-spec =

@@ -1,6 +1,6 @@
 use mathlib.Core.Path.{refl}
 use native.Mathlib.Omega.{arith}
-use Rattle.c_face.specs.Keeping.{senderOf}
+use Rattle.c_face.specs.Keeping.{sender_of}
 use Rattle.c_face.proofs.keeping.sender_of.Statement.{statement}
 use Rattle.c_face.proofs.keeping.sender_of.Tie as tie
 
@@ -44,7 +44,7 @@ shared-slice-read-t18 : tie.Need-shared-slice-read-t18
 shared-slice-read-t18 c = omega arith
 
 returns : tie.Need-returns
-unfolding senderOf
+unfolding sender_of
 returns c =
     let at-is-set = c.before.before.before.before in
     let at-board-in2 = at-is-set.before.before in

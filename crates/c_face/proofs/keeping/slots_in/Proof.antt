@@ -2,14 +2,14 @@ use mathlib.Core.Path.{◌≡◌, refl}
 use Prim.Native.Nat.{◌≤◌, ◌-◌}
 use native.Mathlib.Omega.{arith}
 use lib.ListN.{length}
-use Rattle.c_face.specs.Keeping.{slotIn, slotsIn}
-use Rattle.c_face.proofs.Wholes.{done-whole}
+use Rattle.c_face.specs.Keeping.{slot_in, slots_in}
+use Rattle.c_face.proofs.Wholes.{done_whole}
 use Rattle.c_face.proofs.keeping.slots_in.Statement.{statement}
 use Rattle.ground.specs.Counting.Each.{Done, done_none, done_more}
 use Rattle.c_face.proofs.keeping.slots_in.Tie as tie
 
 abbrev invariant-loop : tie.invariant-loop
-invariant-loop state slots₀ i₀ slots i = (length slots₀ ≡ 64) × (i ≤ 64) × Done i (slotIn state) slots₀ slots
+invariant-loop state slots₀ i₀ slots i = (length slots₀ ≡ 64) × (i ≤ 64) × Done i (slot_in state) slots₀ slots
 
 abbrev decreases-loop : tie.decreases-loop
 decreases-loop state slots₀ i₀ slots i = 64 - i
@@ -36,8 +36,8 @@ loop-again : tie.Need-loop-preserved invariant-loop decreases-loop
 loop-again c = (c.before.before.loop.invariant.0, omega arith, done_more _ c.before.before.loop.invariant.2 c.slot-in.ensures)
 
 returns : tie.Need-returns invariant-loop decreases-loop
-unfolding slotsIn
-returns c = done-whole c.before.loop.invariant.2 (omega arith) c.before.loop.invariant.0
+unfolding slots_in
+returns c = done_whole c.before.loop.invariant.2 (omega arith) c.before.loop.invariant.0
 
 pub slots-in-spec : {M : Type 1} → statement M
 slots-in-spec =

@@ -1,10 +1,10 @@
 use native.Mathlib.Omega.{arith}
-use Rattle.c_face.proofs.Answers.{read-wrong, read_right}
+use Rattle.c_face.proofs.Answers.{read_wrong, read_right}
 use Rattle.c_face.proofs.packets.levelspruce_packet_read.Statement.{statement}
 use Rattle.c_face.proofs.packets.levelspruce_packet_read.Tie as tie
 
 returns : tie.Need-returns
-returns c = read-wrong _ _ c.if1.true
+returns c = read_wrong _ _ c.if1.true
 
 read-requires : tie.Need-read-requires
 read-requires c κs = omega arith

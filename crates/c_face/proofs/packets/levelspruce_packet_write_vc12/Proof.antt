@@ -1,5 +1,5 @@
 use native.Mathlib.Omega.{arith}
-use Rattle.c_face.proofs.Answers.{write-vc12}
+use Rattle.c_face.proofs.Answers.{write_vc12_lem}
 use Rattle.c_face.proofs.packets.levelspruce_packet_write_vc12.Statement.{statement}
 use Rattle.c_face.proofs.packets.levelspruce_packet_write_vc12.Tie as tie
 
@@ -10,7 +10,7 @@ same_length : tie.Need-same-length
 same_length c = omega arith
 
 returns : tie.Need-returns
-returns c = write-vc12 _ _ _ _ c.before.before.put-packet.ensures
+returns c = write_vc12_lem _ _ _ _ c.before.before.put-packet.ensures
 
 pub levelspruce-packet-write-vc12-spec : {M : Type 1} → statement M
 levelspruce-packet-write-vc12-spec = tie.close (tie.spec put-packet-requires same_length returns)

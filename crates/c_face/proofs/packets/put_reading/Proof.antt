@@ -1,5 +1,5 @@
 use borrow.Author.Rules.{rules}
-use Rattle.c_face.proofs.Answers.{reading-put}
+use Rattle.c_face.proofs.Answers.{reading_put}
 use Rattle.c_face.proofs.packets.put_reading.Statement.{statement}
 use Rattle.c_face.proofs.packets.put_reading.Tie as tie
 
@@ -25,7 +25,7 @@ same_length : tie.Need-same-length
 same_length c = search rules
 
 returns : tie.Need-returns
-returns c = reading-put _ _ _ _ c.before.before.before.before.before.reading.given.1 c.before.before.put-values.ensures
+returns c = reading_put _ _ _ _ c.before.before.before.before.before.reading.given.1 c.before.before.put-values.ensures
 
 returns-2 : tie.Need-returns-2
 returns-2 c = search rules

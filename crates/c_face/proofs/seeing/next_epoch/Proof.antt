@@ -1,5 +1,5 @@
 use borrow.Author.Rules.{rules}
-use Rattle.sender.specs.Epochs.{startedEpoch}
+use Rattle.sender.specs.Epochs.{started_epoch}
 use Rattle.c_face.proofs.seeing.next_epoch.Statement.{statement}
 use Rattle.c_face.proofs.seeing.next_epoch.Tie as tie
 use mathlib.Core.Path.{refl}
@@ -8,11 +8,11 @@ next-epoch-requires : tie.Need-next-epoch-requires
 next-epoch-requires c κs = search rules
 
 returns : tie.Need-returns
-unfolding startedEpoch
+unfolding started_epoch
 returns c = rw c.before.if1.true c.next-epoch.ensures
 
 returns-2 : tie.Need-returns-2
-unfolding startedEpoch
+unfolding started_epoch
 returns-2 c = rw c.if1.false refl
 
 pub next-epoch-spec : {M : Type 1} → statement M

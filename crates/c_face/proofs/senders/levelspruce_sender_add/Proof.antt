@@ -9,8 +9,8 @@ use Rattle.c_face.proofs.senders.levelspruce_sender_add.Tie as tie
 
 returns : tie.Need-returns
 returns c =
-    let at-start = c.before.before in
-    call_length _ true (OnTable (AddSlot at-start.args.slot)) c.if1.true
+    let at_start_lem = c.before.before in
+    call_length _ true (OnTable (AddSlot at_start_lem.args.slot)) c.if1.true
 
 sender-of-requires : tie.Need-sender-of-requires
 sender-of-requires c κs = omega arith
@@ -30,8 +30,8 @@ returns-2 c =
     let at-add = at-keep.before.before in
     let at-sender-of = at-add.before in
     let at-if1 = at-sender-of.before.before in
-    let at-start = at-if1.before.before in
-    call_kept _ true (OnTable (AddSlot at-start.args.slot)) _ _ _ _ at-if1.if1.false refl at-sender-of.sender-of.ensures at-add.add.ensures at-keep.keep.ensures
+    let at_start_lem = at-if1.before.before in
+    call_kept _ true (OnTable (AddSlot at_start_lem.args.slot)) _ _ _ _ at-if1.if1.false refl at-sender-of.sender-of.ensures at-add.add.ensures at-keep.keep.ensures
 
 pub levelspruce-sender-add-spec : {M : Type 1} → statement M
 levelspruce-sender-add-spec =

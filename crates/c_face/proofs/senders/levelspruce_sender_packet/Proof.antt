@@ -1,10 +1,10 @@
 use native.Mathlib.Omega.{arith}
-use Rattle.c_face.proofs.SenderCalls.{packet-length, packet-own}
+use Rattle.c_face.proofs.SenderCalls.{packet_length, packet_own}
 use Rattle.c_face.proofs.senders.levelspruce_sender_packet.Statement.{statement}
 use Rattle.c_face.proofs.senders.levelspruce_sender_packet.Tie as tie
 
 returns : tie.Need-returns
-returns c = packet-length _ _ _ c.if1.true
+returns c = packet_length _ _ _ c.if1.true
 
 sender-of-requires : tie.Need-sender-of-requires
 sender-of-requires c κs = omega arith
@@ -19,7 +19,7 @@ same_length : tie.Need-same-length
 same_length c = omega arith
 
 returns-2 : tie.Need-returns-2
-returns-2 c = packet-own _ _ _ _ _ _ _ c.before.before.before.before.before.before.if1.false c.before.before.before.before.before.sender-of.ensures c.before.before.before.packet.ensures.0 c.before.before.before.packet.ensures.1 c.number.ensures
+returns-2 c = packet_own _ _ _ _ _ _ _ c.before.before.before.before.before.before.if1.false c.before.before.before.before.before.sender-of.ensures c.before.before.before.packet.ensures.0 c.before.before.before.packet.ensures.1 c.number.ensures
 
 pub levelspruce-sender-packet-spec : {M : Type 1} → statement M
 levelspruce-sender-packet-spec =

@@ -1,10 +1,10 @@
 use native.Mathlib.Omega.{arith}
-use Rattle.c_face.proofs.SenderCalls.{payload-length, payload-own}
+use Rattle.c_face.proofs.SenderCalls.{payload_length, payload_own}
 use Rattle.c_face.proofs.senders.levelspruce_sender_payload.Statement.{statement}
 use Rattle.c_face.proofs.senders.levelspruce_sender_payload.Tie as tie
 
 returns : tie.Need-returns
-returns c = payload-length _ _ _ _ _ c.if1.true
+returns c = payload_length _ _ _ _ _ c.if1.true
 
 sender-of-requires : tie.Need-sender-of-requires
 sender-of-requires c κs = omega arith
@@ -19,7 +19,7 @@ same_length : tie.Need-same-length
 same_length c = omega arith
 
 returns-2 : tie.Need-returns-2
-returns-2 c = payload-own _ _ _ _ _ _ _ _ _ c.before.before.before.before.before.before.if1.false c.before.before.before.before.before.sender-of.ensures c.before.before.before.payload.ensures.0 c.before.before.before.payload.ensures.1 c.number.ensures
+returns-2 c = payload_own _ _ _ _ _ _ _ _ _ c.before.before.before.before.before.before.if1.false c.before.before.before.before.before.sender-of.ensures c.before.before.before.payload.ensures.0 c.before.before.before.payload.ensures.1 c.number.ensures
 
 pub levelspruce-sender-payload-spec : {M : Type 1} → statement M
 levelspruce-sender-payload-spec =

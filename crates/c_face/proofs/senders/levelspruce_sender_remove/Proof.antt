@@ -9,8 +9,8 @@ use Rattle.c_face.proofs.senders.levelspruce_sender_remove.Tie as tie
 
 returns : tie.Need-returns
 returns c =
-    let at-start = c.before.before in
-    call_length _ true (OnTable (RemoveSlot at-start.args.slot)) c.if1.true
+    let at_start_lem = c.before.before in
+    call_length _ true (OnTable (RemoveSlot at_start_lem.args.slot)) c.if1.true
 
 sender-of-requires : tie.Need-sender-of-requires
 sender-of-requires c κs = omega arith
@@ -30,8 +30,8 @@ returns-2 c =
     let at-remove = at-keep.before.before in
     let at-sender-of = at-remove.before in
     let at-if1 = at-sender-of.before.before in
-    let at-start = at-if1.before.before in
-    call_kept _ true (OnTable (RemoveSlot at-start.args.slot)) _ _ _ _ at-if1.if1.false refl at-sender-of.sender-of.ensures at-remove.remove.ensures at-keep.keep.ensures
+    let at_start_lem = at-if1.before.before in
+    call_kept _ true (OnTable (RemoveSlot at_start_lem.args.slot)) _ _ _ _ at-if1.if1.false refl at-sender-of.sender-of.ensures at-remove.remove.ensures at-keep.keep.ensures
 
 pub levelspruce-sender-remove-spec : {M : Type 1} → statement M
 levelspruce-sender-remove-spec =

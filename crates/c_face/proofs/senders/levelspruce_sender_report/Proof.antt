@@ -4,7 +4,7 @@ use mathlib.Core.Path.{◌∙◌, sym}
 use native.Mathlib.Omega.{arith}
 use borrow.Author.Tests.{not-true, not-false}
 use Rattle.c_face.specs.Senders.{are_bytes}
-use Rattle.c_face.proofs.SenderCalls.{Three, call_length, call-unfit, call_kept, three_said}
+use Rattle.c_face.proofs.SenderCalls.{Three, call_length, call_unfit, call_kept, three_said}
 use Rattle.c_face.proofs.senders.levelspruce_sender_report.Statement.{statement}
 use Rattle.sender.specs.Calls.Call.{Report}
 use Rattle.sender.specs.Epochs.SenderCall.{OnTable}
@@ -12,8 +12,8 @@ use Rattle.c_face.proofs.senders.levelspruce_sender_report.Tie as tie
 
 returns : tie.Need-returns
 returns c =
-    let at-start = c.before.before in
-    let args = at-start.args in
+    let at_start_lem = c.before.before in
+    let args = at_start_lem.args in
     call_length _ (are_bytes args.epoch args.mst args.rs-ack) (OnTable (Report args.epoch args.mst args.rs-ack)) c.if1.true
 
 are-bytes-requires : tie.Need-are-bytes-requires
@@ -22,9 +22,9 @@ are-bytes-requires c κs = omega arith
 returns-2 : tie.Need-returns-2
 returns-2 c =
     let at-if1 = c.before.before in
-    let at-start = at-if1.before.before in
-    let args = at-start.args in
-    call-unfit _ (are_bytes args.epoch args.mst args.rs-ack) (OnTable (Report args.epoch args.mst args.rs-ack)) at-if1.if1.false (sym c.before.are-bytes.ensures ∙ not-true _ c.if2.true)
+    let at_start_lem = at-if1.before.before in
+    let args = at_start_lem.args in
+    call_unfit _ (are_bytes args.epoch args.mst args.rs-ack) (OnTable (Report args.epoch args.mst args.rs-ack)) at-if1.if1.false (sym c.before.are-bytes.ensures ∙ not-true _ c.if2.true)
 
 sender-of-requires : tie.Need-sender-of-requires
 sender-of-requires c κs = omega arith
@@ -33,24 +33,24 @@ cast-report : tie.Need-overflow-cast-report
 cast-report c =
     let at-if2 = c.before.before in
     let at-are-bytes = at-if2.before in
-    let at-start = at-are-bytes.before.before.before in
-    let args = at-start.args in
+    let at_start_lem = at-are-bytes.before.before.before in
+    let args = at_start_lem.args in
     let t : Three args.epoch args.mst args.rs-ack = three_said _ _ _ (sym at-are-bytes.are-bytes.ensures ∙ not-false _ at-if2.if2.false) in record { fits = t.first }
 
 cast-report-2 : tie.Need-overflow-cast-report-2
 cast-report-2 c =
     let at-if2 = c.before.before in
     let at-are-bytes = at-if2.before in
-    let at-start = at-are-bytes.before.before.before in
-    let args = at-start.args in
+    let at_start_lem = at-are-bytes.before.before.before in
+    let args = at_start_lem.args in
     let t : Three args.epoch args.mst args.rs-ack = three_said _ _ _ (sym at-are-bytes.are-bytes.ensures ∙ not-false _ at-if2.if2.false) in omega arith
 
 cast-report-3 : tie.Need-overflow-cast-report-3
 cast-report-3 c =
     let at-if2 = c.before.before in
     let at-are-bytes = at-if2.before in
-    let at-start = at-are-bytes.before.before.before in
-    let args = at-start.args in
+    let at_start_lem = at-are-bytes.before.before.before in
+    let args = at_start_lem.args in
     let t : Three args.epoch args.mst args.rs-ack = three_said _ _ _ (sym at-are-bytes.are-bytes.ensures ∙ not-false _ at-if2.if2.false) in omega (arith, t.third)
 
 report-requires : tie.Need-report-requires
@@ -70,8 +70,8 @@ returns-3 c =
     let at-if2 = at-sender-of.before.before in
     let at-are-bytes = at-if2.before in
     let at-if1 = at-are-bytes.before in
-    let at-start = at-if1.before.before in
-    let args = at-start.args in
+    let at_start_lem = at-if1.before.before in
+    let args = at_start_lem.args in
     call_kept _ (are_bytes args.epoch args.mst args.rs-ack) (OnTable (Report args.epoch args.mst args.rs-ack)) _ _ _ _ at-if1.if1.false (sym at-are-bytes.are-bytes.ensures ∙ not-false _ at-if2.if2.false) at-sender-of.sender-of.ensures at-report.report.ensures at-keep.keep.ensures
 
 pub levelspruce-sender-report-spec : {M : Type 1} → statement M

@@ -2,7 +2,7 @@
 use mathlib.Core.Path.{◌∙◌, sym}
 use native.Mathlib.Omega.{arith}
 use borrow.Author.Tests.{not-true, not-false}
-use Rattle.c_face.proofs.SenderCalls.{epoch-byte, kind-byte, start_none, start-length, start_outside, start-unfit, start-done}
+use Rattle.c_face.proofs.SenderCalls.{epoch_byte, kind_byte, start_none, start_length, start_outside, start_unfit, start_done}
 use Rattle.c_face.proofs.senders.start_by.Statement.{statement}
 use Rattle.c_face.proofs.senders.start_by.Tie as tie
 
@@ -13,13 +13,13 @@ returns : tie.Need-returns
 returns c =
     let at-if1 = c.before.before in
     let args = at-if1.before.before.args in
-    start_none args.kind args.count args.«first-epoch» _ at-if1.if1.true (sym c.before.is-no-start.ensures ∙ c.if2.true)
+    start_none args.kind args.count args.«first_epoch» _ at-if1.if1.true (sym c.before.is-no-start.ensures ∙ c.if2.true)
 
 returns-2 : tie.Need-returns-2
 returns-2 c =
     let at-if1 = c.before.before in
     let args = at-if1.before.before.args in
-    start-length args.kind args.count args.«first-epoch» _ at-if1.if1.true (sym c.before.is-no-start.ensures ∙ c.if2.false)
+    start_length args.kind args.count args.«first_epoch» _ at-if1.if1.true (sym c.before.is-no-start.ensures ∙ c.if2.false)
 
 is-no-start-requires-2 : tie.Need-is-no-start-requires-2
 is-no-start-requires-2 c κs = omega arith
@@ -37,10 +37,10 @@ returns-3 c =
     let at-no-start = at-if3.before in
     let at-if1 = at-no-start.before in
     let args = at-if1.before.before.args in
-    start_outside args.kind args.count args.«first-epoch» _ _ at-if1.if1.false (sym at-no-start.is-no-start2.ensures ∙ at-if3.if3.true) at-put-start.put-start.ensures
+    start_outside args.kind args.count args.«first_epoch» _ _ at-if1.if1.false (sym at-no-start.is-no-start2.ensures ∙ at-if3.if3.true) at-put-start.put-start.ensures
 
 cast-is-epoch : tie.Need-overflow-cast-is-epoch
-cast-is-epoch c = record { fits = kind-byte _ c.before.before.before.before.args.count (sym c.before.is-no-start2.ensures ∙ c.if3.false) }
+cast-is-epoch c = record { fits = kind_byte _ c.before.before.before.before.args.count (sym c.before.is-no-start2.ensures ∙ c.if3.false) }
 
 is-epoch-requires : tie.Need-is-epoch-requires
 is-epoch-requires c κs = omega arith
@@ -51,17 +51,17 @@ returns-4 c =
     let at-no-start = at-if3.before in
     let at-if1 = at-no-start.before in
     let args = at-if1.before.before.args in
-    start-unfit args.kind args.count args.«first-epoch» _ at-if1.if1.false (sym at-no-start.is-no-start2.ensures ∙ at-if3.if3.false) (sym c.before.is-epoch.ensures ∙ not-true _ c.if4.true)
+    start_unfit args.kind args.count args.«first_epoch» _ at-if1.if1.false (sym at-no-start.is-no-start2.ensures ∙ at-if3.if3.false) (sym c.before.is-epoch.ensures ∙ not-true _ c.if4.true)
 
 cast-put-start : tie.Need-overflow-cast-put-start
 cast-put-start c =
     let at-no-start = c.before.before.before in
-    record { fits = kind-byte _ at-no-start.before.before.before.args.count (sym at-no-start.is-no-start2.ensures ∙ c.before.before.if3.false) }
+    record { fits = kind_byte _ at-no-start.before.before.before.args.count (sym at-no-start.is-no-start2.ensures ∙ c.before.before.if3.false) }
 
 cast-put-start-2 : tie.Need-overflow-cast-put-start-2
 cast-put-start-2 c =
     let args = c.before.before.before.before.before.before.args in
-    record { fits = epoch-byte args.kind args.«first-epoch» (sym c.before.is-epoch.ensures ∙ not-false _ c.if4.false) }
+    record { fits = epoch_byte args.kind args.«first_epoch» (sym c.before.is-epoch.ensures ∙ not-false _ c.if4.false) }
 
 put-start-requires-2 : tie.Need-put-start-requires-2
 put-start-requires-2 c κs = omega arith
@@ -78,7 +78,7 @@ returns-5 c =
     let at-no-start = at-if3.before in
     let at-if1 = at-no-start.before in
     let args = at-if1.before.before.args in
-    start-done args.kind args.count args.«first-epoch» _ _ at-if1.if1.false (sym at-no-start.is-no-start2.ensures ∙ at-if3.if3.false) (sym at-epoch.is-epoch.ensures ∙ not-false _ at-if4.if4.false) at-put-start2.put-start2.ensures
+    start_done args.kind args.count args.«first_epoch» _ _ at-if1.if1.false (sym at-no-start.is-no-start2.ensures ∙ at-if3.if3.false) (sym at-epoch.is-epoch.ensures ∙ not-false _ at-if4.if4.false) at-put-start2.put-start2.ensures
 
 pub start-by-spec : {M : Type 1} → statement M
 start-by-spec =

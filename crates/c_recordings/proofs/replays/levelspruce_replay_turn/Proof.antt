@@ -1,19 +1,19 @@
 -- The call meets its contract: 9 for the state, 9 for a place behind the text, and then what the replay's own turn answers.
 -- Only under 0 are the replay, the place and the two other results written (`turn-done`); refused, they stay as given (`turn-refused`).
 use borrow.Author.Rules.{rules}
-use Rattle.c_recordings.proofs.Replaying.{turn-done, turn-length, turn-place, turn-refused}
+use Rattle.c_recordings.proofs.Replaying.{turn_done, turn_length, turn_place, turn_refused}
 use Rattle.c_recordings.proofs.replays.levelspruce_replay_turn.Statement.{statement}
 use Rattle.c_recordings.proofs.replays.levelspruce_replay_turn.Tie as tie
 
 returns : tie.Need-returns
 returns c =
     let a = c.before.before.before.before.before.before.args in
-    turn-length a.state.now a.text.now a.at.now a.last a.rows.now a.store.now a.out.now a.said.now a.written.now a.wants.now c.if1.true
+    turn_length a.state.now a.text.now a.at.now a.last a.rows.now a.store.now a.out.now a.said.now a.written.now a.wants.now c.if1.true
 
 returns-2 : tie.Need-returns-2
 returns-2 c =
     let a = c.before.before.before.before.before.before.before.before.args in
-    turn-place a.state.now a.text.now a.at.now a.last a.rows.now a.store.now a.out.now a.said.now a.written.now a.wants.now c.before.before.if1.false c.if2.true
+    turn_place a.state.now a.text.now a.at.now a.last a.rows.now a.store.now a.out.now a.said.now a.written.now a.wants.now c.before.before.if1.false c.if2.true
 
 replay-of-requires : tie.Need-replay-of-requires
 replay-of-requires c κs = search rules
@@ -45,7 +45,7 @@ returns-3 c =
     let replay-of = c.before.before.before.before.before.before.before.before.before.before.before.before.before.before.before.replay-of in
     let is_last = c.before.before.before.before.before.before.before.before.before.before.before.before.before.before.is_last in
     let the-turn = c.before.before.before.before.before.before.before.before.before.turn in
-    turn-refused a.state.now a.text.now a.at.now a.last a.rows.now a.store.now a.out.now a.said.now a.written.now a.wants.now
+    turn_refused a.state.now a.text.now a.at.now a.last a.rows.now a.store.now a.out.now a.said.now a.written.now a.wants.now
     c.before.before.before.before.before.before.before.before.before.before.before.before.before.before.before.before.before.before.before.if1.false c.before.before.before.before.before.before.before.before.before.before.before.before.before.before.before.before.before.if2.false replay-of.result is_last.result replay-of.ensures is_last.ensures the-turn.result _ _ _ _ the-turn.ensures c.if3.true
 
 put-replay-requires : tie.Need-put-replay-requires
@@ -75,7 +75,7 @@ returns-4 c =
     let replay-of = c.before.before.before.before.before.before.before.before.before.before.before.before.before.before.before.before.before.before.before.before.before.replay-of in
     let is_last = c.before.before.before.before.before.before.before.before.before.before.before.before.before.before.before.before.before.before.before.before.is_last in
     let the-turn = c.before.before.before.before.before.before.before.before.before.before.before.before.before.before.before.turn in
-    turn-done a.state.now a.text.now a.at.now a.last a.rows.now a.store.now a.out.now a.said.now a.written.now a.wants.now
+    turn_done a.state.now a.text.now a.at.now a.last a.rows.now a.store.now a.out.now a.said.now a.written.now a.wants.now
     c.before.before.before.before.before.before.before.before.before.before.before.before.before.before.before.before.before.before.before.before.before.before.before.before.before.if1.false c.before.before.before.before.before.before.before.before.before.before.before.before.before.before.before.before.before.before.before.before.before.before.before.if2.false replay-of.result is_last.result replay-of.ensures is_last.ensures the-turn.result _ _ _ _ the-turn.ensures
     c.one-if.result _ c.before.before.before.before.before.before.if3.false c.before.before.before.put-replay.ensures c.one-if.ensures
 

@@ -1,7 +1,7 @@
 -- Two numbers of four bytes make the line's number, highest byte first; each is below 2 to the 32nd, so the sum fits in 64 bits.
 use borrow.Author.Rules.{rules}
 use mathlib.Core.Path.{refl}
-use Rattle.c_recordings.specs.Replays.{lineIn}
+use Rattle.c_recordings.specs.Replays.{line_in}
 use Rattle.c_recordings.proofs.replays.line_in.Statement.{statement}
 use Rattle.c_recordings.proofs.replays.line_in.Tie as tie
 
@@ -42,7 +42,7 @@ add-result : tie.Need-overflow-add-result
 add-result c = search rules
 
 returns : tie.Need-returns
-unfolding lineIn
+unfolding line_in
 returns c = rw (c.before.before.before.before.before.four.ensures.0, c.four2.ensures.0) refl
 
 pub line-in-spec : {M : Type 1} → statement M

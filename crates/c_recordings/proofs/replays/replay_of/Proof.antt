@@ -1,7 +1,7 @@
 -- Every field is read at its place in the seventeen bytes, by a function that gives the definition's value; any bytes are a replay.
 use borrow.Author.Rules.{rules}
 use mathlib.Core.Path.{refl}
-use Rattle.c_recordings.specs.Replays.{replayOf}
+use Rattle.c_recordings.specs.Replays.{replay_of}
 use Rattle.c_recordings.proofs.replays.replay_of.Statement.{statement}
 use Rattle.c_recordings.proofs.replays.replay_of.Tie as tie
 
@@ -48,7 +48,7 @@ shared-slice-read-t11 : tie.Need-shared-slice-read-t11
 shared-slice-read-t11 c = search rules
 
 returns : tie.Need-returns
-unfolding replayOf
+unfolding replay_of
 returns c =
     rw (c.before.before.before.before.before.before.before.before.before.before.before.before.phase-of.ensures, c.before.before.before.before.before.before.before.before.before.before.before.line-in.ensures, c.before.before.before.before.before.before.before.before.two.ensures, c.before.before.before.before.before.two2.ensures, c.before.before.two3.ensures) refl
 

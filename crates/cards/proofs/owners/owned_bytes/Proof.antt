@@ -5,15 +5,15 @@ use Prim.Native.Nat.{◌≤◌, ◌-◌}
 use native.Mathlib.Omega.{arith}
 use lib.Dec.{eqb}
 use lib.ListN.{length, get_or}
-use Rattle.ground.specs.Flags.{oneIf}
-use Rattle.cards.specs.Owners.{ownedBytes}
-use Rattle.ground.specs.Counting.Each.{Done, done_none, done_more, done-table}
+use Rattle.ground.specs.Flags.{one_if}
+use Rattle.cards.specs.Owners.{owned_bytes}
+use Rattle.ground.specs.Counting.Each.{Done, done_none, done_more, done_table}
 use borrow.Author.Rules.{rules}
 use Rattle.cards.proofs.owners.owned_bytes.Statement.{statement}
 use Rattle.cards.proofs.owners.owned_bytes.Tie as tie
 
 abbrev invariant-loop : tie.invariant-loop
-invariant-loop group owners mark is-group out₀ i₀ out i = (length out₀ ≡ 64) × (i ≤ 64) × Done i (λ j. oneIf (is-group && eqb (get_or owners j 0) mark)) out₀ out
+invariant-loop group owners mark is-group out₀ i₀ out i = (length out₀ ≡ 64) × (i ≤ 64) × Done i (λ j. one_if (is-group && eqb (get_or owners j 0) mark)) out₀ out
 
 abbrev decreases-loop : tie.decreases-loop
 decreases-loop group owners mark is-group out₀ i₀ out i = 64 - i
@@ -43,8 +43,8 @@ loop-again : tie.Need-loop-preserved invariant-loop decreases-loop
 loop-again c = (c.before.before.loop.invariant.0, omega arith, done_more _ c.before.before.loop.invariant.2 c.one-if.ensures)
 
 returns : tie.Need-returns invariant-loop decreases-loop
-unfolding ownedBytes
-returns c = done-table c.before.loop.invariant.2 (omega arith) c.before.loop.invariant.0 ∙ rw c.before.before.mark_of.ensures
+unfolding owned_bytes
+returns c = done_table c.before.loop.invariant.2 (omega arith) c.before.loop.invariant.0 ∙ rw c.before.before.mark_of.ensures
 
 pub owned-bytes-spec : {M : Type 1} → statement M
 owned-bytes-spec =

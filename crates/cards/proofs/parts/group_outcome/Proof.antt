@@ -1,4 +1,4 @@
-use Rattle.cards.specs.Parts.{groupOutcome}
+use Rattle.cards.specs.Parts.{group_outcome}
 use borrow.Author.Rules.{rules}
 use Rattle.cards.proofs.parts.group_outcome.Statement.{statement}
 use Rattle.cards.proofs.parts.group_outcome.Tie as tie
@@ -10,7 +10,7 @@ from-sender-requires : tie.Need-from-sender-requires
 from-sender-requires c κs = search rules
 
 returns : tie.Need-returns
-unfolding groupOutcome
+unfolding group_outcome
 returns c = rw (c.before.with-sender.ensures, c.from-sender.ensures)
 
 pub group-outcome-spec : {M : Type 1} → statement M

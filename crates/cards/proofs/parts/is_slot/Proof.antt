@@ -1,4 +1,4 @@
-use Rattle.cards.specs.Parts.{isSlot}
+use Rattle.cards.specs.Parts.{is_slot}
 use borrow.Author.Rules.{rules}
 use Rattle.cards.proofs.parts.is_slot.Statement.{statement}
 use Rattle.cards.proofs.parts.is_slot.Tie as tie
@@ -10,7 +10,7 @@ size-requires : tie.Need-size-requires
 size-requires c κs = search rules
 
 returns : tie.Need-returns
-unfolding isSlot
+unfolding is_slot
 returns c = rw (c.size.ensures, c.before.before.sender-of.ensures)
 
 pub is-slot-spec : {M : Type 1} → statement M

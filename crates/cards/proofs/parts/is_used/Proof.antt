@@ -1,4 +1,4 @@
-use Rattle.cards.specs.Parts.{isUsed}
+use Rattle.cards.specs.Parts.{is_used}
 use borrow.Author.Rules.{rules}
 use Rattle.cards.proofs.parts.is_used.Statement.{statement}
 use Rattle.cards.proofs.parts.is_used.Tie as tie
@@ -16,7 +16,7 @@ is-member-requires : tie.Need-is-member-requires
 is-member-requires c κs = search rules
 
 returns : tie.Need-returns
-unfolding isUsed
+unfolding is_used
 returns c = rw (c.is_member.ensures, c.before.before.before.sender-of.ensures)
 
 pub is-used-spec : {M : Type 1} → statement M

@@ -1,5 +1,5 @@
 use borrow.Author.Tests.{lt-ltb, le-ltb}
-use Rattle.cards.specs.Parts.{shownSender}
+use Rattle.cards.specs.Parts.{shown_sender}
 use borrow.Author.Rules.{rules}
 use Rattle.cards.proofs.parts.shown_sender.Statement.{statement}
 use Rattle.cards.proofs.parts.shown_sender.Tie as tie
@@ -11,11 +11,11 @@ empty-sender-requires : tie.Need-empty-sender-requires
 empty-sender-requires c κs = search rules
 
 returns : tie.Need-returns
-unfolding shownSender
+unfolding shown_sender
 returns c = rw (lt-ltb _ 2 c.before.if1.true) c.sender-of.ensures
 
 returns-2 : tie.Need-returns-2
-unfolding shownSender
+unfolding shown_sender
 returns-2 c = rw (le-ltb _ 2 c.before.if1.false) c.empty-sender.ensures
 
 pub shown-sender-spec : {M : Type 1} → statement M

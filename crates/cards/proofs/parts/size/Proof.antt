@@ -1,5 +1,5 @@
 use native.Mathlib.Omega.{arith}
-use Rattle.sender.specs.Table.{slotCount}
+use Rattle.sender.specs.Table.{slot_count}
 use Rattle.cards.proofs.parts.size.Statement.{statement}
 use Rattle.cards.proofs.parts.size.Tie as tie
 
@@ -10,7 +10,7 @@ cast-result : tie.Need-overflow-cast-result
 cast-result c = omega arith
 
 returns : tie.Need-returns
-unfolding slotCount
+unfolding slot_count
 returns c = c.size-byte.ensures
 
 pub size-spec : {M : Type 1} → statement M

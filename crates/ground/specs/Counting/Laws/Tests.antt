@@ -2,8 +2,8 @@
 use Rattle.std.specs.Prelude.{◌≡◌, refl, ◌≢◌, Bool, true, false, cond, not, ◌&&◌, ◌||◌, ℕ, zero, suc, ◌+◌, ◌<◌}
 use Rattle.std.proofs.Common.{◌∙◌, sym, ⊎_elim, true≢false, not-suc-le-zero, add-one, arith}
 use Rattle.std.proofs.lemmas.Bool.{false≢true, not-false}
-use Rattle.ground.specs.Truth.{and-true, and_left, and_right, or_left, or_right, or_cases, fails, clash, eq-or-ne}
-use Rattle.ground.specs.Counting.Words.{One, every, some, lastThat}
+use Rattle.ground.specs.Truth.{and-true, and_left, and_right, or_left, or_right, or_cases, fails, clash, eq_or_ne}
+use Rattle.ground.specs.Counting.Words.{One, every, some, last_that}
 
 -- one more turn of a loop
 pub some_more : (f : ℕ → Bool) (i : ℕ) (r b : Bool) → r ≡ some i f → b ≡ f i → (r || b) ≡ some (i + 1) f
@@ -15,7 +15,7 @@ some_at (suc n) f k h t =
     let rest = some_at n f k in
     ⊎_elim (λ (e : k ≡ n). or_right (some n f) (f n) (rw (← e) t))
     (λ (d : k ≢ n). or_left (some n f) (f n) (rest (omega arith) t))
-    (eq-or-ne k n)
+    (eq_or_ne k n)
 
 pub some_one : (n : ℕ) (f : ℕ → Bool) → some n f ≡ true → One n f
 some_one zero f t = absurd (false≢true t)
@@ -26,38 +26,38 @@ some_one (suc n) f t =
     (or_cases (some n f) (f n) t)
 
 -- where some fails, each does
-pub none-at : (n : ℕ) (f : ℕ → Bool) → some n f ≡ false → (k : ℕ) → k < n → f k ≡ false
-none-at n f e k h = fails (f k) (λ t. clash (some n f) (some_at n f k h t) e)
+pub none_at : (n : ℕ) (f : ℕ → Bool) → some n f ≡ false → (k : ℕ) → k < n → f k ≡ false
+none_at n f e k h = fails (f k) (λ t. clash (some n f) (some_at n f k h t) e)
 
-pub some-none : (n : ℕ) (f : ℕ → Bool) → ((k : ℕ) → k < n → f k ≡ false) → some n f ≡ false
-some-none n f h = fails (some n f) (λ t. let o = some_one n f t in clash (f o.at) o.holds (h o.at o.below))
+pub some_none : (n : ℕ) (f : ℕ → Bool) → ((k : ℕ) → k < n → f k ≡ false) → some n f ≡ false
+some_none n f h = fails (some n f) (λ t. let o = some_one n f t in clash (f o.at) o.holds (h o.at o.below))
 
-pub every-at : (n : ℕ) (f : ℕ → Bool) → every n f ≡ true → (k : ℕ) → k < n → f k ≡ true
-every-at zero f t k h = absurd (not-suc-le-zero h)
-every-at (suc n) f t k h =
-    let rest = every-at n f (and_left (every n f) (f n) t) k in
-    ⊎_elim (λ (e : k ≡ n). rw e (and_right (every n f) (f n) t)) (λ (d : k ≢ n). rest (omega arith)) (eq-or-ne k n)
+pub every_at : (n : ℕ) (f : ℕ → Bool) → every n f ≡ true → (k : ℕ) → k < n → f k ≡ true
+every_at zero f t k h = absurd (not-suc-le-zero h)
+every_at (suc n) f t k h =
+    let rest = every_at n f (and_left (every n f) (f n) t) k in
+    ⊎_elim (λ (e : k ≡ n). rw e (and_right (every n f) (f n) t)) (λ (d : k ≢ n). rest (omega arith)) (eq_or_ne k n)
 
-pub every-all : (n : ℕ) (f : ℕ → Bool) → ((k : ℕ) → k < n → f k ≡ true) → every n f ≡ true
-every-all zero f h = refl
-every-all (suc n) f h = and-true (every n f) (f n) (every-all n f (λ k b. h k (omega arith))) (h n (omega arith))
+pub every_all : (n : ℕ) (f : ℕ → Bool) → ((k : ℕ) → k < n → f k ≡ true) → every n f ≡ true
+every_all zero f h = refl
+every_all (suc n) f h = and-true (every n f) (f n) (every_all n f (λ k b. h k (omega arith))) (h n (omega arith))
 
 -- where one fails, not every one passes
-pub every-fails : (n : ℕ) (f : ℕ → Bool) (k : ℕ) → k < n → f k ≡ false → every n f ≡ false
-every-fails n f k h e = fails (every n f) (λ t. clash (f k) (every-at n f t k h) e)
+pub every_fails : (n : ℕ) (f : ℕ → Bool) (k : ℕ) → k < n → f k ≡ false → every n f ≡ false
+every_fails n f k h e = fails (every n f) (λ t. clash (f k) (every_at n f t k h) e)
 
 -- one more turn of a loop
-pub every-on : (f : ℕ → Bool) (i : ℕ) → every i f ≡ true → f i ≡ true → every (i + 1) f ≡ true
-every-on f i e h = rw add-one (and-true (every i f) (f i) e h)
+pub every_on : (f : ℕ → Bool) (i : ℕ) → every i f ≡ true → f i ≡ true → every (i + 1) f ≡ true
+every_on f i e h = rw add-one (and-true (every i f) (f i) e h)
 
 -- tests that agree below n
-pub every-ext : (n : ℕ) (f g : ℕ → Bool) → ((k : ℕ) → k < n → f k ≡ g k) → every n f ≡ every n g
-every-ext zero f g h = refl
-every-ext (suc n) f g h = rw (every-ext n f g (λ k b. h k (omega arith)), h n (omega arith)) refl
+pub every_ext : (n : ℕ) (f g : ℕ → Bool) → ((k : ℕ) → k < n → f k ≡ g k) → every n f ≡ every n g
+every_ext zero f g h = refl
+every_ext (suc n) f g h = rw (every_ext n f g (λ k b. h k (omega arith)), h n (omega arith)) refl
 
-pub some-ext : (n : ℕ) (f g : ℕ → Bool) → ((k : ℕ) → k < n → f k ≡ g k) → some n f ≡ some n g
-some-ext zero f g h = refl
-some-ext (suc n) f g h = rw (some-ext n f g (λ k b. h k (omega arith)), h n (omega arith)) refl
+pub some_ext : (n : ℕ) (f g : ℕ → Bool) → ((k : ℕ) → k < n → f k ≡ g k) → some n f ≡ some n g
+some_ext zero f g h = refl
+some_ext (suc n) f g h = rw (some_ext n f g (λ k b. h k (omega arith)), h n (omega arith)) refl
 
 -- one at which the test fails
 pub record Lacks (n : ℕ) (f : ℕ → Bool) : Type 0 where
@@ -65,9 +65,9 @@ pub record Lacks (n : ℕ) (f : ℕ → Bool) : Type 0 where
   pub below : at < n
   pub fails : f at ≡ false
 
-pub every-lacks : (n : ℕ) (f : ℕ → Bool) → every n f ≡ false → Lacks n f
-every-lacks zero f e = absurd (true≢false e)
-every-lacks (suc n) f e = go (f n) refl (every n f) refl (every-lacks n f)
+pub every_lacks : (n : ℕ) (f : ℕ → Bool) → every n f ≡ false → Lacks n f
+every_lacks zero f e = absurd (true≢false e)
+every_lacks (suc n) f e = go (f n) refl (every n f) refl (every_lacks n f)
   where
     go : (b : Bool) → f n ≡ b → (a : Bool) → every n f ≡ a → (every n f ≡ false → Lacks n f) → Lacks (suc n) f
     go false t a s rest = record { at = n; below = omega arith; fails = t }
@@ -75,15 +75,15 @@ every-lacks (suc n) f e = go (f n) refl (every n f) refl (every-lacks n f)
     go true t false s rest = let o = rest s in record { at = o.at; below = (let b = o.below in omega arith); fails = o.fails }
 
 -- where not all fail a test, some pass it
-pub some-not-none : (n : ℕ) (f : ℕ → Bool) → every n (λ k. not (f k)) ≡ false → some n f ≡ true
-some-not-none n f e = let o = every-lacks n (λ k. not (f k)) e in some_at n f o.at o.below (not-false (f o.at) o.fails)
+pub some_not_none : (n : ℕ) (f : ℕ → Bool) → every n (λ k. not (f k)) ≡ false → some n f ≡ true
+some_not_none n f e = let o = every_lacks n (λ k. not (f k)) e in some_at n f o.at o.below (not-false (f o.at) o.fails)
 
 -- where the test holds at some number, the one that is found is such a one
-pub last-that-one : (n : ℕ) (f : ℕ → Bool) → some n f ≡ true → (lastThat n f < n) × (f (lastThat n f) ≡ true)
-last-that-one zero f t = absurd (false≢true t)
-last-that-one (suc n) f t = go (f n) refl (last-that-one n f)
+pub last_that_one : (n : ℕ) (f : ℕ → Bool) → some n f ≡ true → (last_that n f < n) × (f (last_that n f) ≡ true)
+last_that_one zero f t = absurd (false≢true t)
+last_that_one (suc n) f t = go (f n) refl (last_that_one n f)
   where
-    go : (b : Bool) → f n ≡ b → (some n f ≡ true → (lastThat n f < n) × (f (lastThat n f) ≡ true)) → (cond b n (lastThat n f) < suc n) × (f (cond b n (lastThat n f)) ≡ true)
+    go : (b : Bool) → f n ≡ b → (some n f ≡ true → (last_that n f < n) × (f (last_that n f) ≡ true)) → (cond b n (last_that n f) < suc n) × (f (cond b n (last_that n f)) ≡ true)
     go true e rest = (omega arith, e)
     go false e rest =
         let w : some n f ≡ true = ⊎_elim (λ (a : some n f ≡ true). a) (λ (a : f n ≡ true). absurd (true≢false (sym a ∙ e))) (or_cases (some n f) (f n) t) in
@@ -91,16 +91,16 @@ last-that-one (suc n) f t = go (f n) refl (last-that-one n f)
         (let l = r.0 in omega arith, r.1)
 
 -- the one that is found lies below n
-pub last-that-below : (n : ℕ) (f : ℕ → Bool) → 0 < n → lastThat n f < n
-last-that-below zero f h = absurd (omega arith)
-last-that-below (suc n) f h = go (f n) n (last-that-below n f)
+pub last_that_below : (n : ℕ) (f : ℕ → Bool) → 0 < n → last_that n f < n
+last_that_below zero f h = absurd (omega arith)
+last_that_below (suc n) f h = go (f n) n (last_that_below n f)
   where
-    go : (b : Bool) (m : ℕ) → (0 < m → lastThat m f < m) → cond b m (lastThat m f) < suc m
+    go : (b : Bool) (m : ℕ) → (0 < m → last_that m f < m) → cond b m (last_that m f) < suc m
     go true m rest = omega arith
     go false zero rest = omega arith
     go false (suc m) rest = let l = rest (omega arith) in omega arith
 
 -- tests that agree below n find the same
-pub last-that-ext : (n : ℕ) (f g : ℕ → Bool) → ((k : ℕ) → k < n → f k ≡ g k) → lastThat n f ≡ lastThat n g
-last-that-ext zero f g h = refl
-last-that-ext (suc n) f g h = rw (last-that-ext n f g (λ k b. h k (omega arith)), h n (omega arith))
+pub last_that_ext : (n : ℕ) (f g : ℕ → Bool) → ((k : ℕ) → k < n → f k ≡ g k) → last_that n f ≡ last_that n g
+last_that_ext zero f g h = refl
+last_that_ext (suc n) f g h = rw (last_that_ext n f g (λ k b. h k (omega arith)), h n (omega arith))

@@ -6,24 +6,24 @@ use Rattle.std.proofs.lemmas.Bool.{false≢true}
 use Rattle.invariant.specs.Kept.Group.{Kept, Lasting}
 use Rattle.invariant.specs.Kept.Port.{PortKept}
 use Rattle.step.specs.Laws.RunKept.{none_kept}
-use Rattle.ground.specs.Truth.{and_left, and_right, cond-by}
-use Rattle.packet.specs.Kinds.{fixedKind}
-use Rattle.packet.specs.Theorems.Tags.{epochs-some, frames-two}
+use Rattle.ground.specs.Truth.{and_left, and_right, cond_by}
+use Rattle.packet.specs.Kinds.{fixed_kind}
+use Rattle.packet.specs.Theorems.Tags.{epochs_some, frames_two}
 use Rattle.phases.specs.Sizes.{sized}
-use Rattle.receiver.specs.Laws.Fresh.{freshOn, length-started, started-group, started-port, started-step, waits-for}
-use Rattle.receiver.specs.Laws.Sizes.{Sizes, right-sized, sizes-of, start-sized}
-use Rattle.receiver.specs.Starting.{freshPorts, freshStep, groupWith, listFits, sizedAnswer, sizedFits, sizedRows, startAsAnswer, startAsRows, startFits, startRight, timeOf, zeroRow}
-use Rattle.reply.specs.Members.{idleState, okState}
+use Rattle.receiver.specs.Laws.Fresh.{fresh_on, length_started, started_group, started_port, started_step, waits_for}
+use Rattle.receiver.specs.Laws.Sizes.{Sizes, right_sized, sizes_of, start_sized_lem}
+use Rattle.receiver.specs.Starting.{fresh_ports, fresh_step, group_with, list_fits, sized_answer, sized_fits, sized_rows, start_as_answer, start_as_rows, start_fits, start_right, time_of, zero_row}
+use Rattle.reply.specs.Members.{idle_state, ok_state}
 use Rattle.rows.specs.declared.group.Group.{Group}
-use Rattle.rows.specs.Group.{groupAt, putGroup}
-use Rattle.rows.specs.Port.{portAt}
-use Rattle.rows.specs.Rows.{rowsFor}
-use Rattle.store.specs.Laws.Marks.{mark-none, sixteen-none}
+use Rattle.rows.specs.Group.{group_at, put_group}
+use Rattle.rows.specs.Port.{port_at}
+use Rattle.rows.specs.Rows.{rows_for}
+use Rattle.store.specs.Laws.Marks.{mark_none, sixteen_none}
 
-fresh_kept : (g : Group) → PortKept g freshStep zeroRow
+fresh_kept : (g : Group) → PortKept g fresh_step zero_row
 fresh_kept g =
     record {
-      row = sixteen-none;
+      row = sixteen_none;
       run = none_kept g.kind;
       heard = omega arith;
       failed = omega arith;
@@ -31,81 +31,81 @@ fresh_kept g =
       ever_since = omega arith;
       whole = omega arith;
       joined_step = λ e. absurd (false≢true e);
-      since-step = λ e. absurd (false≢true e);
-      failed-none = λ e. refl;
-      failed-had = λ e. absurd (false≢true e);
-      count-had = λ l. absurd (omega arith);
-      idle = λ b. record { joined = refl; ever_since = refl; joined_at = refl; whole = refl; empty = mark-none };
+      since_step = λ e. absurd (false≢true e);
+      failed_none = λ e. refl;
+      failed_had = λ e. absurd (false≢true e);
+      count_had = λ l. absurd (omega arith);
+      idle = λ b. record { joined = refl; ever_since = refl; joined_at_lem = refl; whole = refl; empty = mark_none };
       goes = λ e. absurd (false≢true e);
-      inside = λ i m. absurd (false≢true (sym (mark-none i) ∙ m));
+      inside = λ i m. absurd (false≢true (sym (mark_none i) ∙ m));
       at_once = λ e. refl;
       waits = λ e j. absurd (false≢true e);
       early = λ e. refl;
     }
 
-module _ (kind count P W : ℕ) (hold restore : List ℕ) (s : List (List ℕ)) (right : sized kind count P W ≡ true) (rows : length s ≡ rowsFor count) where
+module _ (kind count P W : ℕ) (hold restore : List ℕ) (s : List (List ℕ)) (right : sized kind count P W ≡ true) (rows : length s ≡ rows_for count) where
   abbrev started : List (List ℕ)
-  started = putGroup (freshPorts kind hold restore count s) (groupWith kind count P W)
+  started = put_group (fresh_ports kind hold restore count s) (group_with kind count P W)
 
-  group : groupAt started ≡ groupWith kind count P W
-  group = started-group kind count hold restore s (groupWith kind count P W) (omega arith)
+  group : group_at started ≡ group_with kind count P W
+  group = started_group kind count hold restore s (group_with kind count P W) (omega arith)
 
-  port : (i : ℕ) → i < count → portAt started i ≡ freshOn kind (timeOf hold i) (timeOf restore i)
-  port i b = started-port kind count hold restore s (groupWith kind count P W) i b (omega arith)
+  port : (i : ℕ) → i < count → port_at started i ≡ fresh_on kind (time_of hold i) (time_of restore i)
+  port i b = started_port kind count hold restore s (group_with kind count P W) i b (omega arith)
 
   sizes : Sizes kind count P W
-  sizes = sizes-of kind count P W right
+  sizes = sizes_of kind count P W right
 
-  lasting-start : Lasting started
-  lasting-start =
+  lasting_start : Lasting started
+  lasting_start =
       record {
-        rows = rw group (length-started kind count hold restore s (groupWith kind count P W) ∙ rows);
+        rows = rw group (length_started kind count hold restore s (group_with kind count P W) ∙ rows);
         group =
             rw group
             (record {
               sizes = right;
-              origin = let w = sizes.wide in let some = frames-two kind in omega arith;
-              oldest = epochs-some kind;
+              origin = let w = sizes.wide in let some = frames_two kind in omega arith;
+              oldest = epochs_some kind;
               begun = omega arith;
               gathered = omega arith;
               ack = omega arith;
-              idle-gathered = λ b. refl;
-              idle-oldest = λ b. refl;
+              idle_gathered = λ b. refl;
+              idle_oldest = λ b. refl;
             });
         ports = λ i c.
             let b : i < count = rw group at c in
-            rw (group, port i b) (record { kept = fresh_kept (groupWith kind count P W); unruled = λ f. refl; word = cond-by (λ (b : Bool). b ≡ true) (eqb kind fixedKind) true true (λ e. refl) (λ e. refl) });
+            rw (group, port i b) (record { kept = fresh_kept (group_with kind count P W); unruled = λ f. refl; word = cond_by (λ (b : Bool). b ≡ true) (eqb kind fixed_kind) true true (λ e. refl) (λ e. refl) });
         members =
             rw group
             (record {
-              below = λ i b o. absurd (let z : ◌≡◌ {A = ℕ} idleState okState = rw (port i b) at o in omega arith);
-              apart = λ i j bi bj oi oj e. absurd (let z : ◌≡◌ {A = ℕ} idleState okState = rw (port i bi) at oi in omega arith);
+              below = λ i b o. absurd (let z : ◌≡◌ {A = ℕ} idle_state ok_state = rw (port i b) at o in omega arith);
+              apart = λ i j bi bj oi oj e. absurd (let z : ◌≡◌ {A = ℕ} idle_state ok_state = rw (port i bi) at oi in omega arith);
             });
       }
 
-  kept-start : Kept started
-  kept-start =
+  kept_start : Kept started
+  kept_start =
       record {
-        lasting = lasting-start;
+        lasting = lasting_start;
         settled =
             rw group
             (record {
               heard = λ e. absurd (false≢true (rw group at e));
               gathers = λ e f. absurd (false≢true (rw group at e));
               waits = λ e.
-                  waits-for (groupAt started) started count 0 sizes.some-ports
-                  (rw (started-step kind count hold restore s (groupWith kind count P W) 0 sizes.some-ports (omega arith)) refl);
+                  waits_for (group_at started) started count 0 sizes.some_ports
+                  (rw (started_step kind count hold restore s (group_with kind count P W) 0 sizes.some_ports (omega arith)) refl);
             });
       }
 
-fits-rows : (count P W store rows : ℕ) → startFits count P W store rows ≡ true → rows ≡ rowsFor count
-unfolding startFits
-fits-rows count P W store rows e = eqb-true rows (rowsFor count) (and_left (eqb rows (rowsFor count)) (eqb store (count * W * (P + 1))) e)
+fits_rows : (count P W store rows : ℕ) → start_fits count P W store rows ≡ true → rows ≡ rows_for count
+unfolding start_fits
+fits_rows count P W store rows e = eqb-true rows (rows_for count) (and_left (eqb rows (rows_for count)) (eqb store (count * W * (P + 1))) e)
 
-pub sized_rows : (count P W store : ℕ) (hold restore : List ℕ) (rows : ℕ) → sizedFits count P W store hold restore rows ≡ true → rows ≡ rowsFor count
-unfolding sizedFits
-sized_rows count P W store hold restore rows e =
-    fits-rows count P W store rows (and_right (listFits hold count && listFits restore count) (startFits count P W store rows) e)
+pub sized_rows_lem : (count P W store : ℕ) (hold restore : List ℕ) (rows : ℕ) → sized_fits count P W store hold restore rows ≡ true → rows ≡ rows_for count
+unfolding sized_fits
+sized_rows_lem count P W store hold restore rows e =
+    fits_rows count P W store rows (and_right (list_fits hold count && list_fits restore count) (start_fits count P W store rows) e)
 
 -- a start that is answered 0
 module _ (kind count P W store : ℕ) (hold restore : List ℕ) (s : List (List ℕ)) where
@@ -113,31 +113,31 @@ module _ (kind count P W store : ℕ) (hold restore : List ℕ) (s : List (List 
   Answered a b = ◌≡◌ {A = ℕ} (cond a (cond b 0 9) 4) 0
 
   abbrev left : Bool → Bool → List (List ℕ)
-  left a b = cond a (cond b (putGroup (freshPorts kind hold restore count s) (groupWith kind count P W)) s) (putGroup s (groupWith kind 0 0 0))
+  left a b = cond a (cond b (put_group (fresh_ports kind hold restore count s) (group_with kind count P W)) s) (put_group s (group_with kind 0 0 0))
 
   abbrev right : Bool
-  right = startRight kind count P W hold restore
+  right = start_right kind count P W hold restore
 
   abbrev fit : Bool
-  fit = sizedFits count P W store hold restore (length s)
+  fit = sized_fits count P W store hold restore (length s)
 
-  by-kept : (a b : Bool) → right ≡ a → fit ≡ b → Answered a b → Kept (left a b)
-  by-kept true true e f z =
-      kept-start kind count P W hold restore s (start-sized kind count P W (right-sized kind count P W hold restore e)) (sized_rows count P W store hold restore (length s) f)
-  by-kept true false e f z = absurd (omega arith)
-  by-kept false b e f z = absurd (omega arith)
+  by_kept : (a b : Bool) → right ≡ a → fit ≡ b → Answered a b → Kept (left a b)
+  by_kept true true e f z =
+      kept_start kind count P W hold restore s (start_sized_lem kind count P W (right_sized kind count P W hold restore e)) (sized_rows_lem count P W store hold restore (length s) f)
+  by_kept true false e f z = absurd (omega arith)
+  by_kept false b e f z = absurd (omega arith)
 
-  by-group : (a b : Bool) → right ≡ a → fit ≡ b → Answered a b → groupAt (left a b) ≡ groupWith kind count P W
-  by-group true true e f z =
-      group kind count P W hold restore s (start-sized kind count P W (right-sized kind count P W hold restore e)) (sized_rows count P W store hold restore (length s) f)
-  by-group true false e f z = absurd (omega arith)
-  by-group false b e f z = absurd (omega arith)
+  by_group : (a b : Bool) → right ≡ a → fit ≡ b → Answered a b → group_at (left a b) ≡ group_with kind count P W
+  by_group true true e f z =
+      group kind count P W hold restore s (start_sized_lem kind count P W (right_sized kind count P W hold restore e)) (sized_rows_lem count P W store hold restore (length s) f)
+  by_group true false e f z = absurd (omega arith)
+  by_group false b e f z = absurd (omega arith)
 
-  pub started-kept : startAsAnswer kind count P W store hold restore (length s) ≡ 0 → Kept (startAsRows kind count P W store hold restore s)
-  unfolding startAsAnswer startAsRows sizedAnswer sizedRows
-  started-kept z = by-kept right fit refl refl z
+  pub started_kept : start_as_answer kind count P W store hold restore (length s) ≡ 0 → Kept (start_as_rows kind count P W store hold restore s)
+  unfolding start_as_answer start_as_rows sized_answer sized_rows
+  started_kept z = by_kept right fit refl refl z
 
-  pub started_with : startAsAnswer kind count P W store hold restore (length s) ≡ 0
-      → groupAt (startAsRows kind count P W store hold restore s) ≡ groupWith kind count P W
-  unfolding startAsAnswer startAsRows sizedAnswer sizedRows
-  started_with z = by-group right fit refl refl z
+  pub started_with_lem : start_as_answer kind count P W store hold restore (length s) ≡ 0
+      → group_at (start_as_rows kind count P W store hold restore s) ≡ group_with kind count P W
+  unfolding start_as_answer start_as_rows sized_answer sized_rows
+  started_with_lem z = by_group right fit refl refl z

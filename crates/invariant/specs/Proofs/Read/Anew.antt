@@ -5,98 +5,98 @@ use Rattle.std.proofs.Common.{ap, subst, ◌∙◌, ⊎_elim, not-suc-le-zero, a
 use Rattle.std.proofs.Math.Bool.{true}
 use Prim.Native.Nat.{ℕ, zero, suc, ◌*◌, ◌≤◌, ◌<◌}
 use Rattle.std.proofs.lemmas.Bool.{lt-leb}
-use Rattle.ground.specs.Counting.Laws.Tests.{every-all}
+use Rattle.ground.specs.Counting.Laws.Tests.{every_all}
 use Rattle.ground.specs.Counting.Words.{every}
-use Rattle.ground.specs.Truth.{clash, cond-by, eq-or-ne, fails}
+use Rattle.ground.specs.Truth.{clash, cond_by, eq_or_ne, fails}
 use Rattle.packet.specs.Kinds.{frames}
-use Rattle.packet.specs.Theorems.Tags.{frames-some}
+use Rattle.packet.specs.Theorems.Tags.{frames_some}
 use Rattle.phases.specs.Due.{silent}
-use Rattle.phases.specs.Laws.Cleared.{begun-port, stopped-port}
-use Rattle.phases.specs.Laws.Lengths.{length-stopped}
-use Rattle.phases.specs.Laws.Passed.{passed-of-port}
-use Rattle.phases.specs.Passing.{passedStep}
-use Rattle.phases.specs.Settling.{clearedStep, settled_of, stoppedOf}
-use Rattle.phases.specs.Sizes.{portsIn}
-use Rattle.receiver.specs.Anew.{anewAnswer, anewFits, anewRows, flaggedRows}
-use Rattle.receiver.specs.Frame.{FrameOutcome, frame_of, portRows, settledBy, storeBy}
-use Rattle.receiver.specs.Laws.Anew.{anew-fits, flagged-rows, flaggedPort, flaggedPorts, length-flagged-ports, ports-sizes, same-ports}
-use Rattle.receiver.specs.Laws.Frames.{frame-other, frame-port, length-frame}
-use Rattle.receiver.specs.Laws.Outcomes.{frame-cases}
-use Rattle.receiver.specs.Laws.Sizes.{ports-are}
+use Rattle.phases.specs.Laws.Cleared.{begun_port, stopped_port}
+use Rattle.phases.specs.Laws.Lengths.{length_stopped}
+use Rattle.phases.specs.Laws.Passed.{passed_of_port}
+use Rattle.phases.specs.Passing.{passed_step}
+use Rattle.phases.specs.Settling.{cleared_step, settled_of, stopped_of}
+use Rattle.phases.specs.Sizes.{ports_in}
+use Rattle.receiver.specs.Anew.{anew_answer, anew_fits, anew_rows, flagged_rows}
+use Rattle.receiver.specs.Frame.{FrameOutcome, frame_of, port_rows, settled_by, store_by}
+use Rattle.receiver.specs.Laws.Anew.{anew_fits_lem, flagged_rows_lem, flagged_port, flagged_ports, length_flagged_ports, ports_sizes, same_ports}
+use Rattle.receiver.specs.Laws.Frames.{frame_other, frame_port, length_frame}
+use Rattle.receiver.specs.Laws.Outcomes.{frame_cases}
+use Rattle.receiver.specs.Laws.Sizes.{ports_are}
 use Rattle.rows.specs.declared.group.Group.{Group}
 use Rattle.rows.specs.declared.step.Step.{Step}
-use Rattle.rows.specs.Group.{groupAt}
-use Rattle.rows.specs.Laws.Port.{port-step}
-use Rattle.rows.specs.Port.{portAt}
-use Rattle.rows.specs.Rows.{rowsFor}
-use Rattle.rows.specs.Step.{stepAt}
+use Rattle.rows.specs.Group.{group_at}
+use Rattle.rows.specs.Laws.Port.{port_step}
+use Rattle.rows.specs.Port.{port_at}
+use Rattle.rows.specs.Rows.{rows_for}
+use Rattle.rows.specs.Step.{step_at}
 use Rattle.step.specs.declared.arrival.Taken.{Taken}
-use Rattle.step.specs.Arrival.{flagOf, flagged, inStep, readable, taken_of}
-use Rattle.step.specs.Run.{inStepAt}
-use Rattle.invariant.specs.Calls.{Frame, Receiver, ReceiverCall, receiverAfter, receiverRun}
+use Rattle.step.specs.Arrival.{flag_of, flagged, in_step, readable, taken_of}
+use Rattle.step.specs.Run.{in_step_at}
+use Rattle.invariant.specs.Calls.{Frame, Receiver, ReceiverCall, receiver_after, receiver_run}
 use Rattle.invariant.specs.Kept.Group.{Kept}
-use Rattle.invariant.specs.Proofs.Calls.{run-kept}
-use Rattle.invariant.specs.Proofs.Laws.Settling.{settled-by}
-use Rattle.invariant.specs.Proofs.Reports.Ack.{frame-ack}
-use Rattle.invariant.specs.Proofs.Times.Between.{frame-standing}
-use Rattle.invariant.specs.Read.{Stopped, flagCalls}
-use Rattle.invariant.specs.Reports.{ackIn}
-use Rattle.invariant.specs.Times.{standingIn}
+use Rattle.invariant.specs.Proofs.Calls.{run_kept}
+use Rattle.invariant.specs.Proofs.Laws.Settling.{settled_by_lem}
+use Rattle.invariant.specs.Proofs.Reports.Ack.{frame_ack}
+use Rattle.invariant.specs.Proofs.Times.Between.{frame_standing}
+use Rattle.invariant.specs.Read.{Stopped, flag_calls}
+use Rattle.invariant.specs.Reports.{ack_in}
+use Rattle.invariant.specs.Times.{standing_in}
 
 -- A flagged frame leaves the store.
-store-left : (s : List (List ℕ)) (i h : ℕ) (payload store : List ℕ) → (frame_of s i true h payload store).store ≡ store
-unfolding storeBy taken_of flagged
-store-left s i h payload store = frame-cases s i true h payload store (λ (o : FrameOutcome). o.store ≡ store) (λ e. refl) (λ e f. refl) (λ e f. refl)
+store_left : (s : List (List ℕ)) (i h : ℕ) (payload store : List ℕ) → (frame_of s i true h payload store).store ≡ store
+unfolding store_by taken_of flagged
+store_left s i h payload store = frame_cases s i true h payload store (λ (o : FrameOutcome). o.store ≡ store) (λ e. refl) (λ e f. refl) (λ e f. refl)
 
-run-append : (x : Receiver) (a b : List ReceiverCall) → receiverRun x (a ++ b) ≡ receiverRun (receiverRun x a) b
-run-append x [] b = refl
-run-append x (c ∷ a) b = run-append (receiverAfter x c) a b
+run_append : (x : Receiver) (a b : List ReceiverCall) → receiver_run x (a ++ b) ≡ receiver_run (receiver_run x a) b
+run_append x [] b = refl
+run_append x (c ∷ a) b = run_append (receiver_after x c) a b
 
-pub flagged-run : (x : Receiver) (P n : ℕ) → receiverRun x (flagCalls P n) ≡ record { rows = flaggedRows P x.store n x.rows; store = x.store }
-unfolding flaggedRows
-flagged-run x P zero = refl
-flagged-run x P (suc n) =
-    let rest = flagged-run x P n in
-    run-append x (flagCalls P n) (Frame n true 0 (replicate P 0) ∷ [])
-    ∙ ap (λ (y : Receiver). receiverAfter y (Frame n true 0 (replicate P 0))) rest
-    ∙ (λ i. record { rows = (frame_of (flaggedRows P x.store n x.rows) n true 0 (replicate P 0) x.store).rows; store = store-left (flaggedRows P x.store n x.rows) n 0 (replicate P 0) x.store i })
+pub flagged_run : (x : Receiver) (P n : ℕ) → receiver_run x (flag_calls P n) ≡ record { rows = flagged_rows P x.store n x.rows; store = x.store }
+unfolding flagged_rows
+flagged_run x P zero = refl
+flagged_run x P (suc n) =
+    let rest = flagged_run x P n in
+    run_append x (flag_calls P n) (Frame n true 0 (replicate P 0) ∷ [])
+    ∙ ap (λ (y : Receiver). receiver_after y (Frame n true 0 (replicate P 0))) rest
+    ∙ (λ i. record { rows = (frame_of (flagged_rows P x.store n x.rows) n true 0 (replicate P 0) x.store).rows; store = store_left (flagged_rows P x.store n x.rows) n 0 (replicate P 0) x.store i })
 
-pub anew-run : (s : List (List ℕ)) (store : List ℕ) → anewAnswer s (length store) ≡ 0
-    → (receiverRun (record { rows = s; store = store }) (flagCalls (groupAt s).payload (portsIn (groupAt s)))).rows ≡ anewRows s store
-unfolding anewAnswer anewRows
-anew-run s store = go (anewFits (groupAt s) (portsIn (groupAt s)) (length s) (length store))
+pub anew_run : (s : List (List ℕ)) (store : List ℕ) → anew_answer s (length store) ≡ 0
+    → (receiver_run (record { rows = s; store = store }) (flag_calls (group_at s).payload (ports_in (group_at s)))).rows ≡ anew_rows s store
+unfolding anew_answer anew_rows
+anew_run s store = go (anew_fits (group_at s) (ports_in (group_at s)) (length s) (length store))
   where
     go : (b : Bool) → ◌≡◌ {A = ℕ} (cond b 0 9) 0
-        → (receiverRun (record { rows = s; store = store }) (flagCalls (groupAt s).payload (portsIn (groupAt s)))).rows
-        ≡ cond b (flaggedRows (groupAt s).payload store (portsIn (groupAt s)) s) s
-    go true e = ap (λ (x : Receiver). x.rows) (flagged-run (record { rows = s; store = store }) (groupAt s).payload (portsIn (groupAt s)))
+        → (receiver_run (record { rows = s; store = store }) (flag_calls (group_at s).payload (ports_in (group_at s)))).rows
+        ≡ cond b (flagged_rows (group_at s).payload store (ports_in (group_at s)) s) s
+    go true e = ap (λ (x : Receiver). x.rows) (flagged_run (record { rows = s; store = store }) (group_at s).payload (ports_in (group_at s)))
     go false e = absurd (omega arith)
 
 -- States and RS-Ack stay, on every state.
 module _ (P : ℕ) (store : List ℕ) (s : List (List ℕ)) where
-  ack-left : (n : ℕ) → ackIn (flaggedRows P store n s) ≡ ackIn s
-  unfolding flaggedRows
-  ack-left zero = refl
-  ack-left (suc n) = frame-ack (flaggedRows P store n s) n true 0 (replicate P 0) store ∙ ack-left n
+  ack_left : (n : ℕ) → ack_in (flagged_rows P store n s) ≡ ack_in s
+  unfolding flagged_rows
+  ack_left zero = refl
+  ack_left (suc n) = frame_ack (flagged_rows P store n s) n true 0 (replicate P 0) store ∙ ack_left n
 
-  standing-left : (port n : ℕ) → standingIn (flaggedRows P store n s) port ≡ standingIn s port
-  unfolding flaggedRows
-  standing-left port zero = refl
-  standing-left port (suc n) = frame-standing port (flaggedRows P store n s) n true 0 (replicate P 0) store ∙ standing-left port n
+  standing_left : (port n : ℕ) → standing_in (flagged_rows P store n s) port ≡ standing_in s port
+  unfolding flagged_rows
+  standing_left port zero = refl
+  standing_left port (suc n) = frame_standing port (flagged_rows P store n s) n true 0 (replicate P 0) store ∙ standing_left port n
 
 module _ (s : List (List ℕ)) (store : List ℕ) where
   abbrev f : Bool
-  f = anewFits (groupAt s) (portsIn (groupAt s)) (length s) (length store)
+  f = anew_fits (group_at s) (ports_in (group_at s)) (length s) (length store)
 
-  pub anew-ack : ackIn (anewRows s store) ≡ ackIn s
-  unfolding anewRows
-  anew-ack = cond-by (λ t. ackIn t ≡ ackIn s) f (flaggedRows (groupAt s).payload store (portsIn (groupAt s)) s) s (λ e. ack-left (groupAt s).payload store s (portsIn (groupAt s))) (λ e. refl)
+  pub anew_ack : ack_in (anew_rows s store) ≡ ack_in s
+  unfolding anew_rows
+  anew_ack = cond_by (λ t. ack_in t ≡ ack_in s) f (flagged_rows (group_at s).payload store (ports_in (group_at s)) s) s (λ e. ack_left (group_at s).payload store s (ports_in (group_at s))) (λ e. refl)
 
-  pub anew-standing : (port : ℕ) → standingIn (anewRows s store) port ≡ standingIn s port
-  unfolding anewRows
-  anew-standing port =
-      cond-by (λ t. standingIn t port ≡ standingIn s port) f (flaggedRows (groupAt s).payload store (portsIn (groupAt s)) s) s
-      (λ e. standing-left (groupAt s).payload store s port (portsIn (groupAt s))) (λ e. refl)
+  pub anew_standing : (port : ℕ) → standing_in (anew_rows s store) port ≡ standing_in s port
+  unfolding anew_rows
+  anew_standing port =
+      cond_by (λ t. standing_in t port ≡ standing_in s port) f (flagged_rows (group_at s).payload store (ports_in (group_at s)) s) s
+      (λ e. standing_left (group_at s).payload store s port (ports_in (group_at s))) (λ e. refl)
 
 -- What a flagged frame leaves of its port, and what follows for all ports leaves of it.
 
@@ -104,124 +104,124 @@ record Lost (q : Step) : Type 0 where
   count : q.count ≡ 0
   failed : q.failed ≡ 1
 
-passed-lost : (g : Group) (store : List ℕ) (i : ℕ) (q : Step) (whole : Bool) → Lost q → Lost (passedStep q whole)
-unfolding passedStep
-passed-lost g store i q whole o = record { count = o.count; failed = o.failed }
+passed_lost : (g : Group) (store : List ℕ) (i : ℕ) (q : Step) (whole : Bool) → Lost q → Lost (passed_step q whole)
+unfolding passed_step
+passed_lost g store i q whole o = record { count = o.count; failed = o.failed }
 
-cleared-lost : (q : Step) (since : Bool) → Lost q → Lost (clearedStep q since)
-unfolding clearedStep
-cleared-lost q since o = record { count = o.count; failed = o.failed }
+cleared_lost : (q : Step) (since : Bool) → Lost q → Lost (cleared_step q since)
+unfolding cleared_step
+cleared_lost q since o = record { count = o.count; failed = o.failed }
 
-settled-lost : (n : ℕ) (store : List ℕ) (a : List (List ℕ)) (j : ℕ) → j < n → rowsFor n ≤ length a → Lost (portAt a j).step → Lost (portAt (settled_of n store a) j).step
-settled-lost n store a j c long o =
-    settled-by (λ (r : List (List ℕ)). Lost (portAt r j).step) n store a long
+settled_lost : (n : ℕ) (store : List ℕ) (a : List (List ℕ)) (j : ℕ) → j < n → rows_for n ≤ length a → Lost (port_at a j).step → Lost (port_at (settled_of n store a) j).step
+settled_lost n store a j c long o =
+    settled_by_lem (λ (r : List (List ℕ)). Lost (port_at r j).step) n store a long
     o
-    (λ b q f w. rw (passed-of-port (groupAt a) store n a j c long) (passed-lost (groupAt a) store j (portAt a j).step _ o))
-    (λ b w. rw (begun-port (groupAt a) n a j c long) (cleared-lost (portAt a j).step _ o))
-    (λ b q. rw (stopped-port (groupAt a) n a j c long) (cleared-lost (portAt a j).step _ o))
+    (λ b q f w. rw (passed_of_port (group_at a) store n a j c long) (passed_lost (group_at a) store j (port_at a j).step _ o))
+    (λ b w. rw (begun_port (group_at a) n a j c long) (cleared_lost (port_at a j).step _ o))
+    (λ b q. rw (stopped_port (group_at a) n a j c long) (cleared_lost (port_at a j).step _ o))
     (λ b q.
-    let z : List (List ℕ) = stoppedOf (groupAt a) n a in
-    let l : rowsFor n ≤ length z = rw (length-stopped (groupAt a) n a) long in
-    rw (begun-port (groupAt z) n z j c l) (cleared-lost (portAt z j).step _ (rw (stopped-port (groupAt a) n a j c long) (cleared-lost (portAt a j).step _ o))))
+    let z : List (List ℕ) = stopped_of (group_at a) n a in
+    let l : rows_for n ≤ length z = rw (length_stopped (group_at a) n a) long in
+    rw (begun_port (group_at z) n z j c l) (cleared_lost (port_at z j).step _ (rw (stopped_port (group_at a) n a j c long) (cleared_lost (port_at a j).step _ o))))
 
-flag-lost : (g : Group) (q : Step) → Lost (taken_of g q true false 0).step
+flag_lost : (g : Group) (q : Step) → Lost (taken_of g q true false 0).step
 unfolding taken_of flagged
-flag-lost g q = record { count = refl; failed = refl }
+flag_lost g q = record { count = refl; failed = refl }
 
 -- one flagged frame
-module _ (store : List ℕ) (i : ℕ) (s : List (List ℕ)) (b : i < portsIn (groupAt s)) (long : rowsFor (portsIn (groupAt s)) ≤ length s) (j : ℕ) (c : j < portsIn (groupAt s)) (o : j ≢ i → Lost (portAt s j).step) where
+module _ (store : List ℕ) (i : ℕ) (s : List (List ℕ)) (b : i < ports_in (group_at s)) (long : rows_for (ports_in (group_at s)) ≤ length s) (j : ℕ) (c : j < ports_in (group_at s)) (o : j ≢ i → Lost (port_at s j).step) where
   abbrev n : ℕ
-  n = portsIn (groupAt s)
+  n = ports_in (group_at s)
 
   abbrev t : Taken
-  t = taken_of (groupAt s) (stepAt s i) true false 0
+  t = taken_of (group_at s) (step_at s i) true false 0
 
   abbrev a : List (List ℕ)
-  a = portRows (groupAt s).kind s i (taken_of (groupAt s) (stepAt s i) true false 0) 0
+  a = port_rows (group_at s).kind s i (taken_of (group_at s) (step_at s i) true false 0) 0
 
-  here : Lost (portAt a j).step
+  here : Lost (port_at a j).step
   here =
-      ⊎_elim (λ (e : j ≡ i). rw (e, frame-port (groupAt s).kind s i t 0 n b long) (flag-lost (groupAt s) (stepAt s i)))
-      (λ (d : j ≢ i). rw (frame-other (groupAt s).kind s i t 0 j d) (o d))
-      (eq-or-ne j i)
+      ⊎_elim (λ (e : j ≡ i). rw (e, frame_port (group_at s).kind s i t 0 n b long) (flag_lost (group_at s) (step_at s i)))
+      (λ (d : j ≢ i). rw (frame_other (group_at s).kind s i t 0 j d) (o d))
+      (eq_or_ne j i)
 
-  port-lost : Lost (portAt (flaggedPort store i s) j).step
-  unfolding flaggedPort settledBy
-  port-lost =
-      cond-by (λ r. Lost (portAt r j).step) t.settles (settled_of n store a) a (λ e. settled-lost n store a j c (rw (length-frame (groupAt s).kind s i t 0) long) here) (λ e. here)
+  port_lost : Lost (port_at (flagged_port store i s) j).step
+  unfolding flagged_port settled_by
+  port_lost =
+      cond_by (λ r. Lost (port_at r j).step) t.settles (settled_of n store a) a (λ e. settled_lost n store a j c (rw (length_frame (group_at s).kind s i t 0) long) here) (λ e. here)
 
 -- all of them
-ports-lost : (store : List ℕ) (s : List (List ℕ)) → 0 < length s → rowsFor (portsIn (groupAt s)) ≤ length s → (k : ℕ) → k ≤ portsIn (groupAt s) → (j : ℕ) → j < k → Lost (portAt (flaggedPorts store k s) j).step
-unfolding flaggedPorts
-ports-lost store s some long zero h j c = absurd (not-suc-le-zero c)
-ports-lost store s some long (suc k) h j c =
-    let u = flaggedPorts store k s in
-    let same : portsIn (groupAt u) ≡ portsIn (groupAt s) = same-ports (groupAt u) (groupAt s) (ports-sizes store k s some) in
-    let l : length u ≡ length s = length-flagged-ports store k s in
-    let rest = ports-lost store s some long k (omega arith) j in
-    port-lost store k u (rw same h) (rw (same, l) long) j (rw same (omega arith)) (λ d. rest (omega arith))
+ports_lost : (store : List ℕ) (s : List (List ℕ)) → 0 < length s → rows_for (ports_in (group_at s)) ≤ length s → (k : ℕ) → k ≤ ports_in (group_at s) → (j : ℕ) → j < k → Lost (port_at (flagged_ports store k s) j).step
+unfolding flagged_ports
+ports_lost store s some long zero h j c = absurd (not-suc-le-zero c)
+ports_lost store s some long (suc k) h j c =
+    let u = flagged_ports store k s in
+    let same : ports_in (group_at u) ≡ ports_in (group_at s) = same_ports (group_at u) (group_at s) (ports_sizes store k s some) in
+    let l : length u ≡ length s = length_flagged_ports store k s in
+    let rest = ports_lost store s some long k (omega arith) j in
+    port_lost store k u (rw same h) (rw (same, l) long) j (rw same (omega arith)) (λ d. rest (omega arith))
 
 -- Nobody is in step, so nobody is readable, and receiving has stopped.
 
-lost-step : (g : Group) (q : Step) → Lost q → inStep g q ≡ false
-unfolding inStep inStepAt
-lost-step g q o = let some = frames-some g.kind in rw o.count (lt-leb (frames g.kind * 2) 0 (omega arith))
+lost_step : (g : Group) (q : Step) → Lost q → in_step g q ≡ false
+unfolding in_step in_step_at
+lost_step g q o = let some = frames_some g.kind in rw o.count (lt-leb (frames g.kind * 2) 0 (omega arith))
 
-unreadable : (g : Group) (q : Step) → inStep g q ≡ false → not (readable g q) ≡ true
+unreadable : (g : Group) (q : Step) → in_step g q ≡ false → not (readable g q) ≡ true
 unfolding readable
-unreadable g q e = rw e (go (flagOf g.begun))
+unreadable g q e = rw e (go (flag_of g.begun))
   where
-    go : (b : Bool) → not (b && false && (flagOf q.joined || flagOf q.ever_since)) ≡ true
+    go : (b : Bool) → not (b && false && (flag_of q.joined || flag_of q.ever_since)) ≡ true
     go true = refl
     go false = refl
 
-all-lost : (t : List (List ℕ)) → Kept t → ((j : ℕ) → j < portsIn (groupAt t) → Lost (portAt t j).step) → Stopped t
+all_lost : (t : List (List ℕ)) → Kept t → ((j : ℕ) → j < ports_in (group_at t) → Lost (port_at t j).step) → Stopped t
 unfolding silent
-all-lost t k o =
+all_lost t k o =
     record {
-      begun = fails (flagOf (groupAt t).begun) (λ b. clash (every (groupAt t).count (λ i. not (readable (groupAt t) (stepAt t i)))) quiet (k.settled.heard b));
+      begun = fails (flag_of (group_at t).begun) (λ b. clash (every (group_at t).count (λ i. not (readable (group_at t) (step_at t i)))) quiet (k.settled.heard b));
       flagged = λ i b. rw (own i b).failed refl;
-      lost = λ i b. lost-step (groupAt t) (stepAt t i) (own i b);
+      lost = λ i b. lost_step (group_at t) (step_at t i) (own i b);
     }
   where
-    own : (i : ℕ) → i < portsIn (groupAt t) → Lost (stepAt t i)
-    own i b = rw (port-step t i) at (o i b)
+    own : (i : ℕ) → i < ports_in (group_at t) → Lost (step_at t i)
+    own i b = rw (port_step t i) at (o i b)
 
-    quiet : every (groupAt t).count (λ i. not (readable (groupAt t) (stepAt t i))) ≡ true
+    quiet : every (group_at t).count (λ i. not (readable (group_at t) (step_at t i))) ≡ true
     quiet =
-        every-all (groupAt t).count (λ i. not (readable (groupAt t) (stepAt t i)))
-        (λ i b. unreadable (groupAt t) (stepAt t i) (lost-step (groupAt t) (stepAt t i) (own i (rw (ports-are (groupAt t) k.lasting.group.sizes) b))))
+        every_all (group_at t).count (λ i. not (readable (group_at t) (step_at t i)))
+        (λ i b. unreadable (group_at t) (step_at t i) (lost_step (group_at t) (step_at t i) (own i (rw (ports_are (group_at t) k.lasting.group.sizes) b))))
 
-fits-true : (b : Bool) → ◌≡◌ {A = ℕ} (cond b 0 9) 0 → b ≡ true
-fits-true true e = refl
-fits-true false e = absurd (omega arith)
+fits_true : (b : Bool) → ◌≡◌ {A = ℕ} (cond b 0 9) 0 → b ≡ true
+fits_true true e = refl
+fits_true false e = absurd (omega arith)
 
-pub anew-stops : (s : List (List ℕ)) (store : List ℕ) → Kept s → anewAnswer s (length store) ≡ 0 → Stopped (anewRows s store)
-unfolding anewAnswer anewRows
-anew-stops s store k e = rw fit (rw is stopped)
+pub anew_stops : (s : List (List ℕ)) (store : List ℕ) → Kept s → anew_answer s (length store) ≡ 0 → Stopped (anew_rows s store)
+unfolding anew_answer anew_rows
+anew_stops s store k e = rw fit (rw is stopped)
   where
     n : ℕ
-    n = portsIn (groupAt s)
+    n = ports_in (group_at s)
 
-    fit : anewFits (groupAt s) (portsIn (groupAt s)) (length s) (length store) ≡ true
-    fit = fits-true (anewFits (groupAt s) (portsIn (groupAt s)) (length s) (length store)) e
+    fit : anew_fits (group_at s) (ports_in (group_at s)) (length s) (length store) ≡ true
+    fit = fits_true (anew_fits (group_at s) (ports_in (group_at s)) (length s) (length store)) e
 
-    is : flaggedRows (groupAt s).payload store (portsIn (groupAt s)) s ≡ flaggedPorts store (portsIn (groupAt s)) s
-    is = flagged-rows s store (anew-fits s store fit) (portsIn (groupAt s)) (omega arith)
+    is : flagged_rows (group_at s).payload store (ports_in (group_at s)) s ≡ flagged_ports store (ports_in (group_at s)) s
+    is = flagged_rows_lem s store (anew_fits_lem s store fit) (ports_in (group_at s)) (omega arith)
 
     t : List (List ℕ)
-    t = flaggedPorts store (portsIn (groupAt s)) s
+    t = flagged_ports store (ports_in (group_at s)) s
 
-    t-kept : Kept (flaggedPorts store (portsIn (groupAt s)) s)
-    t-kept =
-        subst Kept (ap (λ (x : Receiver). x.rows) (flagged-run (record { rows = s; store = store }) (groupAt s).payload (portsIn (groupAt s))) ∙ is)
-        (run-kept (record { rows = s; store = store }) (flagCalls (groupAt s).payload (portsIn (groupAt s))) k)
+    t_kept : Kept (flagged_ports store (ports_in (group_at s)) s)
+    t_kept =
+        subst Kept (ap (λ (x : Receiver). x.rows) (flagged_run (record { rows = s; store = store }) (group_at s).payload (ports_in (group_at s))) ∙ is)
+        (run_kept (record { rows = s; store = store }) (flag_calls (group_at s).payload (ports_in (group_at s))) k)
 
-    rows_long : rowsFor (portsIn (groupAt s)) ≤ length s
-    rows_long = rw (ports-are (groupAt s) k.lasting.group.sizes) (let r = k.lasting.rows in omega arith)
+    rows_long : rows_for (ports_in (group_at s)) ≤ length s
+    rows_long = rw (ports_are (group_at s) k.lasting.group.sizes) (let r = k.lasting.rows in omega arith)
 
-    same : portsIn (groupAt t) ≡ portsIn (groupAt s)
-    same = same-ports (groupAt t) (groupAt s) (ports-sizes store n s (omega arith))
+    same : ports_in (group_at t) ≡ ports_in (group_at s)
+    same = same_ports (group_at t) (group_at s) (ports_sizes store n s (omega arith))
 
-    stopped : Stopped (flaggedPorts store (portsIn (groupAt s)) s)
-    stopped = all-lost t t-kept (λ j b. ports-lost store s (omega arith) rows_long n (omega arith) j (rw same at b))
+    stopped : Stopped (flagged_ports store (ports_in (group_at s)) s)
+    stopped = all_lost t t_kept (λ j b. ports_lost store s (omega arith) rows_long n (omega arith) j (rw same at b))

@@ -6,7 +6,7 @@ use Prim.Native.Nat.{◌≤◌, ◌-◌}
 use native.Mathlib.Omega.{arith}
 use Rattle.ground.specs.Counting.Words.{some}
 use Rattle.judge.specs.Cause.{applies}
-use Rattle.judge.proofs.Blaming.{blamed-first, blamed-none, none_more}
+use Rattle.judge.proofs.Blaming.{blamed_first, blamed_none, none_more}
 use borrow.Author.Rules.{rules}
 use Rattle.judge.proofs.blame.blamed_by.Statement.{statement}
 use Rattle.judge.proofs.blame.blamed_by.Tie as tie
@@ -34,7 +34,7 @@ returns c =
     let a = c.before.before.before.before.before.args in
     let at-loop = c.before.before.before in
     let highest-of = c.before.before.before.before.highest-of in
-    blamed-first a.ports a.n a.cause highest-of.result highest-of.ensures at-loop.loop.i c.before.before.loop-test.true at-loop.loop.invariant.1 (sym c.before.is-applied.ensures ∙ c.if1.true)
+    blamed_first a.ports a.n a.cause highest-of.result highest-of.ensures at-loop.loop.i c.before.before.loop-test.true at-loop.loop.invariant.1 (sym c.before.is-applied.ensures ∙ c.if1.true)
 
 add-i : tie.Need-overflow-add-i invariant-loop decreases-loop
 add-i c = search rules
@@ -54,7 +54,7 @@ returns-2 c =
     let a = c.before.before.before.args in
     let highest-of = c.before.before.highest-of in
     let e : c.before.loop.i ≡ a.n = omega arith in
-    blamed-none a.ports a.n a.cause highest-of.result highest-of.ensures (rw e at c.before.loop.invariant.1)
+    blamed_none a.ports a.n a.cause highest-of.result highest-of.ensures (rw e at c.before.loop.invariant.1)
 
 pub blamed-by-spec : {M : Type 1} → statement M
 blamed-by-spec =

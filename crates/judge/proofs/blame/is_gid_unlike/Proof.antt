@@ -4,19 +4,19 @@ use mathlib.Core.Path.{◌≡◌, refl}
 use Prim.Native.Nat.{◌≤◌, ◌-◌}
 use native.Mathlib.Omega.{arith}
 use lib.ListN.{length}
-use Rattle.judge.specs.Cause.{gidUnlike}
+use Rattle.judge.specs.Cause.{gid_unlike}
 use borrow.Author.Rules.{rules}
 use Rattle.judge.proofs.blame.is_gid_unlike.Statement.{statement}
 use Rattle.judge.proofs.blame.is_gid_unlike.Tie as tie
 
 abbrev invariant-loop : tie.invariant-loop
-invariant-loop k gid ports found₀ j₀ found j = (length ports ≡ 64) × (j ≤ k) × (found ≡ gidUnlike ports j gid)
+invariant-loop k gid ports found₀ j₀ found j = (length ports ≡ 64) × (j ≤ k) × (found ≡ gid_unlike ports j gid)
 
 abbrev decreases-loop : tie.decreases-loop
 decreases-loop k gid ports found₀ j₀ found j = k - j
 
 loop-holds : tie.Need-loop-init invariant-loop decreases-loop
-unfolding gidUnlike
+unfolding gid_unlike
 loop-holds c = (omega arith, omega arith, refl)
 
 mul-port : tie.Need-overflow-mul-port invariant-loop decreases-loop
@@ -35,7 +35,7 @@ loop-less : tie.Need-loop-smaller invariant-loop decreases-loop
 loop-less c = search rules
 
 loop-again : tie.Need-loop-preserved invariant-loop decreases-loop
-unfolding gidUnlike
+unfolding gid_unlike
 loop-again c = (c.before.before.before.before.loop.invariant.0, omega arith, rw (c.before.before.before.before.loop.invariant.2, c.before.is-unidle.ensures, add-one))
 
 returns : tie.Need-returns invariant-loop decreases-loop

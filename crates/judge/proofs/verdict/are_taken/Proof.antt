@@ -3,19 +3,19 @@ use native.Mathlib.Numerals.{add-one}
 use mathlib.Core.Path.{◌≡◌, refl}
 use Prim.Native.Nat.{◌≤◌, ◌-◌}
 use native.Mathlib.Omega.{arith}
-use Rattle.judge.specs.Tally.{exactTo}
+use Rattle.judge.specs.Tally.{exact_to}
 use borrow.Author.Rules.{rules}
 use Rattle.judge.proofs.verdict.are_taken.Statement.{statement}
 use Rattle.judge.proofs.verdict.are_taken.Tie as tie
 
 abbrev invariant-loop : tie.invariant-loop
-invariant-loop ports n limit all₀ number₀ all number = (number ≤ limit) × (all ≡ exactTo ports n number)
+invariant-loop ports n limit all₀ number₀ all number = (number ≤ limit) × (all ≡ exact_to ports n number)
 
 abbrev decreases-loop : tie.decreases-loop
 decreases-loop ports n limit all₀ number₀ all number = limit - number
 
 loop-holds : tie.Need-loop-init invariant-loop decreases-loop
-unfolding exactTo
+unfolding exact_to
 loop-holds c = (omega arith, refl)
 
 is-taken-requires : tie.Need-is-taken-requires invariant-loop decreases-loop
@@ -28,7 +28,7 @@ loop-less : tie.Need-loop-smaller invariant-loop decreases-loop
 loop-less c = search rules
 
 loop-again : tie.Need-loop-preserved invariant-loop decreases-loop
-unfolding exactTo
+unfolding exact_to
 loop-again c = (omega arith, rw (c.before.before.loop.invariant.1, c.is-taken.ensures, add-one))
 
 returns : tie.Need-returns invariant-loop decreases-loop

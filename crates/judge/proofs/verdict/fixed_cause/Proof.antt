@@ -1,6 +1,6 @@
 -- The tally, the repeats and the exactness of the numbers are the definition's, and so is the clause that decides (`by-fixed`).
 -- Where `is_full` says so, each number below n is held by one port, which answers the two last without a walk.
-use Rattle.judge.proofs.Judging.{by-fixed}
+use Rattle.judge.proofs.Judging.{by_fixed}
 use native.Mathlib.Omega.{arith}
 use borrow.Author.Rules.{rules}
 use Rattle.judge.proofs.verdict.fixed_cause.Statement.{statement}
@@ -28,7 +28,7 @@ returns : tie.Need-returns
 returns c =
     let start = c.before.before.before.before.before in
     let tallied = c.before.before.before.tallied in
-    by-fixed start.args.ports start.args.n tallied.result _ _ _ tallied.ensures c.before.before.has-repeats.ensures c.before.is-exact.ensures c.fixed-cause-with.ensures
+    by_fixed start.args.ports start.args.n tallied.result _ _ _ tallied.ensures c.before.before.has-repeats.ensures c.before.is-exact.ensures c.fixed-cause-with.ensures
 
 pub fixed-cause-spec : {M : Type 1} → statement M
 fixed-cause-spec =

@@ -1,10 +1,10 @@
 use mathlib.Core.Path.{sym}
-use Rattle.judge.specs.Theorems.Full.{full-repeats}
+use Rattle.judge.specs.Theorems.Full.{full_repeats}
 use Rattle.judge.proofs.verdict.has_repeats.Statement.{statement}
 use Rattle.judge.proofs.verdict.has_repeats.Tie as tie
 
 returns : tie.Need-returns
-returns c = sym (full-repeats c.before.args.ports c.before.args.n (c.before.requires.1 c.if1.true))
+returns c = sym (full_repeats c.before.args.ports c.before.args.n (c.before.requires.1 c.if1.true))
 
 has-pairs-requires : tie.Need-has-pairs-requires
 has-pairs-requires c κs = c.before.requires.0

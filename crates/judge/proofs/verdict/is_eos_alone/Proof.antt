@@ -4,19 +4,19 @@ use mathlib.Core.Path.{◌≡◌, refl}
 use Prim.Native.Nat.{◌≤◌, ◌-◌}
 use native.Mathlib.Omega.{arith}
 use lib.ListN.{length}
-use Rattle.judge.specs.Tally.{eosAloneBy}
+use Rattle.judge.specs.Tally.{eos_alone_by}
 use borrow.Author.Rules.{rules}
 use Rattle.judge.proofs.verdict.is_eos_alone.Statement.{statement}
 use Rattle.judge.proofs.verdict.is_eos_alone.Tie as tie
 
 abbrev invariant-loop : tie.invariant-loop
-invariant-loop n highest ports all₀ i₀ all i = (length ports ≡ 64) × (i ≤ n) × (all ≡ eosAloneBy ports i highest)
+invariant-loop n highest ports all₀ i₀ all i = (length ports ≡ 64) × (i ≤ n) × (all ≡ eos_alone_by ports i highest)
 
 abbrev decreases-loop : tie.decreases-loop
 decreases-loop n highest ports all₀ i₀ all i = n - i
 
 loop-holds : tie.Need-loop-init invariant-loop decreases-loop
-unfolding eosAloneBy
+unfolding eos_alone_by
 loop-holds c = (omega arith, omega arith, refl)
 
 mul-port : tie.Need-overflow-mul-port invariant-loop decreases-loop
@@ -38,7 +38,7 @@ loop-less : tie.Need-loop-smaller invariant-loop decreases-loop
 loop-less c = search rules
 
 loop-again : tie.Need-loop-preserved invariant-loop decreases-loop
-unfolding eosAloneBy
+unfolding eos_alone_by
 loop-again c = (c.before.before.before.before.before.loop.invariant.0, omega arith, rw (c.before.before.before.before.before.loop.invariant.2, c.is-eos.ensures, c.before.before.is-active.ensures, add-one))
 
 returns : tie.Need-returns invariant-loop decreases-loop

@@ -1,7 +1,7 @@
 -- The clauses of LCAS for one port: nothing can repeat (`none-repeats`), and its number is exact if it has none or 0 (`exact-alone`).
 -- A clause that holds decides (`by-held`), else one that doubts (`by-doubt`).
-use Rattle.judge.proofs.Alone.{exact-alone, none-repeats}
-use Rattle.judge.proofs.Judging.{by-held, by-doubt}
+use Rattle.judge.proofs.Alone.{exact_alone, none_repeats}
+use Rattle.judge.proofs.Judging.{by_held, by_doubt}
 use mathlib.Core.List.{[], ◌∷◌}
 use borrow.Author.Rules.{rules}
 use Rattle.judge.proofs.verdict.lcas_alone.Statement.{statement}
@@ -17,7 +17,7 @@ held-cause-requires : tie.Need-held-cause-requires
 held-cause-requires c κs = search rules
 
 returns : tie.Need-returns
-returns c = by-held (c.before.before.before.before.args.port ∷ []) 1 c.before.before.before.tallied-alone.result _ _ _ c.before.before.before.tallied-alone.ensures (none-repeats _) c.before.before.is-eos-last.ensures c.before.held-cause.ensures c.if1.true
+returns c = by_held (c.before.before.before.before.args.port ∷ []) 1 c.before.before.before.tallied-alone.result _ _ _ c.before.before.before.tallied-alone.ensures (none_repeats _) c.before.before.is-eos-last.ensures c.before.held-cause.ensures c.if1.true
 
 has-zero-requires : tie.Need-has-zero-requires
 has-zero-requires c κs = search rules
@@ -31,7 +31,7 @@ returns-2 c =
     let tallied-alone = c.before.before.before.before.before.before.tallied-alone in
     let is-eos-last = c.before.before.before.before.before.is-eos-last in
     let held-cause = c.before.before.before.before.held-cause in
-    by-doubt (start.args.port ∷ []) 1 tallied-alone.result _ _ _ tallied-alone.ensures (none-repeats _) is-eos-last.ensures held-cause.ensures _ _ (exact-alone _ _ _ tallied-alone.ensures c.before.before.has-zero.ensures) c.before.before.before.if1.false c.doubt-cause.ensures
+    by_doubt (start.args.port ∷ []) 1 tallied-alone.result _ _ _ tallied-alone.ensures (none_repeats _) is-eos-last.ensures held-cause.ensures _ _ (exact_alone _ _ _ tallied-alone.ensures c.before.before.has-zero.ensures) c.before.before.before.if1.false c.doubt-cause.ensures
 
 pub lcas-alone-spec : {M : Type 1} → statement M
 lcas-alone-spec =

@@ -1,6 +1,6 @@
 -- A clause that holds decides (`by-held`), else one that doubts (`by-doubt`), each from the definition's tally, repeats, EOS and exactness.
 -- The numbers to be exact are no more than the ports (`numbered-le`).
-use Rattle.judge.proofs.Judging.{by-held, by-doubt, numbered-le}
+use Rattle.judge.proofs.Judging.{by_held, by_doubt, numbered_le}
 use borrow.Author.Rules.{rules}
 use Rattle.judge.proofs.verdict.lcas_cause.Statement.{statement}
 use Rattle.judge.proofs.verdict.lcas_cause.Tie as tie
@@ -21,13 +21,13 @@ held-cause-requires : tie.Need-held-cause-requires
 held-cause-requires c κs = search rules
 
 returns : tie.Need-returns
-returns c = by-held c.before.before.before.before.before.before.args.ports c.before.before.before.before.before.before.args.n c.before.before.before.before.tallied.result _ _ _ c.before.before.before.before.tallied.ensures c.before.before.before.has-repeats.ensures c.before.before.is-eos-alone.ensures c.before.held-cause.ensures c.if1.true
+returns c = by_held c.before.before.before.before.before.before.args.ports c.before.before.before.before.before.before.args.n c.before.before.before.before.tallied.result _ _ _ c.before.before.before.before.tallied.ensures c.before.before.before.has-repeats.ensures c.before.before.is-eos-alone.ensures c.before.held-cause.ensures c.if1.true
 
 is-exact-requires : tie.Need-is-exact-requires
 is-exact-requires c κs =
     let at-tallied = c.before.before.before.before in
     let start = at-tallied.before.before in
-    (start.requires, numbered-le start.args.ports start.args.n at-tallied.tallied.result at-tallied.tallied.ensures, at-tallied.before.is-full.ensures)
+    (start.requires, numbered_le start.args.ports start.args.n at-tallied.tallied.result at-tallied.tallied.ensures, at-tallied.before.is-full.ensures)
 
 doubt-cause-requires : tie.Need-doubt-cause-requires
 doubt-cause-requires c κs = search rules
@@ -39,7 +39,7 @@ returns-2 c =
     let has-repeats = c.before.before.before.before.before.has-repeats in
     let is-eos-alone = c.before.before.before.before.is-eos-alone in
     let held-cause = c.before.before.before.held-cause in
-    by-doubt start.args.ports start.args.n tallied.result _ _ _ tallied.ensures has-repeats.ensures is-eos-alone.ensures held-cause.ensures _ _ c.before.is-exact.ensures c.before.before.if1.false c.doubt-cause.ensures
+    by_doubt start.args.ports start.args.n tallied.result _ _ _ tallied.ensures has-repeats.ensures is-eos-alone.ensures held-cause.ensures _ _ c.before.is-exact.ensures c.before.before.if1.false c.doubt-cause.ensures
 
 pub lcas-cause-spec : {M : Type 1} → statement M
 lcas-cause-spec =

@@ -7,8 +7,8 @@ use lib.ListN.{length}
 use Rattle.judge.specs.Tally.{tally_of}
 use Rattle.ground.specs.Counting.Words.{count}
 use Rattle.judge.specs.declared.verdict.Tally.{Tally}
-use Rattle.ground.specs.Counting.Laws.Numbers.{count-le}
-use Rattle.judge.specs.Seen.{numberedSeen, seen_at}
+use Rattle.ground.specs.Counting.Laws.Numbers.{count_le}
+use Rattle.judge.specs.Seen.{numbered_seen, seen_at}
 use borrow.Author.Rules.{rules}
 use Rattle.judge.proofs.verdict.tallied.Statement.{statement}
 use Rattle.judge.proofs.verdict.tallied.Tie as tie
@@ -32,7 +32,7 @@ array-copy-out-port : tie.Need-array-copy-out-port invariant-loop decreases-loop
 array-copy-out-port c = search rules
 
 with-port-requires : tie.Need-with-port-requires invariant-loop decreases-loop
-with-port-requires c κs = let e : c.before.before.loop.sum.numbered ≡ count c.before.before.loop.i (λ j. numberedSeen (seen_at c.before.before.before.before.args.t1 j)) = ap (λ (t : Tally). t.numbered) c.before.before.loop.invariant.2 in let h = count-le c.before.before.loop.i (λ j. numberedSeen (seen_at c.before.before.before.before.args.t1 j)) in omega arith
+with-port-requires c κs = let e : c.before.before.loop.sum.numbered ≡ count c.before.before.loop.i (λ j. numbered_seen (seen_at c.before.before.before.before.args.t1 j)) = ap (λ (t : Tally). t.numbered) c.before.before.loop.invariant.2 in let h = count_le c.before.before.loop.i (λ j. numbered_seen (seen_at c.before.before.before.before.args.t1 j)) in omega arith
 
 add-i : tie.Need-overflow-add-i invariant-loop decreases-loop
 add-i c = search rules

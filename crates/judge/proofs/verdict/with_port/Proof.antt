@@ -1,7 +1,7 @@
 -- Each field of the tally with one more port is the definition's; the count has room, since it was below 64 and grows by one at most.
 use native.Mathlib.Omega.{arith}
 use Prim.Native.Nat.{◌≤◌, ◌<◌}
-use Rattle.judge.proofs.Counts.{one-fits}
+use Rattle.judge.proofs.Counts.{one_fits}
 use borrow.Author.Rules.{rules}
 use Rattle.judge.proofs.verdict.with_port.Statement.{statement}
 use Rattle.judge.proofs.verdict.with_port.Tie as tie
@@ -34,7 +34,7 @@ add-t25 : tie.Need-overflow-add-t25
 add-t25 c =
     let start = c.before.before.before.before.before.before.before.before.before.before.before.before.before.before.before.before.before.before.before.before.before in
     let one-if = c.before.one-if in
-    let p : start.args.tally.numbered < 64 = start.requires in let h : one-if.result ≤ 1 = one-fits c.before.before.is-numbered.result _ one-if.ensures in omega arith
+    let p : start.args.tally.numbered < 64 = start.requires in let h : one-if.result ≤ 1 = one_fits c.before.before.is-numbered.result _ one-if.ensures in omega arith
 
 returns : tie.Need-returns
 returns c =

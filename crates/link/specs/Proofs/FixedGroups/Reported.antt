@@ -3,49 +3,49 @@ use Rattle.std.specs.Prelude.{◌≡◌, true, ℕ, suc, ◌+◌, ◌/◌, ◌<�
 use Rattle.std.proofs.Math.Path.{refl, ap}
 use Rattle.std.proofs.Common.{◌∙◌, ⊎_elim, arith}
 use mathlib.Core.List.{List}
-use Rattle.ground.specs.Counting.Laws.Tests.{every-all}
-use Rattle.ground.specs.Table.{tabulate-ext}
-use Rattle.packet.specs.Laws.Changes.{fixed-unchanged}
-use Rattle.link.specs.Demand3.{Stands, Started, Time, ownRun, standing}
+use Rattle.ground.specs.Counting.Laws.Tests.{every_all}
+use Rattle.ground.specs.Table.{tabulate_ext}
+use Rattle.packet.specs.Laws.Changes.{fixed_unchanged}
+use Rattle.link.specs.Demand3.{Stands, Started, Time, own_run, standing}
 use Rattle.link.specs.Demand3.Stands.{none_yet, reporting}
-use Rattle.link.specs.FixedGroup.{AssumedFixed, ToldSure, sureReport}
-use Rattle.link.specs.Link.{Damaged, Link, allAsSent, epochFrames, expected, kind_of, sameBytes, sentTo}
-use Rattle.link.specs.Proofs.FixedGroups.Over.{fixed-over}
+use Rattle.link.specs.FixedGroup.{AssumedFixed, ToldSure, sure_report}
+use Rattle.link.specs.Link.{Damaged, Link, all_as_sent, epoch_frames, expected, kind_of, same_bytes, sent_to}
+use Rattle.link.specs.Proofs.FixedGroups.Over.{fixed_over}
 use Rattle.link.specs.Proofs.Judged.Reports.{same_self}
 use Rattle.link.specs.Proofs.Over.{over}
 use Rattle.link.specs.Running.{Moment}
 use Rattle.link.specs.Sending.{Sending}
 
 module _ (k : Link) (a : AssumedFixed k) where
-  none-changed : k.sending.changes ≡ 0
-  none-changed = ap (λ (s : Sending). s.changes) a.sends ∙ fixed-unchanged
+  none_changed : k.sending.changes ≡ 0
+  none_changed = ap (λ (s : Sending). s.changes) a.sends ∙ fixed_unchanged
 
-  as-sent : (i p : ℕ) → p < k.ports → k.came i p ≡ sentTo k i p
-  as-sent i p b =
-      ⊎_elim (λ (e : k.came i p ≡ sentTo k i p). e)
-      (λ (d : Damaged (kind_of k) k.sending.changes (sentTo k i p) (k.came i p)). absurd (let least = d.least in let most = d.most in let none = none-changed in omega (arith, least, most, none)))
+  as_sent_lem : (i p : ℕ) → p < k.ports → k.came i p ≡ sent_to k i p
+  as_sent_lem i p b =
+      ⊎_elim (λ (e : k.came i p ≡ sent_to k i p). e)
+      (λ (d : Damaged (kind_of k) k.sending.changes (sent_to k i p) (k.came i p)). absurd (let least = d.least in let most = d.most in let none = none_changed in omega (arith, least, most, none)))
       (a.lines.arrived i p b)
 
-  all-as-sent : (i : ℕ) → allAsSent k i ≡ true
-  unfolding allAsSent
-  all-as-sent i =
-      every-all k.ports (λ p. sameBytes (k.came i p) (sentTo k i p)) (λ p b. ap (λ (l : List ℕ). sameBytes l (sentTo k i p)) (as-sent i p b) ∙ same_self (sentTo k i p))
+  all_as_sent_lem : (i : ℕ) → all_as_sent k i ≡ true
+  unfolding all_as_sent
+  all_as_sent_lem i =
+      every_all k.ports (λ p. same_bytes (k.came i p) (sent_to k i p)) (λ p b. ap (λ (l : List ℕ). same_bytes l (sent_to k i p)) (as_sent_lem i p b) ∙ same_self (sent_to k i p))
 
-  pub expected-sure : (i : ℕ) (out : List ℕ) → expected k i out ≡ sureReport k (suc i) out
+  pub expected_sure : (i : ℕ) (out : List ℕ) → expected k i out ≡ sure_report k (suc i) out
   unfolding expected
-  expected-sure i out = rw (all-as-sent i) refl
+  expected_sure i out = rw (all_as_sent_lem i) refl
 
-  pub told-sure : (m₀ : Moment) → Started k m₀ → (at : Time k) → ToldSure k (standing k (ownRun k m₀) at)
-  told-sure m₀ o at = go (((over k (fixed-over k a)).promised m₀ o).always at)
+  pub told_sure : (m₀ : Moment) → Started k m₀ → (at : Time k) → ToldSure k (standing k (own_run k m₀) at)
+  told_sure m₀ o at = go (((over k (fixed_over k a)).promised m₀ o).always at)
     where
-      go : Stands k (ownRun k m₀) at → ToldSure k (standing k (ownRun k m₀) at)
+      go : Stands k (own_run k m₀) at → ToldSure k (standing k (own_run k m₀) at)
       go (none_yet e un t) = record { before = 0; many = 0; are = t }
       go (reporting e r) =
           record {
-            before = suc (r.F / epochFrames k);
+            before = suc (r.F / epoch_frames k);
             many = r.many;
             are =
                 r.are
-                ∙ tabulate-ext r.many (λ j. expected k (suc (r.F / epochFrames k) + j) (k.output j)) (λ j. sureReport k (suc (suc (r.F / epochFrames k) + j)) (k.output j))
-                (λ j b. expected-sure (suc (r.F / epochFrames k) + j) (k.output j));
+                ∙ tabulate_ext r.many (λ j. expected k (suc (r.F / epoch_frames k) + j) (k.output j)) (λ j. sure_report k (suc (suc (r.F / epoch_frames k) + j)) (k.output j))
+                (λ j b. expected_sure (suc (r.F / epoch_frames k) + j) (k.output j));
           }

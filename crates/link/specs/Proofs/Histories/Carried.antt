@@ -2,38 +2,38 @@
 use Rattle.std.specs.Prelude.{◌≡◌, true, ℕ, suc, ◌*◌, ◌/◌, ◌≤◌, ◌<◌}
 use Rattle.std.proofs.Common.{ap, ◌∙◌, arith, ne_eqb}
 use Rattle.std.proofs.Math.Bool.{not}
-use Rattle.ground.specs.Counting.Laws.Numbers.{count-le}
+use Rattle.ground.specs.Counting.Laws.Numbers.{count_le}
 use Rattle.ground.specs.Counting.Laws.Ranks.{rank, rank_lt}
 use Rattle.sender.specs.declared.board.Board.{Board}
-use Rattle.sender.specs.Epochs.{rankIn}
-use Rattle.sender.specs.Laws.Carrying.{rank-active}
-use Rattle.sender.specs.Laws.Sizes.{size-le}
-use Rattle.sender.specs.Numbering.{number_in, slotsIn, stateIn}
-use Rattle.sender.specs.Ranks.{noRank, rank_at}
-use Rattle.sender.specs.Table.{isActive, slotCount}
+use Rattle.sender.specs.Epochs.{rank_in}
+use Rattle.sender.specs.Laws.Carrying.{rank_active}
+use Rattle.sender.specs.Laws.Sizes.{size_le}
+use Rattle.sender.specs.Numbering.{number_in, slots_in, state_in}
+use Rattle.sender.specs.Ranks.{no_rank, rank_at}
+use Rattle.sender.specs.Table.{is_active, slot_count}
 use Rattle.packet.specs.Laws.Clock.{by}
-use Rattle.link.specs.History.{Allowed, History, hasRank, senderAt}
+use Rattle.link.specs.History.{Allowed, History, has_rank, sender_at}
 use Rattle.link.specs.Proofs.Histories.Ruling.{rules}
-use Rattle.link.specs.Proofs.Histories.Tables.{board-at}
-use Rattle.link.specs.Sending.{epochAt, epochStart}
+use Rattle.link.specs.Proofs.Histories.Tables.{board_at_lem}
+use Rattle.link.specs.Sending.{epoch_at, epoch_start}
 
-epoch-is : (kind t x : ℕ) → epochStart kind t ≤ x → x < epochStart kind (suc t) → epochAt kind x ≡ t
-epoch-is kind t x lo hi = by (λ L E N l. t * L ≤ x → x < suc t * L → x / L ≡ t) (λ a b. omega arith) (λ a b. omega arith) kind lo hi
+epoch_is : (kind t x : ℕ) → epoch_start kind t ≤ x → x < epoch_start kind (suc t) → epoch_at kind x ≡ t
+epoch_is kind t x lo hi = by (λ L E N l. t * L ≤ x → x < suc t * L → x / L ≡ t) (λ a b. omega arith) (λ a b. omega arith) kind lo hi
 
 module _ (h : History) (al : Allowed h) where
-  ranked : (t slot : ℕ) → slot < slotsIn (senderAt h t).table → isActive (stateIn (senderAt h t).table slot) ≡ true → rankIn (senderAt h (suc t)) slot < noRank
+  ranked : (t slot : ℕ) → slot < slots_in (sender_at h t).table → is_active (state_in (sender_at h t).table slot) ≡ true → rank_in (sender_at h (suc t)) slot < no_rank
   ranked t slot b a =
-      let tab = (senderAt h t).table in
-      let e : rankIn (senderAt h (suc t)) slot ≡ rank (slotsIn tab) (λ i. isActive (stateIn tab i)) (number_in tab) slot =
-      ap (λ (x : Board). rank_at x.rows (slotCount x.count) slot) (rules h al t ∙ board-at h al t) ∙ rank-active tab slot b a in
-      let l = rank_lt (slotsIn tab) (λ i. isActive (stateIn tab i)) (number_in tab) slot b a in
-      let c = count-le (slotsIn tab) (λ i. isActive (stateIn tab i)) in
-      let z = size-le tab.count in
+      let tab = (sender_at h t).table in
+      let e : rank_in (sender_at h (suc t)) slot ≡ rank (slots_in tab) (λ i. is_active (state_in tab i)) (number_in tab) slot =
+      ap (λ (x : Board). rank_at x.rows (slot_count x.count) slot) (rules h al t ∙ board_at_lem h al t) ∙ rank_active tab slot b a in
+      let l = rank_lt (slots_in tab) (λ i. is_active (state_in tab i)) (number_in tab) slot b a in
+      let c = count_le (slots_in tab) (λ i. is_active (state_in tab i)) in
+      let z = size_le tab.count in
       omega arith
 
-  pub carries-next : (t slot : ℕ) → slot < slotsIn (senderAt h t).table → isActive (stateIn (senderAt h t).table slot) ≡ true
-      → (x : ℕ) → epochStart h.kind (suc t) ≤ x → x < epochStart h.kind (suc (suc t)) → hasRank h x slot ≡ true
-  unfolding hasRank
-  carries-next t slot b a x lo hi =
+  pub carries_next : (t slot : ℕ) → slot < slots_in (sender_at h t).table → is_active (state_in (sender_at h t).table slot) ≡ true
+      → (x : ℕ) → epoch_start h.kind (suc t) ≤ x → x < epoch_start h.kind (suc (suc t)) → has_rank h x slot ≡ true
+  unfolding has_rank
+  carries_next t slot b a x lo hi =
       let l = ranked t slot b a in
-      rw (epoch-is h.kind (suc t) x lo hi) (ap not (ne_eqb (rankIn (senderAt h (suc t)) slot) noRank (λ z. omega arith)))
+      rw (epoch_is h.kind (suc t) x lo hi) (ap not (ne_eqb (rank_in (sender_at h (suc t)) slot) no_rank (λ z. omega arith)))

@@ -3,49 +3,49 @@ use Rattle.std.specs.Prelude.{◌≡◌, ℕ, ◌*◌, ◌<◌}
 use Rattle.std.proofs.Math.Path.{sym, ap}
 use Rattle.std.proofs.Common.{subst, ◌∙◌, arith}
 use Rattle.ground.specs.Truth.{and_right}
-use Rattle.phases.specs.Sizes.{sized, startSized}
-use Rattle.packet.specs.Kinds.{payloadRight}
-use Rattle.receiver.specs.Laws.Sizes.{start-sizes-of}
+use Rattle.phases.specs.Sizes.{sized, start_sized}
+use Rattle.packet.specs.Kinds.{payload_right}
+use Rattle.receiver.specs.Laws.Sizes.{start_sizes_of}
 use Rattle.link.specs.Assumed.{Assumed}
-use Rattle.link.specs.History.{Handed, sendingOf}
+use Rattle.link.specs.History.{Handed, sending_of}
 use Rattle.link.specs.Link.{AssumedOver, Link, kind_of}
-use Rattle.link.specs.Sending.{Lawful, Reached, Sending, epochAt}
-use Rattle.link.specs.Proofs.Histories.Lawful.{history-lawful}
-use Rattle.link.specs.Proofs.Histories.Reaching.{all-reached}
+use Rattle.link.specs.Sending.{Lawful, Reached, Sending, epoch_at}
+use Rattle.link.specs.Proofs.Histories.Lawful.{history_lawful}
+use Rattle.link.specs.Proofs.Histories.Reaching.{all_reached}
 
 module _ (k : Link) (a : Assumed k) where
-  abbrev ownSide : Sending
-  ownSide = sendingOf a.history k.payload k.client a.unranked
+  abbrev own_side : Sending
+  own_side = sending_of a.history k.payload k.client a.unranked
 
   handed : Handed a.history k.payload k.client
-  unfolding startSized
+  unfolding start_sized
   handed =
-      let s = start-sizes-of (kind_of k) k.ports k.payload k.window a.lines.sizes in
+      let s = start_sizes_of (kind_of k) k.ports k.payload k.window a.lines.sizes in
       record {
         least = s.some_bytes;
         most = s.few_bytes;
-        payload-right = sym (ap (λ (s : Sending). payloadRight s.kind k.payload) a.sends) ∙ and_right (sized (kind_of k) k.ports k.payload k.window) (payloadRight (kind_of k) k.payload) a.lines.sizes;
-        whole = λ x. a.lines.client x ∙ ap (λ (s : Sending). s.x (epochAt s.kind x) * k.payload) a.sends;
+        payload_right_lem = sym (ap (λ (s : Sending). payload_right s.kind k.payload) a.sends) ∙ and_right (sized (kind_of k) k.ports k.payload k.window) (payload_right (kind_of k) k.payload) a.lines.sizes;
+        whole = λ x. a.lines.client x ∙ ap (λ (s : Sending). s.x (epoch_at s.kind x) * k.payload) a.sends;
       }
 
   lawful : Lawful k.sending k.payload k.client
   lawful =
       subst (λ (s : Sending). Lawful s k.payload k.client) (sym a.sends)
-      (history-lawful a.history a.allowed k.payload k.client handed a.unranked a.unranked-long)
+      (history_lawful a.history a.allowed k.payload k.client handed a.unranked a.unranked_long)
 
-  slots-are : k.sending.slots ≡ a.history.slots
-  slots-are = ap (λ (s : Sending). s.slots) a.sends
+  slots_are : k.sending.slots ≡ a.history.slots
+  slots_are = ap (λ (s : Sending). s.slots) a.sends
 
   reaches : (slot : ℕ) → slot < a.history.slots → Reached k.ports k.pairing slot
-  reaches slot b = subst (λ (n : ℕ). Reached n k.pairing slot) (sym a.all) (all-reached a.history.slots k.pairing a.paired slot b)
+  reaches slot b = subst (λ (n : ℕ). Reached n k.pairing slot) (sym a.all) (all_reached a.history.slots k.pairing a.paired slot b)
 
   pub ours : AssumedOver k
   ours =
       record {
         lawful = lawful;
         lines = a.lines;
-        paired = rw (a.all, slots-are) a.paired;
+        paired = rw (a.all, slots_are) a.paired;
         earliest = 0;
-        not-before = λ p b. omega arith;
-        covered = λ i from slot b d. reaches slot (rw slots-are at b);
+        not_before = λ p b. omega arith;
+        covered = λ i from slot b d. reaches slot (rw slots_are at b);
       }

@@ -6,80 +6,80 @@ use Rattle.std.proofs.lemmas.List.{length-replicate}
 use borrow.Author.Tests.{eq-eqb, lt-ltb}
 use Rattle.packet.specs.Theorems.Sent as laws
 use Rattle.packet.specs.declared.writer.Writing.TheVariants as W
-use Rattle.packet.specs.Kinds.{firstTag, frames}
-use Rattle.packet.specs.Sent.{sentAnswer, sentBytes}
+use Rattle.packet.specs.Kinds.{first_tag, frames}
+use Rattle.packet.specs.Sent.{sent_answer, sent_bytes}
 use Rattle.sender.specs.declared.epochs.Sender.{Sender}
 use Rattle.sender.specs.declared.table.Answer.TheVariants.{Done}
-use Rattle.sender.specs.Epochs.{packetAnswer, packetBytes, packetFields}
+use Rattle.sender.specs.Epochs.{packet_answer, packet_bytes, packet_fields}
 use Rattle.sender.specs.Outcomes.{written}
-use Rattle.sender.specs.Table.{slotCount}
-use Rattle.sender.specs.Theorems.Packets.{packet-done, written-done}
+use Rattle.sender.specs.Table.{slot_count}
+use Rattle.sender.specs.Theorems.Packets.{packet_done, written_done}
 use Rattle.step.specs.Sent.{SentWith}
-use Rattle.link.specs.History.{Allowed, History, callsTo, fieldsSent, packetSent, senderAt}
-use Rattle.link.specs.Proofs.Histories.Senders.{given_to, sender-in, sender-run, size-at}
-use Rattle.link.specs.Proofs.Laws.Counts.{tag-epoch, tag-place}
-use Rattle.link.specs.Sending.{epochNumber, epochStart}
+use Rattle.link.specs.History.{Allowed, History, calls_to, fields_sent, packet_sent, sender_at}
+use Rattle.link.specs.Proofs.Histories.Senders.{given_to, sender_in, sender_run_lem, size_at}
+use Rattle.link.specs.Proofs.Laws.Counts.{tag_epoch, tag_place}
+use Rattle.link.specs.Sending.{epoch_number, epoch_start}
 
 -- what a sender writes whose packet is not refused
-module _ (s : Sender) (slot : ℕ) (h4 : List ℕ) (below : slot < slotCount s.table.count) (room : length h4 ≡ frames s.table.kind) (begun : s.begun ≡ true) where
-  bytes-are : packetBytes s slot h4 ≡ sentBytes s.table.kind (packetFields s slot) h4
-  unfolding packetBytes
-  bytes-are = rw (lt-ltb slot (slotCount s.table.count) below, eq-eqb (length h4) (frames s.table.kind) room, begun) refl
+module _ (s : Sender) (slot : ℕ) (h4 : List ℕ) (below : slot < slot_count s.table.count) (room : length h4 ≡ frames s.table.kind) (begun : s.begun ≡ true) where
+  bytes_are : packet_bytes s slot h4 ≡ sent_bytes s.table.kind (packet_fields s slot) h4
+  unfolding packet_bytes
+  bytes_are = rw (lt-ltb slot (slot_count s.table.count) below, eq-eqb (length h4) (frames s.table.kind) room, begun) refl
 
-  answer-is : packetAnswer s slot h4 ≡ written (sentAnswer s.table.kind (packetFields s slot) h4)
-  unfolding packetAnswer
-  answer-is = rw (lt-ltb slot (slotCount s.table.count) below, eq-eqb (length h4) (frames s.table.kind) room, begun) refl
+  answer_is : packet_answer s slot h4 ≡ written (sent_answer s.table.kind (packet_fields s slot) h4)
+  unfolding packet_answer
+  answer_is = rw (lt-ltb slot (slot_count s.table.count) below, eq-eqb (length h4) (frames s.table.kind) room, begun) refl
 
 -- its epoch is the history's, and its GID the one lent
-pub packet-epoch : (h : History) → Allowed h → (i slot : ℕ) → (fieldsSent h i slot).epoch ≡ epochNumber h.kind h.first i
-unfolding packetFields
-packet-epoch h a i slot = (sender-in h a i).epoch
+pub packet_epoch : (h : History) → Allowed h → (i slot : ℕ) → (fields_sent h i slot).epoch ≡ epoch_number h.kind h.first i
+unfolding packet_fields
+packet_epoch h a i slot = (sender_in h a i).epoch
 
-pub packet-gid : (h : History) → Allowed h → (i slot : ℕ) → (fieldsSent h i slot).gid ≡ h.gid i
-unfolding packetFields
-packet-gid h a i slot = (sender-in h a i).gid
+pub packet_gid : (h : History) → Allowed h → (i slot : ℕ) → (fields_sent h i slot).gid ≡ h.gid i
+unfolding packet_fields
+packet_gid h a i slot = (sender_in h a i).gid
 
 module _ (h : History) (a : Allowed h) (i slot : ℕ) (b : slot < h.slots) where
-  below : slot < slotCount (senderAt h i).table.count
-  below = rw (size-at h a i) b
+  below : slot < slot_count (sender_at h i).table.count
+  below = rw (size_at h a i) b
 
   module _ (h4 : List ℕ) (long : length h4 ≡ frames h.kind) where
-    room : length h4 ≡ frames (senderAt h i).table.kind
-    room = long ∙ ap frames (sym (sender-in h a i).kind)
+    room : length h4 ≡ frames (sender_at h i).table.kind
+    room = long ∙ ap frames (sym (sender_in h a i).kind)
 
-    pub packet-answered : packetAnswer (senderAt h i) slot h4 ≡ Done
-    packet-answered =
-        rw (sender-run h i)
-        (packet-done h.kind h.slots h.first (callsTo h i) a.first (given_to h a i) (rw (sender-run h i) at (sender-in h a i).begun) slot
-        (rw (sender-run h i) at below) h4 (rw (sender-run h i) at room))
+    pub packet_answered : packet_answer (sender_at h i) slot h4 ≡ Done
+    packet_answered =
+        rw (sender_run_lem h i)
+        (packet_done h.kind h.slots h.first (calls_to h i) a.first (given_to h a i) (rw (sender_run_lem h i) at (sender_in h a i).begun) slot
+        (rw (sender_run_lem h i) at below) h4 (rw (sender_run_lem h i) at room))
 
     -- written as the kind's packets are
-    sent-done : sentAnswer h.kind (fieldsSent h i slot) h4 ≡ W.Done
-    sent-done =
-        ap (λ (kind : ℕ). sentAnswer kind (fieldsSent h i slot) h4) (sym (sender-in h a i).kind)
-        ∙ written-done (sentAnswer (senderAt h i).table.kind (fieldsSent h i slot) h4) (sym (answer-is (senderAt h i) slot h4 below room (sender-in h a i).begun) ∙ packet-answered)
+    sent_done : sent_answer h.kind (fields_sent h i slot) h4 ≡ W.Done
+    sent_done =
+        ap (λ (kind : ℕ). sent_answer kind (fields_sent h i slot) h4) (sym (sender_in h a i).kind)
+        ∙ written_done (sent_answer (sender_at h i).table.kind (fields_sent h i slot) h4) (sym (answer_is (sender_at h i) slot h4 below room (sender_in h a i).begun) ∙ packet_answered)
 
-    sent-as : packetBytes (senderAt h i) slot h4 ≡ sentBytes h.kind (fieldsSent h i slot) h4
-    sent-as =
-        bytes-are (senderAt h i) slot h4 below room (sender-in h a i).begun ∙ ap (λ (kind : ℕ). sentBytes kind (fieldsSent h i slot) h4) (sender-in h a i).kind
+    sent_as : packet_bytes (sender_at h i) slot h4 ≡ sent_bytes h.kind (fields_sent h i slot) h4
+    sent_as =
+        bytes_are (sender_at h i) slot h4 below room (sender_in h a i).begun ∙ ap (λ (kind : ℕ). sent_bytes kind (fields_sent h i slot) h4) (sender_in h a i).kind
 
-  blank-long : length {A = ℕ} (replicate (frames h.kind) 0) ≡ frames h.kind
-  blank-long = length-replicate (frames h.kind) 0
+  blank_long : length {A = ℕ} (replicate (frames h.kind) 0) ≡ frames h.kind
+  blank_long = length-replicate (frames h.kind) 0
 
-  pub packet-wrote : sentAnswer h.kind (fieldsSent h i slot) (replicate (frames h.kind) 0) ≡ W.Done
-  packet-wrote = sent-done (replicate (frames h.kind) 0) blank-long
+  pub packet_wrote : sent_answer h.kind (fields_sent h i slot) (replicate (frames h.kind) 0) ≡ W.Done
+  packet_wrote = sent_done (replicate (frames h.kind) 0) blank_long
 
-  pub packet-is : packetSent h i slot ≡ sentBytes h.kind (fieldsSent h i slot) (replicate (frames h.kind) 0)
-  unfolding packetSent
-  packet-is = sent-as (replicate (frames h.kind) 0) blank-long
+  pub packet_is : packet_sent h i slot ≡ sent_bytes h.kind (fields_sent h i slot) (replicate (frames h.kind) 0)
+  unfolding packet_sent
+  packet_is = sent_as (replicate (frames h.kind) 0) blank_long
 
   -- whatever bytes are lent
-  pub packet-any : (h4 : List ℕ) → length h4 ≡ frames h.kind → packetBytes (senderAt h i) slot h4 ≡ packetSent h i slot
-  packet-any h4 long = sent-as h4 long ∙ laws.sent-same h.kind (fieldsSent h i slot) h4 (replicate (frames h.kind) 0) (sent-done h4 long) packet-wrote ∙ sym packet-is
+  pub packet_any : (h4 : List ℕ) → length h4 ≡ frames h.kind → packet_bytes (sender_at h i) slot h4 ≡ packet_sent h i slot
+  packet_any h4 long = sent_as h4 long ∙ laws.sent_same h.kind (fields_sent h i slot) h4 (replicate (frames h.kind) 0) (sent_done h4 long) packet_wrote ∙ sym packet_is
 
   -- and its frames count
-  pub sent-counts : (k : ℕ) → k < frames h.kind → SentWith h.kind (firstTag h.kind h.first + (epochStart h.kind i + k)) (get_or (packetSent h i slot) k 0)
-  sent-counts k l =
-      let there = (laws.sent-as h.kind (fieldsSent h i slot) (replicate (frames h.kind) 0) packet-wrote).told (firstTag h.kind h.first + (epochStart h.kind i + k))
-      (packet-epoch h a i slot ∙ sym (tag-epoch h.kind h.first i k l)) in
-      rw packet-is (rw (tag-place h.kind h.first i k l) at there)
+  pub sent_counts : (k : ℕ) → k < frames h.kind → SentWith h.kind (first_tag h.kind h.first + (epoch_start h.kind i + k)) (get_or (packet_sent h i slot) k 0)
+  sent_counts k l =
+      let there = (laws.sent_as h.kind (fields_sent h i slot) (replicate (frames h.kind) 0) packet_wrote).told (first_tag h.kind h.first + (epoch_start h.kind i + k))
+      (packet_epoch h a i slot ∙ sym (tag_epoch h.kind h.first i k l)) in
+      rw packet_is (rw (tag_place h.kind h.first i k l) at there)

@@ -8,98 +8,98 @@ use mathlib.Core.List.{List, [], ◌∷◌, ◌++◌, append-nil, append_assoc}
 use Prim.Native.Nat.{ℕ, zero, suc, ◌+◌, ◌-◌, ◌*◌, ◌/◌, ◌≤◌, ◌<◌}
 use Rattle.std.proofs.Math.Dec.{ltb}
 use Rattle.std.proofs.lemmas.Bool.{lt-leb}
-use Rattle.ground.specs.Truth.{eq-or-ne, le-or-lt}
-use Rattle.packet.specs.Laws.Epochs.{one-epoch}
-use Rattle.packet.specs.Theorems.Tags.{frames-some}
+use Rattle.ground.specs.Truth.{eq_or_ne, le_or_lt}
+use Rattle.packet.specs.Laws.Epochs.{one_epoch}
+use Rattle.packet.specs.Theorems.Tags.{frames_some}
 use Rattle.phases.specs.Beginning.{begins}
-use Rattle.receiver.specs.Laws.Sizes.{window-some}
-use Rattle.rows.specs.Group.{groupAt}
+use Rattle.receiver.specs.Laws.Sizes.{window_some}
+use Rattle.rows.specs.Group.{group_at}
 use Rattle.step.specs.Sent.{SentWith}
-use Rattle.step.specs.SentRuns.{startFrom}
-use Rattle.step.specs.Theorems.Run.{start-from}
-use Rattle.link.specs.Proofs.Laws.Lists.{append-apart}
+use Rattle.step.specs.SentRuns.{start_from}
+use Rattle.step.specs.Theorems.Run.{start_from_lem}
+use Rattle.link.specs.Proofs.Laws.Lists.{append_apart}
 use Rattle.link.specs.Moments.{Beginning, NotAfter, Ready, Unready, coming, next_at, reached}
 use Rattle.link.specs.Road.{L, Road}
-use Rattle.link.specs.Proofs.Fair.{Fair, sizes-in}
-use Rattle.link.specs.Running.{Moment, drained, fetched, framed, hasBegun, recordAt, through, turn, turns}
+use Rattle.link.specs.Proofs.Fair.{Fair, sizes_in}
+use Rattle.link.specs.Running.{Moment, drained, fetched, framed, has_begun, record_at, through, turn, turns}
 use Rattle.link.specs.Proofs.Standing.{Before, First, Later, Owes}
-use Rattle.link.specs.Proofs.Transport.Due.{AllCome, owes-or-come}
-use Rattle.link.specs.Proofs.Transport.Moments.{Rest, apart, next-time, reach, rest_all, rest-tail, served, served-at, unserved}
+use Rattle.link.specs.Proofs.Transport.Due.{AllCome, owes_or_come}
+use Rattle.link.specs.Proofs.Transport.Moments.{Rest, apart, next_time, reach, rest_all, rest_tail, served, served_at, unserved}
 use Rattle.link.specs.Proofs.Transport.Served.{Apart, Begun?, Gathered?, Reach, Served}
 use Rattle.link.specs.Proofs.Transport.Served.Begun?.{comes, stays}
 use Rattle.link.specs.Proofs.Transport.Served.Gathered?.{gathers, waits}
 
 module _ (r : Road) where
-  abbrev markNext : Moment → ℕ
-  markNext m = get_or (recordAt r m) 0 0
+  abbrev mark_next : Moment → ℕ
+  mark_next m = get_or (record_at r m) 0 0
 
   -- what single frames and fetches are proved to do
   pub record CallsDo : Type 0 where
-    pub on-before : (m : Moment) (p : ℕ) (coming coming' : ℕ → ℕ) → Served r p coming coming' → Apart r coming' → SentWith r.kind (r.offset + coming p) (r.h4 p (coming p)) → Before r m coming
+    pub on_before : (m : Moment) (p : ℕ) (coming coming' : ℕ → ℕ) → Served r p coming coming' → Apart r coming' → SentWith r.kind (r.offset + coming p) (r.h4 p (coming p)) → Before r m coming
         → Begun? r (framed r p (coming p) m) coming'
-    pub on-first : (m : Moment) (p i : ℕ) (coming coming' : ℕ → ℕ) → Served r p coming coming' → Reach r p coming → First r m coming i → Gathered? r (framed r p (coming p) m) coming' i
-    pub on-later : (m : Moment) (p g i : ℕ) (coming coming' : ℕ → ℕ) → Served r p coming coming' → Reach r p coming → Later r m coming g i → Owes r coming (suc i) → Later r (framed r p (coming p) m) coming' g i
-    pub before-none : (m : Moment) (coming : ℕ → ℕ) → Before r m coming → markNext m ≡ 0
-    pub first-none : (m : Moment) (i : ℕ) (coming : ℕ → ℕ) → First r m coming i → markNext m ≡ 0
-    pub later-none : (m : Moment) (g i : ℕ) (coming : ℕ → ℕ) → Later r m coming g i → Owes r coming (suc i) → markNext m ≡ 0
-    pub later-one : (m : Moment) (g i : ℕ) (coming : ℕ → ℕ) → Later r m coming g i → AllCome r coming (suc i) → (markNext m ≢ 0) × Later r (fetched r m) coming g (suc i)
-    pub must-begin : (m : Moment) (coming : ℕ → ℕ) → Before r m coming → Ready r coming → begins (groupAt m.rows) m.rows r.ports ≡ true
+    pub on_first : (m : Moment) (p i : ℕ) (coming coming' : ℕ → ℕ) → Served r p coming coming' → Reach r p coming → First r m coming i → Gathered? r (framed r p (coming p) m) coming' i
+    pub on_later : (m : Moment) (p g i : ℕ) (coming coming' : ℕ → ℕ) → Served r p coming coming' → Reach r p coming → Later r m coming g i → Owes r coming (suc i) → Later r (framed r p (coming p) m) coming' g i
+    pub before_none : (m : Moment) (coming : ℕ → ℕ) → Before r m coming → mark_next m ≡ 0
+    pub first_none : (m : Moment) (i : ℕ) (coming : ℕ → ℕ) → First r m coming i → mark_next m ≡ 0
+    pub later_none : (m : Moment) (g i : ℕ) (coming : ℕ → ℕ) → Later r m coming g i → Owes r coming (suc i) → mark_next m ≡ 0
+    pub later_one : (m : Moment) (g i : ℕ) (coming : ℕ → ℕ) → Later r m coming g i → AllCome r coming (suc i) → (mark_next m ≢ 0) × Later r (fetched r m) coming g (suc i)
+    pub must_begin : (m : Moment) (coming : ℕ → ℕ) → Before r m coming → Ready r coming → begins (group_at m.rows) m.rows r.ports ≡ true
 
   -- fetching ends where none is due
-  pub drained-none : (k : ℕ) (m : Moment) → markNext m ≡ 0 → drained r k m ≡ m
+  pub drained_none : (k : ℕ) (m : Moment) → mark_next m ≡ 0 → drained r k m ≡ m
   unfolding drained
-  drained-none zero m e = refl
-  drained-none (suc k) m e = rw (eq-eqb (get_or (recordAt r m) 0 0) 0 e) refl
+  drained_none zero m e = refl
+  drained_none (suc k) m e = rw (eq-eqb (get_or (record_at r m) 0 0) 0 e) refl
 
-  drained-one : (k : ℕ) (m : Moment) → markNext m ≢ 0 → markNext (fetched r m) ≡ 0 → drained r (suc k) m ≡ fetched r m
+  drained_one : (k : ℕ) (m : Moment) → mark_next m ≢ 0 → mark_next (fetched r m) ≡ 0 → drained r (suc k) m ≡ fetched r m
   unfolding drained
-  drained-one k m d e = rw (ne_eqb (get_or (recordAt r m) 0 0) 0 d) (drained-none k (fetched r m) e)
+  drained_one k m d e = rw (ne_eqb (get_or (record_at r m) 0 0) 0 d) (drained_none k (fetched r m) e)
 
-  pub coming-is : (t : ℕ) (rest : List ℕ) (p : ℕ) → p < r.ports → coming r t rest p ≡ next_at r t rest p
+  pub coming_is : (t : ℕ) (rest : List ℕ) (p : ℕ) → p < r.ports → coming r t rest p ≡ next_at r t rest p
   unfolding coming
-  coming-is t rest p b = rw (lt-ltb p r.ports b) refl
+  coming_is t rest p b = rw (lt-ltb p r.ports b) refl
 
-  coming-by : (t u : ℕ) (rest next : List ℕ) → ((p : ℕ) → p < r.ports → next_at r t rest p ≡ next_at r u next p) → coming r t rest ≡ coming r u next
+  coming_by : (t u : ℕ) (rest next : List ℕ) → ((p : ℕ) → p < r.ports → next_at r t rest p ≡ next_at r u next p) → coming r t rest ≡ coming r u next
   unfolding coming
-  coming-by t u rest next h = λ i p. go p (ltb p r.ports) refl i
+  coming_by t u rest next h = λ i p. go p (ltb p r.ports) refl i
     where
       go : (p : ℕ) (b : Bool) → ltb p r.ports ≡ b → cond (ltb p r.ports) (next_at r t rest p) (r.first p) ≡ cond (ltb p r.ports) (next_at r u next p) (r.first p)
       go p true e = rw e (h p (ltb-true p r.ports e))
       go p false e = rw e refl
 
-  coming-first : (f : Fair r) → r.first ≡ coming r zero (r.order zero)
+  coming_first : (f : Fair r) → r.first ≡ coming r zero (r.order zero)
   unfolding coming next_at
-  coming-first f = λ i p. go p (ltb p r.ports) refl i
+  coming_first f = λ i p. go p (ltb p r.ports) refl i
     where
       go : (p : ℕ) (b : Bool) → ltb p r.ports ≡ b → r.first p ≡ cond (ltb p r.ports) (next_at r zero (r.order zero) p) (r.first p)
       go p true e = let w = f.once zero p (ltb-true p r.ports e) in rw (e, w) (omega arith)
       go p false e = rw e refl
 
-  pub served-coming : (t p : ℕ) (ps : List ℕ) → Rest r (p ∷ ps) → r.delay p + r.first p ≤ t → Served r p (coming r t (p ∷ ps)) (coming r t ps)
+  pub served_coming : (t p : ℕ) (ps : List ℕ) → Rest r (p ∷ ps) → r.delay p + r.first p ≤ t → Served r p (coming r t (p ∷ ps)) (coming r t ps)
   unfolding coming
-  served-coming t p ps o late =
+  served_coming t p ps o late =
       let s = served r t p ps o late in
       record { below = s.below; next = rw (lt-ltb p r.ports s.below) s.next; others = λ q d. rw (s.others q d) refl }
 
-  apart-coming : (f : Fair r) (t : ℕ) (rest : List ℕ) → Rest r rest → Apart r (coming r t rest)
-  apart-coming f t rest o p q hp hq sp sq =
-      rw (coming-is t rest p hp, coming-is t rest q hq) (apart r f t rest o p q hp hq (rw (coming-is t rest p hp) at sp) (rw (coming-is t rest q hq) at sq))
+  apart_coming : (f : Fair r) (t : ℕ) (rest : List ℕ) → Rest r rest → Apart r (coming r t rest)
+  apart_coming f t rest o p q hp hq sp sq =
+      rw (coming_is t rest p hp, coming_is t rest q hq) (apart r f t rest o p q hp hq (rw (coming_is t rest p hp) at sp) (rw (coming_is t rest q hq) at sq))
 
-  pub reach-coming : (f : Fair r) (t p : ℕ) (ps : List ℕ) → Rest r (p ∷ ps) → r.delay p + r.first p ≤ t → Reach r p (coming r t (p ∷ ps))
-  reach-coming f t p ps o late q b = rw (coming-is t (p ∷ ps) p o.all-below.0, coming-is t (p ∷ ps) q b) (reach r f t p ps o late q b)
+  pub reach_coming : (f : Fair r) (t p : ℕ) (ps : List ℕ) → Rest r (p ∷ ps) → r.delay p + r.first p ≤ t → Reach r p (coming r t (p ∷ ps))
+  reach_coming f t p ps o late q b = rw (coming_is t (p ∷ ps) p o.all_below.0, coming_is t (p ∷ ps) q b) (reach r f t p ps o late q b)
 
   pub turns_more : (t p : ℕ) (done : List ℕ) (m : Moment) → turns r t (done ++ (p ∷ [])) m ≡ turn r t p (turns r t done m)
   unfolding turns
   turns_more t p [] m = refl
   turns_more t p (q ∷ qs) m = turns_more t p qs (turn r t q m)
 
-  pub no-frame : (t p : ℕ) (m : Moment) → t < r.delay p + r.first p → turn r t p m ≡ m
+  pub no_frame : (t p : ℕ) (m : Moment) → t < r.delay p + r.first p → turn r t p m ≡ m
   unfolding turn
-  no-frame t p m early = rw (lt-leb (r.delay p + r.first p) t early) refl
+  no_frame t p m early = rw (lt-leb (r.delay p + r.first p) t early) refl
 
   -- one port more, at which they are not ready either
-  unready-more : (t p : ℕ) (done ps : List ℕ) → r.order t ≡ done ++ (p ∷ ps) → Unready r t done → (Ready r (coming r t ps) → ⊥) → Unready r t (done ++ (p ∷ []))
-  unready-more t p done ps is-order un now u earlier rest e na y = ⊎_elim (λ (h : u < t). un u earlier rest e (inl h) y) same na
+  unready_more : (t p : ℕ) (done ps : List ℕ) → r.order t ≡ done ++ (p ∷ ps) → Unready r t done → (Ready r (coming r t ps) → ⊥) → Unready r t (done ++ (p ∷ []))
+  unready_more t p done ps is_order un now u earlier rest e na y = ⊎_elim (λ (h : u < t). un u earlier rest e (inl h) y) same na
     where
       same : (u ≡ t) × (length earlier ≤ length (done ++ (p ∷ []))) → ⊥
       same h =
@@ -108,43 +108,43 @@ module _ (r : Road) where
           ⊎_elim (λ (w : length earlier ≤ length done). un u earlier rest e (inr (h.0, w)) y)
           (λ (w : length done < length earlier).
           let eq : length (done ++ (p ∷ [])) ≡ length earlier = omega arith in
-          let whole : done ++ (p ∷ []) ++ ps ≡ earlier ++ rest = append_assoc done (p ∷ []) ps ∙ sym is-order ∙ ap r.order (sym h.0) ∙ e in
-          let ends : ps ≡ rest = (append-apart (done ++ (p ∷ [])) earlier ps rest eq whole).1 in
+          let whole : done ++ (p ∷ []) ++ ps ≡ earlier ++ rest = append_assoc done (p ∷ []) ps ∙ sym is_order ∙ ap r.order (sym h.0) ∙ e in
+          let ends : ps ≡ rest = (append_apart (done ++ (p ∷ [])) earlier ps rest eq whole).1 in
           now (subst (λ (l : List ℕ). Ready r (coming r t l)) (sym ends) (subst (λ (v : ℕ). Ready r (coming r v rest)) h.0 y)))
-          (le-or-lt (length earlier) (length done))
+          (le_or_lt (length earlier) (length done))
 
   -- the first frame time
-  unready-first : (f : Fair r) → Unready r zero []
-  unready-first f u earlier rest e na y =
+  unready_first : (f : Fair r) → Unready r zero []
+  unready_first f u earlier rest e na y =
       ⊎_elim (λ (h : u < zero). absurd (not-suc-le-zero h))
       (λ (h : (u ≡ zero) × (length earlier ≤ zero)).
-      let n : 1 ≤ r.ports = (sizes-in r f).some-ports in
-      let l = frames-some r.kind in
-      let from = (start-from r.kind r.offset (r.first zero)).from in
-      let i : rest ≡ r.order u = (let none = h.1 in (append-apart earlier [] rest (r.order u) (omega arith) (sym e)).1) in
-      let z : coming r u rest ≡ r.first = ap (λ (l : List ℕ). coming r u l) i ∙ ap (λ (v : ℕ). coming r v (r.order v)) h.0 ∙ sym (coming-first f) in
+      let n : 1 ≤ r.ports = (sizes_in r f).some_ports in
+      let l = frames_some r.kind in
+      let from = (start_from_lem r.kind r.offset (r.first zero)).from in
+      let i : rest ≡ r.order u = (let none = h.1 in (append_apart earlier [] rest (r.order u) (omega arith) (sym e)).1) in
+      let z : coming r u rest ≡ r.first = ap (λ (l : List ℕ). coming r u l) i ∙ ap (λ (v : ℕ). coming r v (r.order v)) h.0 ∙ sym (coming_first f) in
       let w = y.stepped zero n in
-      let v : startFrom r.kind r.offset (r.first zero) + L r * 2 ≤ r.first zero = subst (λ (k : ℕ → ℕ). startFrom r.kind r.offset (r.first zero) + L r * 2 ≤ k zero) z w in
+      let v : start_from r.kind r.offset (r.first zero) + L r * 2 ≤ r.first zero = subst (λ (k : ℕ → ℕ). start_from r.kind r.offset (r.first zero) + L r * 2 ≤ k zero) z w in
       absurd (omega arith))
       na
 
   -- the start of the next frame time
-  unready-next : (f : Fair r) (t : ℕ) → Unready r t (r.order t) → Unready r (suc t) []
-  unready-next f t un u earlier rest e na y = ⊎_elim before-it at-it na
+  unready_next : (f : Fair r) (t : ℕ) → Unready r t (r.order t) → Unready r (suc t) []
+  unready_next f t un u earlier rest e na y = ⊎_elim before_it at_it na
     where
-      before-it : u < suc t → ⊥
-      before-it h =
+      before_it : u < suc t → ⊥
+      before_it h =
           ⊎_elim (λ (q : u ≡ t).
           let l : length (earlier ++ rest) ≡ length earlier + length rest = length-append earlier rest in
           let m : length (r.order t) ≡ length (earlier ++ rest) = ap length (ap r.order (sym q) ∙ e) in
           un u earlier rest e (inr (q, omega arith)) y)
           (λ (q : u ≢ t). un u earlier rest e (inl (omega arith)) y)
-          (eq-or-ne u t)
+          (eq_or_ne u t)
 
-      at-it : (u ≡ suc t) × (length earlier ≤ zero) → ⊥
-      at-it h =
-          let i : rest ≡ r.order u = (let none = h.1 in (append-apart earlier [] rest (r.order u) (omega arith) (sym e)).1) in
-          let z : coming r u rest ≡ coming r t [] = ap (λ (l : List ℕ). coming r u l) i ∙ ap (λ (v : ℕ). coming r v (r.order v)) h.0 ∙ sym (coming-by t (suc t) [] (r.order (suc t)) (λ k b. next-time r f t k b)) in
+      at_it : (u ≡ suc t) × (length earlier ≤ zero) → ⊥
+      at_it h =
+          let i : rest ≡ r.order u = (let none = h.1 in (append_apart earlier [] rest (r.order u) (omega arith) (sym e)).1) in
+          let z : coming r u rest ≡ coming r t [] = ap (λ (l : List ℕ). coming r u l) i ∙ ap (λ (v : ℕ). coming r v (r.order v)) h.0 ∙ sym (coming_by t (suc t) [] (r.order (suc t)) (λ k b. next_time r f t k b)) in
           un t (r.order t) [] (sym (append-nil (r.order t))) (inr (refl, omega arith)) (subst (λ (k : ℕ → ℕ). Ready r k) z y)
 
   module _ (m₀ : Moment) where
@@ -152,22 +152,22 @@ module _ (r : Road) where
     abbrev Come : (F : ℕ) → Beginning r (reached r m₀) F → ℕ → List ℕ → Type 0
     Come F b t done = NotAfter r b.time (b.done ++ (b.port ∷ [])) t done
 
-    come-more : (F : ℕ) (b : Beginning r (reached r m₀) F) (t p : ℕ) (done : List ℕ) → Come F b t done → Come F b t (done ++ (p ∷ []))
-    come-more F b t p done =
+    come_more : (F : ℕ) (b : Beginning r (reached r m₀) F) (t p : ℕ) (done : List ℕ) → Come F b t done → Come F b t (done ++ (p ∷ []))
+    come_more F b t p done =
         ⊎_elim (λ (h : b.time < t). inl h)
         (λ (h : (b.time ≡ t) × (length (b.done ++ (b.port ∷ [])) ≤ length done)).
         let long : length (done ++ (p ∷ [])) ≡ length done + 1 = length-append done (p ∷ []) in
         let l = h.1 in
         inr (h.0, omega arith))
 
-    come-next : (F : ℕ) (b : Beginning r (reached r m₀) F) (t : ℕ) (done : List ℕ) → Come F b t done → Come F b (suc t) []
-    come-next F b t done =
+    come_next : (F : ℕ) (b : Beginning r (reached r m₀) F) (t : ℕ) (done : List ℕ) → Come F b t done → Come F b (suc t) []
+    come_next F b t done =
         ⊎_elim (λ (h : b.time < t). inl (omega arith)) (λ (h : (b.time ≡ t) × (length (b.done ++ (b.port ∷ [])) ≤ length done)). let e = h.0 in inl (omega arith))
 
     -- then not all ports were unready up to it
-    pub come-ready : (F : ℕ) (b : Beginning r (reached r m₀) F) (t : ℕ) (done : List ℕ) → Come F b t done → Unready r t done → ⊥
-    come-ready F b t done c un =
-        un b.time (b.done ++ (b.port ∷ [])) b.rest (b.is-order ∙ sym (append_assoc b.done (b.port ∷ []) b.rest)) c b.ready
+    pub come_ready : (F : ℕ) (b : Beginning r (reached r m₀) F) (t : ℕ) (done : List ℕ) → Come F b t done → Unready r t done → ⊥
+    come_ready F b t done c un =
+        un b.time (b.done ++ (b.port ∷ [])) b.rest (b.is_order ∙ sym (append_assoc b.done (b.port ∷ []) b.rest)) c b.ready
 
     -- what stands at a moment
     pub data Phase (t : ℕ) (done : List ℕ) (m : Moment) (coming : ℕ → ℕ) : Type 0 where
@@ -176,30 +176,30 @@ module _ (r : Road) where
       later : (F i : ℕ) (b : Beginning r (reached r m₀) F) → Come F b t done → Later r m coming (suc (F / L r)) i → Owes r coming (suc i) → Phase t done m coming
 
     module _ (f : Fair r) (s : CallsDo) where
-      drained-wide : (w : ℕ) (m : Moment) → 0 < w → markNext m ≢ 0 → markNext (fetched r m) ≡ 0 → drained r w m ≡ fetched r m
-      drained-wide zero m h d e = absurd (not-suc-le-zero h)
-      drained-wide (suc k) m h d e = drained-one k m d e
+      drained_wide : (w : ℕ) (m : Moment) → 0 < w → mark_next m ≢ 0 → mark_next (fetched r m) ≡ 0 → drained r w m ≡ fetched r m
+      drained_wide zero m h d e = absurd (not-suc-le-zero h)
+      drained_wide (suc k) m h d e = drained_one k m d e
 
       -- the port that owed last owes of the next epoch
-      owes-next : (p i : ℕ) (n n' : ℕ → ℕ) → Served r p n n' → Owes r n i → AllCome r n' i → Owes r n' (suc i)
-      owes-next p i n n' sv o all =
+      owes_next : (p i : ℕ) (n n' : ℕ → ℕ) → Served r p n n' → Owes r n i → AllCome r n' i → Owes r n' (suc i)
+      owes_next p i n n' sv o all =
           ⊎_elim
           (λ (e : o.port ≡ p).
           let a : n o.port < i * L r + L r = o.owes in
           let b : n p < i * L r + L r = rw e at a in
           let c : n' p ≡ n p + 1 = sv.next in
-          let l = frames-some r.kind in
-          let one = one-epoch i (L r) in
+          let l = frames_some r.kind in
+          let one = one_epoch i (L r) in
           record { port = p; below = sv.below; owes = rw one (omega arith) })
           (λ (d : o.port ≢ p).
           let a = o.owes in
           let b = all o.port o.below in
           let c = sv.others o.port d in
           absurd (omega arith))
-          (eq-or-ne o.port p)
+          (eq_or_ne o.port p)
 
       -- One port's turn with a frame.
-      module _ (t p : ℕ) (done ps : List ℕ) (is-order : r.order t ≡ done ++ (p ∷ ps)) (o : Rest r (p ∷ ps)) (late : r.delay p + r.first p ≤ t) where
+      module _ (t p : ℕ) (done ps : List ℕ) (is_order : r.order t ≡ done ++ (p ∷ ps)) (o : Rest r (p ∷ ps)) (late : r.delay p + r.first p ≤ t) where
         abbrev here : Moment
         here = reached r m₀ t done
 
@@ -207,173 +207,173 @@ module _ (r : Road) where
         there = framed r p (t - r.delay p) here
 
         position : coming r t (p ∷ ps) p ≡ t - r.delay p
-        position = coming-is t (p ∷ ps) p o.all-below.0 ∙ served-at r t p ps o late
+        position = coming_is t (p ∷ ps) p o.all_below.0 ∙ served_at r t p ps o late
 
         moved : Served r p (coming r t (p ∷ ps)) (coming r t ps)
-        moved = served-coming t p ps o late
+        moved = served_coming t p ps o late
 
-        one-turn : turn r t p here ≡ drained r r.window there
+        one_turn : turn r t p here ≡ drained r r.window there
         unfolding turn
-        one-turn = rw (le-leb (r.delay p + r.first p) t late) refl
+        one_turn = rw (le-leb (r.delay p + r.first p) t late) refl
 
-        quiet : markNext there ≡ 0 → turn r t p here ≡ there
-        quiet e = one-turn ∙ drained-none r.window there e
+        quiet : mark_next there ≡ 0 → turn r t p here ≡ there
+        quiet e = one_turn ∙ drained_none r.window there e
 
-        now-begun : (m : Moment) → turn r t p here ≡ m → hasBegun m ≡ 1 → hasBegun (reached r m₀ t (done ++ (p ∷ []))) ≡ 1
-        now-begun m e b = ap hasBegun (turns_more t p done (through r t m₀) ∙ e) ∙ b
+        now_begun : (m : Moment) → turn r t p here ≡ m → has_begun m ≡ 1 → has_begun (reached r m₀ t (done ++ (p ∷ []))) ≡ 1
+        now_begun m e b = ap has_begun (turns_more t p done (through r t m₀) ∙ e) ∙ b
 
         abbrev Next : Type 0
         Next = Phase t (done ++ (p ∷ [])) (turn r t p here) (coming r t ps)
 
-        as-phase : (m : Moment) → turn r t p here ≡ m → Phase t (done ++ (p ∷ [])) m (coming r t ps) → Next
-        as-phase m e q = subst (λ (n : Moment). Phase t (done ++ (p ∷ [])) n (coming r t ps)) (sym e) q
+        as_phase : (m : Moment) → turn r t p here ≡ m → Phase t (done ++ (p ∷ [])) m (coming r t ps) → Next
+        as_phase m e q = subst (λ (n : Moment). Phase t (done ++ (p ∷ [])) n (coming r t ps)) (sym e) q
 
         -- a frame handed before the beginning, or with which it comes, is as sent
-        sent-then : Unready r t done → SentWith r.kind (r.offset + coming r t (p ∷ ps) p) (r.h4 p (coming r t (p ∷ ps) p))
-        sent-then un = rw position (f.counted t p done ps o.all-below.0 is-order late un)
+        sent_then : Unready r t done → SentWith r.kind (r.offset + coming r t (p ∷ ps) p) (r.h4 p (coming r t (p ∷ ps) p))
+        sent_then un = rw position (f.counted t p done ps o.all_below.0 is_order late un)
 
-        from-before : Before r here (coming r t (p ∷ ps)) → Unready r t done → Next
-        from-before b un = go (rw position at (s.on-before here p (coming r t (p ∷ ps)) (coming r t ps) moved (apart-coming f t ps (rest-tail r p ps o)) (sent-then un) b))
+        from_before : Before r here (coming r t (p ∷ ps)) → Unready r t done → Next
+        from_before b un = go (rw position at (s.on_before here p (coming r t (p ∷ ps)) (coming r t ps) moved (apart_coming f t ps (rest_tail r p ps o)) (sent_then un) b))
           where
             go : Begun? r there (coming r t ps) → Next
             go (stays c) =
-                as-phase there (quiet (s.before-none there (coming r t ps) c))
-                (before c (unready-more t p done ps is-order un (λ y. true≢false (sym (s.must-begin there (coming r t ps) c y) ∙ c.unfit))))
+                as_phase there (quiet (s.before_none there (coming r t ps) c))
+                (before c (unready_more t p done ps is_order un (λ y. true≢false (sym (s.must_begin there (coming r t ps) c y) ∙ c.unfit))))
             go (comes F fore y c) =
-                let e = quiet (s.first-none there (suc (F / L r)) (coming r t ps) c) in
-                as-phase there e
+                let e = quiet (s.first_none there (suc (F / L r)) (coming r t ps) c) in
+                as_phase there e
                 (first F (record {
                   time = t;
                   done = done;
                   port = p;
                   rest = ps;
-                  is-order = is-order;
+                  is_order = is_order;
                   not_yet = b.begun;
-                  begun = now-begun there e c.open_at.begun;
+                  begun = now_begun there e c.open_at.begun;
                   foremost = fore;
                   ready = y;
                   unready = un;
                 }) (inr (refl, omega arith)) c)
 
         from_first : (F : ℕ) (b : Beginning r (reached r m₀) F) → Come F b t done → First r here (coming r t (p ∷ ps)) (suc (F / L r)) → Next
-        from_first F b come c = go (rw position at (s.on-first here p (suc (F / L r)) (coming r t (p ∷ ps)) (coming r t ps) moved (reach-coming f t p ps o late) c))
+        from_first F b come c = go (rw position at (s.on_first here p (suc (F / L r)) (coming r t (p ∷ ps)) (coming r t ps) moved (reach_coming f t p ps o late) c))
           where
             go : Gathered? r there (coming r t ps) (suc (F / L r)) → Next
-            go (waits d) = as-phase there (quiet (s.first-none there (suc (F / L r)) (coming r t ps) d)) (first F b (come-more F b t p done come) d)
+            go (waits d) = as_phase there (quiet (s.first_none there (suc (F / L r)) (coming r t ps) d)) (first F b (come_more F b t p done come) d)
             go (gathers d w) =
-                as-phase there (quiet (s.later-none there (suc (F / L r)) (suc (F / L r)) (coming r t ps) d w)) (later F (suc (F / L r)) b (come-more F b t p done come) d w)
+                as_phase there (quiet (s.later_none there (suc (F / L r)) (suc (F / L r)) (coming r t ps) d w)) (later F (suc (F / L r)) b (come_more F b t p done come) d w)
 
-        from-later : (F i : ℕ) → 0 < r.window → (b : Beginning r (reached r m₀) F) → Come F b t done → Later r here (coming r t (p ∷ ps)) (suc (F / L r)) i → Owes r (coming r t (p ∷ ps)) (suc i) → Next
-        from-later F i wide b come c w = go (rw position at (s.on-later here p (suc (F / L r)) i (coming r t (p ∷ ps)) (coming r t ps) moved (reach-coming f t p ps o late) c w))
+        from_later : (F i : ℕ) → 0 < r.window → (b : Beginning r (reached r m₀) F) → Come F b t done → Later r here (coming r t (p ∷ ps)) (suc (F / L r)) i → Owes r (coming r t (p ∷ ps)) (suc i) → Next
+        from_later F i wide b come c w = go (rw position at (s.on_later here p (suc (F / L r)) i (coming r t (p ∷ ps)) (coming r t ps) moved (reach_coming f t p ps o late) c w))
           where
             go : Later r there (coming r t ps) (suc (F / L r)) i → Next
-            go d = ⊎_elim some-owe none-owe (owes-or-come r (coming r t ps) (suc i))
+            go d = ⊎_elim some_owe none_owe (owes_or_come r (coming r t ps) (suc i))
               where
-                some-owe : Owes r (coming r t ps) (suc i) → Next
-                some-owe v = as-phase there (quiet (s.later-none there (suc (F / L r)) i (coming r t ps) d v)) (later F i b (come-more F b t p done come) d v)
+                some_owe : Owes r (coming r t ps) (suc i) → Next
+                some_owe v = as_phase there (quiet (s.later_none there (suc (F / L r)) i (coming r t ps) d v)) (later F i b (come_more F b t p done come) d v)
 
-                none-owe : AllCome r (coming r t ps) (suc i) → Next
-                none-owe all =
-                    let l = s.later-one there (suc (F / L r)) i (coming r t ps) d all in
-                    let v : Owes r (coming r t ps) (suc (suc i)) = owes-next p (suc i) (coming r t (p ∷ ps)) (coming r t ps) moved w all in
-                    let e = s.later-none (fetched r there) (suc (F / L r)) (suc i) (coming r t ps) l.1 v in
-                    as-phase (fetched r there) (one-turn ∙ drained-wide r.window there wide l.0 e) (later F (suc i) b (come-more F b t p done come) l.1 v)
+                none_owe : AllCome r (coming r t ps) (suc i) → Next
+                none_owe all =
+                    let l = s.later_one there (suc (F / L r)) i (coming r t ps) d all in
+                    let v : Owes r (coming r t ps) (suc (suc i)) = owes_next p (suc i) (coming r t (p ∷ ps)) (coming r t ps) moved w all in
+                    let e = s.later_none (fetched r there) (suc (F / L r)) (suc i) (coming r t ps) l.1 v in
+                    as_phase (fetched r there) (one_turn ∙ drained_wide r.window there wide l.0 e) (later F (suc i) b (come_more F b t p done come) l.1 v)
 
       wide : 0 < r.window
-      wide = window-some r.kind r.ports r.payload r.window (sizes-in r f)
+      wide = window_some r.kind r.ports r.payload r.window (sizes_in r f)
 
       -- one port's turn, with or without a frame
       turned : (t p : ℕ) (done ps : List ℕ) → r.order t ≡ done ++ (p ∷ ps) → Rest r (p ∷ ps) → Phase t done (reached r m₀ t done) (coming r t (p ∷ ps))
           → Phase t (done ++ (p ∷ [])) (reached r m₀ t (done ++ (p ∷ []))) (coming r t ps)
-      turned t p done ps is-order o q =
+      turned t p done ps is_order o q =
           subst (λ (m : Moment). Phase t (done ++ (p ∷ [])) m (coming r t ps)) (sym (turns_more t p done (through r t m₀)))
-          (⊎_elim (λ (late : r.delay p + r.first p ≤ t). with-frame late q) (λ (early : t < r.delay p + r.first p). without early q) (le-or-lt (r.delay p + r.first p) t))
+          (⊎_elim (λ (late : r.delay p + r.first p ≤ t). with_frame late q) (λ (early : t < r.delay p + r.first p). without early q) (le_or_lt (r.delay p + r.first p) t))
         where
-          with-frame : r.delay p + r.first p ≤ t → Phase t done (reached r m₀ t done) (coming r t (p ∷ ps)) → Phase t (done ++ (p ∷ [])) (turn r t p (reached r m₀ t done)) (coming r t ps)
-          with-frame late (before b un) = from-before t p done ps is-order o late b un
-          with-frame late (first F b come c) = from_first t p done ps is-order o late F b come c
-          with-frame late (later F i b come c w) = from-later t p done ps is-order o late F i wide b come c w
+          with_frame : r.delay p + r.first p ≤ t → Phase t done (reached r m₀ t done) (coming r t (p ∷ ps)) → Phase t (done ++ (p ∷ [])) (turn r t p (reached r m₀ t done)) (coming r t ps)
+          with_frame late (before b un) = from_before t p done ps is_order o late b un
+          with_frame late (first F b come c) = from_first t p done ps is_order o late F b come c
+          with_frame late (later F i b come c w) = from_later t p done ps is_order o late F i wide b come c w
 
           without : t < r.delay p + r.first p → Phase t done (reached r m₀ t done) (coming r t (p ∷ ps)) → Phase t (done ++ (p ∷ [])) (turn r t p (reached r m₀ t done)) (coming r t ps)
           without early q =
-              subst (λ (m : Moment). Phase t (done ++ (p ∷ [])) m (coming r t ps)) (sym (no-frame t p (reached r m₀ t done) early))
+              subst (λ (m : Moment). Phase t (done ++ (p ∷ [])) m (coming r t ps)) (sym (no_frame t p (reached r m₀ t done) early))
               (go q)
             where
               same : coming r t (p ∷ ps) ≡ coming r t ps
-              same = coming-by t t (p ∷ ps) ps (λ k b. unserved r t p ps o early k)
+              same = coming_by t t (p ∷ ps) ps (λ k b. unserved r t p ps o early k)
 
               go : Phase t done (reached r m₀ t done) (coming r t (p ∷ ps)) → Phase t (done ++ (p ∷ [])) (reached r m₀ t done) (coming r t ps)
               go (before b un) =
                   before (subst (λ (n : ℕ → ℕ). Before r (reached r m₀ t done) n) same b)
-                  (unready-more t p done ps is-order un (λ y. un t done (p ∷ ps) is-order (inr (refl, omega arith)) (subst (λ (n : ℕ → ℕ). Ready r n) (sym same) y)))
-              go (first F b come c) = first F b (come-more F b t p done come) (subst (λ (n : ℕ → ℕ). First r (reached r m₀ t done) n (suc (F / L r))) same c)
+                  (unready_more t p done ps is_order un (λ y. un t done (p ∷ ps) is_order (inr (refl, omega arith)) (subst (λ (n : ℕ → ℕ). Ready r n) (sym same) y)))
+              go (first F b come c) = first F b (come_more F b t p done come) (subst (λ (n : ℕ → ℕ). First r (reached r m₀ t done) n (suc (F / L r))) same c)
               go (later F i b come c w) =
-                  later F i b (come-more F b t p done come) (subst (λ (n : ℕ → ℕ). Later r (reached r m₀ t done) n (suc (F / L r)) i) same c) (subst (λ (n : ℕ → ℕ). Owes r n (suc i)) same w)
+                  later F i b (come_more F b t p done come) (subst (λ (n : ℕ → ℕ). Later r (reached r m₀ t done) n (suc (F / L r)) i) same c) (subst (λ (n : ℕ → ℕ). Owes r n (suc i)) same w)
 
       -- the ports of a frame time, one after the other
-      served-all : (t : ℕ) (done ps rest : List ℕ) → r.order t ≡ done ++ (ps ++ rest) → Rest r (ps ++ rest) → Phase t done (reached r m₀ t done) (coming r t (ps ++ rest))
+      served_all : (t : ℕ) (done ps rest : List ℕ) → r.order t ≡ done ++ (ps ++ rest) → Rest r (ps ++ rest) → Phase t done (reached r m₀ t done) (coming r t (ps ++ rest))
           → Phase t (done ++ ps) (reached r m₀ t (done ++ ps)) (coming r t rest)
-      served-all t done [] rest is-order o q = rw (append-nil done) q
-      served-all t done (p ∷ ps) rest is-order o q =
-          let next = turned t p done (ps ++ rest) is-order o q in
-          let e : r.order t ≡ done ++ (p ∷ []) ++ (ps ++ rest) = is-order ∙ sym (append_assoc done (p ∷ []) (ps ++ rest)) in
-          let all = served-all t (done ++ (p ∷ [])) ps rest e (rest-tail r p (ps ++ rest) o) next in
+      served_all t done [] rest is_order o q = rw (append-nil done) q
+      served_all t done (p ∷ ps) rest is_order o q =
+          let next = turned t p done (ps ++ rest) is_order o q in
+          let e : r.order t ≡ done ++ (p ∷ []) ++ (ps ++ rest) = is_order ∙ sym (append_assoc done (p ∷ []) (ps ++ rest)) in
+          let all = served_all t (done ++ (p ∷ [])) ps rest e (rest_tail r p (ps ++ rest) o) next in
           subst (λ (l : List ℕ). Phase t l (reached r m₀ t l) (coming r t rest)) (append_assoc done (p ∷ []) ps) all
 
       -- every frame time from its start
-      at-start : Before r m₀ r.first → (t : ℕ) → Phase t [] (reached r m₀ t []) (coming r t (r.order t))
+      at_start_lem : Before r m₀ r.first → (t : ℕ) → Phase t [] (reached r m₀ t []) (coming r t (r.order t))
       unfolding turns through
-      at-start b zero = before (subst (λ (n : ℕ → ℕ). Before r m₀ n) (coming-first f) b) (unready-first f)
-      at-start b (suc t) =
-          let all = served-all t [] (r.order t) [] (sym (append-nil (r.order t))) (rw (append-nil (r.order t)) (rest_all r f t)) (rw (append-nil (r.order t)) (at-start b t)) in
+      at_start_lem b zero = before (subst (λ (n : ℕ → ℕ). Before r m₀ n) (coming_first f) b) (unready_first f)
+      at_start_lem b (suc t) =
+          let all = served_all t [] (r.order t) [] (sym (append-nil (r.order t))) (rw (append-nil (r.order t)) (rest_all r f t)) (rw (append-nil (r.order t)) (at_start_lem b t)) in
           go all
         where
           same : coming r t [] ≡ coming r (suc t) (r.order (suc t))
-          same = coming-by t (suc t) [] (r.order (suc t)) (λ k h. next-time r f t k h)
+          same = coming_by t (suc t) [] (r.order (suc t)) (λ k h. next_time r f t k h)
 
           go : Phase t (r.order t) (reached r m₀ t (r.order t)) (coming r t []) → Phase (suc t) [] (reached r m₀ t (r.order t)) (coming r (suc t) (r.order (suc t)))
-          go (before c un) = before (subst (λ (n : ℕ → ℕ). Before r (reached r m₀ t (r.order t)) n) same c) (unready-next f t un)
-          go (first F c come d) = first F c (come-next F c t (r.order t) come) (subst (λ (n : ℕ → ℕ). First r (reached r m₀ t (r.order t)) n (suc (F / L r))) same d)
+          go (before c un) = before (subst (λ (n : ℕ → ℕ). Before r (reached r m₀ t (r.order t)) n) same c) (unready_next f t un)
+          go (first F c come d) = first F c (come_next F c t (r.order t) come) (subst (λ (n : ℕ → ℕ). First r (reached r m₀ t (r.order t)) n (suc (F / L r))) same d)
           go (later F i c come d w) =
-              later F i c (come-next F c t (r.order t) come) (subst (λ (n : ℕ → ℕ). Later r (reached r m₀ t (r.order t)) n (suc (F / L r)) i) same d) (subst (λ (n : ℕ → ℕ). Owes r n (suc i)) same w)
+              later F i c (come_next F c t (r.order t) come) (subst (λ (n : ℕ → ℕ). Later r (reached r m₀ t (r.order t)) n (suc (F / L r)) i) same d) (subst (λ (n : ℕ → ℕ). Owes r n (suc i)) same w)
 
       -- every moment
       pub phase : Before r m₀ r.first → (t : ℕ) (done rest : List ℕ) → r.order t ≡ done ++ rest → Phase t done (reached r m₀ t done) (coming r t rest)
       phase b t done rest e =
-          served-all t [] done rest e (rw e at (rest_all r f t)) (rw e at (at-start b t))
+          served_all t [] done rest e (rw e at (rest_all r f t)) (rw e at (at_start_lem b t))
 
       -- 'A fresh receiver begins within 48 frames of the last port's first': after 47, the first counted as 1.
       module _ (fresh_start : Before r m₀ r.first) (T : ℕ) (all_come : (p : ℕ) → p < r.ports → r.delay p + r.first p ≤ T) where
         abbrev by : ℕ
         by = T + (L r * 3 - 1)
 
-        position-by : (q : ℕ) → q < r.ports → coming r by (r.order by) q ≡ by - r.delay q
+        position_by : (q : ℕ) → q < r.ports → coming r by (r.order by) q ≡ by - r.delay q
         unfolding next_at
-        position-by q b =
-            let l = frames-some r.kind in
+        position_by q b =
+            let l = frames_some r.kind in
             let c = all_come q b in
-            coming-is by (r.order by) q b ∙ rw (f.once by q b) (omega arith)
+            coming_is by (r.order by) q b ∙ rw (f.once by q b) (omega arith)
 
-        stepped : (q : ℕ) → q < r.ports → startFrom r.kind r.offset (r.first q) + L r * 2 ≤ coming r by (r.order by) q
+        stepped : (q : ℕ) → q < r.ports → start_from r.kind r.offset (r.first q) + L r * 2 ≤ coming r by (r.order by) q
         stepped q b =
-            let soon = (start-from r.kind r.offset (r.first q)).soon in
+            let soon = (start_from_lem r.kind r.offset (r.first q)).soon in
             let c = all_come q b in
-            let l = frames-some r.kind in
-            rw (position-by q b) (omega arith)
+            let l = frames_some r.kind in
+            rw (position_by q b) (omega arith)
 
         near : (p q : ℕ) → p < r.ports → q < r.ports → coming r by (r.order by) p + L r ≤ coming r by (r.order by) q + r.window
         near p q hp hq =
             let c = all_come p hp in
             let d = all_come q hq in
-            let l = frames-some r.kind in
+            let l = frames_some r.kind in
             let w = f.spread q p hq hp in
-            rw (position-by p hp, position-by q hq) (omega arith)
+            rw (position_by p hp, position_by q hq) (omega arith)
 
-        pub begun-by : hasBegun (reached r m₀ by []) ≡ 1
-        begun-by = go (phase fresh_start by [] (r.order by) refl)
+        pub begun_by : has_begun (reached r m₀ by []) ≡ 1
+        begun_by = go (phase fresh_start by [] (r.order by) refl)
           where
-            go : Phase by [] (reached r m₀ by []) (coming r by (r.order by)) → hasBegun (reached r m₀ by []) ≡ 1
-            go (before b un) = absurd (true≢false (sym (s.must-begin (reached r m₀ by []) (coming r by (r.order by)) b (record { stepped = stepped; near = near })) ∙ b.unfit))
+            go : Phase by [] (reached r m₀ by []) (coming r by (r.order by)) → has_begun (reached r m₀ by []) ≡ 1
+            go (before b un) = absurd (true≢false (sym (s.must_begin (reached r m₀ by []) (coming r by (r.order by)) b (record { stepped = stepped; near = near })) ∙ b.unfit))
             go (first F b come c) = c.open_at.begun
             go (later F i b come c w) = c.open_at.begun
 
@@ -381,12 +381,12 @@ module _ (r : Road) where
       module _ (P : Moment → Type 0) (frame : (p x : ℕ) (m : Moment) → P m → P (framed r p x m))
           (report : (F i : ℕ) (m : Moment) (n : ℕ → ℕ) → Beginning r (reached r m₀) F → Later r m n (suc (F / L r)) i → AllCome r n (suc i) → P m → P (fetched r m)) where
         -- one port's turn with a frame
-        module _ (t p : ℕ) (done ps : List ℕ) (is-order : r.order t ≡ done ++ (p ∷ ps)) (o : Rest r (p ∷ ps)) (late : r.delay p + r.first p ≤ t) (held : P (reached r m₀ t done)) where
+        module _ (t p : ℕ) (done ps : List ℕ) (is_order : r.order t ≡ done ++ (p ∷ ps)) (o : Rest r (p ∷ ps)) (late : r.delay p + r.first p ≤ t) (held : P (reached r m₀ t done)) where
           abbrev now : Moment
           now = reached r m₀ t done
 
-          abbrev served-now : Moment
-          served-now = framed r p (t - r.delay p) now
+          abbrev served_now : Moment
+          served_now = framed r p (t - r.delay p) now
 
           abbrev from : ℕ → ℕ
           from = coming r t (p ∷ ps)
@@ -394,57 +394,57 @@ module _ (r : Road) where
           abbrev to : ℕ → ℕ
           to = coming r t ps
 
-          holds : P served-now
+          holds : P served_now
           holds = frame p (t - r.delay p) now held
 
-          none-due : markNext served-now ≡ 0 → P (turn r t p now)
-          none-due e = subst P (sym (quiet t p done ps is-order o late e)) holds
+          none_due_lem : mark_next served_now ≡ 0 → P (turn r t p now)
+          none_due_lem e = subst P (sym (quiet t p done ps is_order o late e)) holds
 
           serves : Served r p from to
-          serves = moved t p done ps is-order o late
+          serves = moved t p done ps is_order o late
 
           at_place : from p ≡ t - r.delay p
-          at_place = position t p done ps is-order o late
+          at_place = position t p done ps is_order o late
 
-          keeps-frame : Phase t done now from → P (turn r t p now)
-          keeps-frame (before b un) = go (rw at_place at (s.on-before now p from to serves (apart-coming f t ps (rest-tail r p ps o)) (sent-then t p done ps is-order o late un) b))
+          keeps_frame : Phase t done now from → P (turn r t p now)
+          keeps_frame (before b un) = go (rw at_place at (s.on_before now p from to serves (apart_coming f t ps (rest_tail r p ps o)) (sent_then t p done ps is_order o late un) b))
             where
-              go : Begun? r served-now to → P (turn r t p now)
-              go (stays c) = none-due (s.before-none served-now to c)
-              go (comes F fore y c) = none-due (s.first-none served-now (suc (F / L r)) to c)
-          keeps-frame (first F b come c) = go (rw at_place at (s.on-first now p (suc (F / L r)) from to serves (reach-coming f t p ps o late) c))
+              go : Begun? r served_now to → P (turn r t p now)
+              go (stays c) = none_due_lem (s.before_none served_now to c)
+              go (comes F fore y c) = none_due_lem (s.first_none served_now (suc (F / L r)) to c)
+          keeps_frame (first F b come c) = go (rw at_place at (s.on_first now p (suc (F / L r)) from to serves (reach_coming f t p ps o late) c))
             where
-              go : Gathered? r served-now to (suc (F / L r)) → P (turn r t p now)
-              go (waits d) = none-due (s.first-none served-now (suc (F / L r)) to d)
-              go (gathers d v) = none-due (s.later-none served-now (suc (F / L r)) (suc (F / L r)) to d v)
-          keeps-frame (later F i b come c v) = go (rw at_place at (s.on-later now p (suc (F / L r)) i from to serves (reach-coming f t p ps o late) c v))
+              go : Gathered? r served_now to (suc (F / L r)) → P (turn r t p now)
+              go (waits d) = none_due_lem (s.first_none served_now (suc (F / L r)) to d)
+              go (gathers d v) = none_due_lem (s.later_none served_now (suc (F / L r)) (suc (F / L r)) to d v)
+          keeps_frame (later F i b come c v) = go (rw at_place at (s.on_later now p (suc (F / L r)) i from to serves (reach_coming f t p ps o late) c v))
             where
-              go : Later r served-now to (suc (F / L r)) i → P (turn r t p now)
+              go : Later r served_now to (suc (F / L r)) i → P (turn r t p now)
               go d =
-                  ⊎_elim (λ (x : Owes r to (suc i)). none-due (s.later-none served-now (suc (F / L r)) i to d x))
+                  ⊎_elim (λ (x : Owes r to (suc i)). none_due_lem (s.later_none served_now (suc (F / L r)) i to d x))
                   (λ (all : AllCome r to (suc i)).
-                  let l = s.later-one served-now (suc (F / L r)) i to d all in
-                  let x : Owes r to (suc (suc i)) = owes-next p (suc i) from to serves v all in
-                  let e = s.later-none (fetched r served-now) (suc (F / L r)) (suc i) to l.1 x in
-                  subst P (sym (one-turn t p done ps is-order o late ∙ drained-wide r.window served-now wide l.0 e)) (report F i served-now to b d all holds))
-                  (owes-or-come r to (suc i))
+                  let l = s.later_one served_now (suc (F / L r)) i to d all in
+                  let x : Owes r to (suc (suc i)) = owes_next p (suc i) from to serves v all in
+                  let e = s.later_none (fetched r served_now) (suc (F / L r)) (suc i) to l.1 x in
+                  subst P (sym (one_turn t p done ps is_order o late ∙ drained_wide r.window served_now wide l.0 e)) (report F i served_now to b d all holds))
+                  (owes_or_come r to (suc i))
 
         module _ (fresh_start : Before r m₀ r.first) (at_first : P m₀) where
-          keeps-all : (t : ℕ) (done ps rest : List ℕ) → r.order t ≡ done ++ (ps ++ rest) → Rest r (ps ++ rest) → P (reached r m₀ t done) → P (reached r m₀ t (done ++ ps))
-          keeps-all t done [] rest is-order o w = rw (append-nil done) w
-          keeps-all t done (p ∷ ps) rest is-order o w =
+          keeps_all : (t : ℕ) (done ps rest : List ℕ) → r.order t ≡ done ++ (ps ++ rest) → Rest r (ps ++ rest) → P (reached r m₀ t done) → P (reached r m₀ t (done ++ ps))
+          keeps_all t done [] rest is_order o w = rw (append-nil done) w
+          keeps_all t done (p ∷ ps) rest is_order o w =
               let more : P (turn r t p (reached r m₀ t done)) =
-              ⊎_elim (λ (late : r.delay p + r.first p ≤ t). keeps-frame t p done (ps ++ rest) is-order o late w (phase fresh_start t done (p ∷ (ps ++ rest)) is-order))
-              (λ (early : t < r.delay p + r.first p). subst P (sym (no-frame t p (reached r m₀ t done) early)) w)
-              (le-or-lt (r.delay p + r.first p) t) in
-              let e : r.order t ≡ done ++ (p ∷ []) ++ (ps ++ rest) = is-order ∙ sym (append_assoc done (p ∷ []) (ps ++ rest)) in
+              ⊎_elim (λ (late : r.delay p + r.first p ≤ t). keeps_frame t p done (ps ++ rest) is_order o late w (phase fresh_start t done (p ∷ (ps ++ rest)) is_order))
+              (λ (early : t < r.delay p + r.first p). subst P (sym (no_frame t p (reached r m₀ t done) early)) w)
+              (le_or_lt (r.delay p + r.first p) t) in
+              let e : r.order t ≡ done ++ (p ∷ []) ++ (ps ++ rest) = is_order ∙ sym (append_assoc done (p ∷ []) (ps ++ rest)) in
               subst (λ (l : List ℕ). P (reached r m₀ t l)) (append_assoc done (p ∷ []) ps)
-              (keeps-all t (done ++ (p ∷ [])) ps rest e (rest-tail r p (ps ++ rest) o) (subst P (sym (turns_more t p done (through r t m₀))) more))
+              (keeps_all t (done ++ (p ∷ [])) ps rest e (rest_tail r p (ps ++ rest) o) (subst P (sym (turns_more t p done (through r t m₀))) more))
 
-          keeps-from : (t : ℕ) → P (reached r m₀ t [])
+          keeps_from : (t : ℕ) → P (reached r m₀ t [])
           unfolding turns through
-          keeps-from zero = at_first
-          keeps-from (suc t) = keeps-all t [] (r.order t) [] (sym (append-nil (r.order t))) (rw (append-nil (r.order t)) (rest_all r f t)) (keeps-from t)
+          keeps_from zero = at_first
+          keeps_from (suc t) = keeps_all t [] (r.order t) [] (sym (append-nil (r.order t))) (rw (append-nil (r.order t)) (rest_all r f t)) (keeps_from t)
 
           pub along : (t : ℕ) (done rest : List ℕ) → r.order t ≡ done ++ rest → P (reached r m₀ t done)
-          along t done rest e = keeps-all t [] done rest e (rw e at (rest_all r f t)) (keeps-from t)
+          along t done rest e = keeps_all t [] done rest e (rw e at (rest_all r f t)) (keeps_from t)

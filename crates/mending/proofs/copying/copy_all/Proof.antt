@@ -1,4 +1,4 @@
-use Rattle.mending.specs.Laws.Copies.{lines-asked, lines_left}
+use Rattle.mending.specs.Laws.Copies.{lines_asked, lines_left}
 use lib.Seq.{length-take-le}
 use mathlib.Core.Path.{sym}
 use borrow.Author.Rules.{rules}
@@ -17,7 +17,7 @@ lay-requires c κs = search rules
 copy-lines-requires : tie.Need-copy-lines-requires
 copy-lines-requires c κs =
     let s = c.before.before.before.before.before.before.before.before in
-    lines-asked s.args.counted s.args.ports s.args.size s.args.start s.args.text.now s.args.mended.now _ s.requires.0 c.before.before.before.lay.ensures s.requires.2 s.requires.1
+    lines_asked s.args.counted s.args.ports s.args.size s.args.start s.args.text.now s.args.mended.now _ s.requires.0 c.before.before.before.lay.ensures s.requires.2 s.requires.1
 
 -- src/copying.rt:109:1
 same_length : tie.Need-same-length

@@ -1,8 +1,8 @@
-use Rattle.mending.specs.Laws.Sweeps.{sweepEnd}
+use Rattle.mending.specs.Laws.Sweeps.{sweep_end}
 use mathlib.Core.Path.{◌∙◌}
-use Rattle.mending.specs.Laws.Copies.{part-is}
-use Rattle.mending.proofs.Promised.{copy-dropped, copy-kept}
-use Rattle.mending.specs.Laws.Copies.{Copying, copying-ends, copying-starts}
+use Rattle.mending.specs.Laws.Copies.{part_is}
+use Rattle.mending.proofs.Promised.{copy_dropped, copy_kept}
+use Rattle.mending.specs.Laws.Copies.{Copying, copying_ends, copying_starts}
 use lib.ListN.{length, replicate}
 use Prim.Native.Nat.{◌-◌}
 use mathlib.Core.Path.{ap}
@@ -29,7 +29,7 @@ no-keys-requires c κs = search rules
 loop-holds : tie.Need-loop-init invariant-loop decreases-loop
 loop-holds c =
     let s = c.before.before.before.before in
-    copying-starts s.args.counted s.args.ports s.args.size s.args.start s.args.text.now s.args.mended.now s.requires.0 s.requires.2 _ _ (ap (replicate 64) c.before.none_yet.ensures) (ap (replicate 64) c.no_keys.ensures)
+    copying_starts s.args.counted s.args.ports s.args.size s.args.start s.args.text.now s.args.mended.now s.requires.0 s.requires.2 _ _ (ap (replicate 64) c.before.none_yet.ensures) (ap (replicate 64) c.no_keys.ensures)
 
 -- src/copying.rt:88:13
 read-line-requires : tie.Need-read-line-requires invariant-loop decreases-loop
@@ -137,9 +137,9 @@ loop-again c =
     let r = c.before.before.before.before.before.before.before.before.before.before.before.before.before.before.before.read-line in
     let a = r.ensures.1.ahead in
     let w = l.invariant.within in
-    copy-kept s.args.counted s.args.ports s.args.size s.args.start s.args.text.now s.args.mended.now s.requires.3 l.follows l.keys l.at l.to l.mended l.invariant c.before.before.before.before.before.before.before.before.before.before.before.before.before.before.before.before.loop-test.true
+    copy_kept s.args.counted s.args.ports s.args.size s.args.start s.args.text.now s.args.mended.now s.requires.3 l.follows l.keys l.at l.to l.mended l.invariant c.before.before.before.before.before.before.before.before.before.before.before.before.before.before.before.before.loop-test.true
     r.result r.ensures.0 c.before.before.before.before.before.before.before.before.before.before.before.before.before.before.if1.true r.ensures.1.port c.before.before.before.before.before.before.before.before.before.before.before.followed-if.result c.before.before.before.before.before.before.before.before.before.before.before.followed-if.ensures _ c.before.before.before.before.before.before.before.before.before.restore.ensures _
-    (part-is l.at r.result.next s.args.text.now (omega arith) w) _ c.before.before.before.before.lay.ensures c.with-key.result c.with-key.ensures
+    (part_is l.at r.result.next s.args.text.now (omega arith) w) _ c.before.before.before.before.lay.ensures c.with-key.result c.with-key.ensures
 
 -- src/copying.rt:87:5
 loop-less-2 : tie.Need-loop-smaller-2 invariant-loop decreases-loop
@@ -151,7 +151,7 @@ loop-again-2 c =
     let s = c.before.before.before.before.before.before.before.before in
     let l = c.before.before.before.loop in
     let r = c.before.read-line in
-    copy-dropped s.args.counted s.args.ports s.args.size s.args.start s.args.text.now s.args.mended.now s.requires.3 l.follows l.keys l.at l.to l.mended l.invariant c.before.before.loop-test.true
+    copy_dropped s.args.counted s.args.ports s.args.size s.args.start s.args.text.now s.args.mended.now s.requires.3 l.follows l.keys l.at l.to l.mended l.invariant c.before.before.loop-test.true
     r.result r.ensures.0 c.if1.false
 
 -- src/copying.rt:105:5
@@ -167,7 +167,7 @@ returns : tie.Need-returns invariant-loop decreases-loop
 returns c =
     let s = c.before.before.before.before.before.before.before.before.before.before in
     let l = c.before.before.before.before.before.loop in
-    c.before.before.finish.ensures ∙ ap (sweepEnd 64) (copying-ends s.args.counted s.args.ports s.args.size s.args.start s.args.text.now s.args.mended.now s.requires.3 l.follows l.keys l.at l.to l.mended l.invariant c.before.before.before.before.loop-test.false)
+    c.before.before.finish.ensures ∙ ap (sweep_end 64) (copying_ends s.args.counted s.args.ports s.args.size s.args.start s.args.text.now s.args.mended.now s.requires.3 l.follows l.keys l.at l.to l.mended l.invariant c.before.before.before.before.loop-test.false)
 
 pub copy-lines-spec : {M : Type 1} → statement M
 copy-lines-spec =

@@ -1,6 +1,6 @@
 use Rattle.mending.proofs.Promised.{ended_by}
-use Rattle.mending.specs.Laws.Sweeps.{sweepEnd}
-use Rattle.mending.specs.Laws.Copies.{sweepIn}
+use Rattle.mending.specs.Laws.Sweeps.{sweep_end}
+use Rattle.mending.specs.Laws.Copies.{sweep_in}
 use lib.ListN.{length}
 use Prim.Native.Nat.{◌-◌, ◌≤◌}
 use mathlib.Core.Path.{◌≡◌, refl, ◌∙◌}
@@ -10,7 +10,7 @@ use Rattle.mending.proofs.copying.finish.Statement.{statement}
 use Rattle.mending.proofs.copying.finish.Tie as tie
 
 abbrev invariant-loop : tie.invariant-loop
-invariant-loop mended₀ follows keys i₀ mended i = (i ≤ 64) × (length follows ≡ 64) × (length keys ≡ 64) × (length mended ≡ length mended₀) × (mended ≡ sweepEnd i (sweepIn follows keys mended₀))
+invariant-loop mended₀ follows keys i₀ mended i = (i ≤ 64) × (length follows ≡ 64) × (length keys ≡ 64) × (length mended ≡ length mended₀) × (mended ≡ sweep_end i (sweep_in follows keys mended₀))
 
 abbrev decreases-loop : tie.decreases-loop
 decreases-loop mended₀ follows keys i₀ mended i = 64 - i

@@ -1,4 +1,4 @@
-use Rattle.mending.specs.Follow.{countBack}
+use Rattle.mending.specs.Follow.{count_back}
 use mathlib.Core.Path.{refl}
 use native.Mathlib.Omega.{arith}
 use borrow.Author.Rules.{rules}
@@ -19,7 +19,7 @@ sub-result c = search rules
 
 -- src/follow.rt:40:1
 returns : tie.Need-returns
-unfolding countBack
+unfolding count_back
 returns c = (refl, omega arith)
 
 pub count-back-spec : {M : Type 1} → statement M

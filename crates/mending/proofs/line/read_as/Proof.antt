@@ -1,4 +1,4 @@
-use Rattle.mending.specs.Laws.Reads.{readFound}
+use Rattle.mending.specs.Laws.Reads.{read_found}
 use mathlib.Core.Path.{refl}
 use borrow.Author.Rules.{rules}
 use Rattle.mending.proofs.line.read_as.Statement.{statement}
@@ -58,27 +58,27 @@ dropped-requires-4 c κs = search rules
 
 -- src/line.rt:45:1
 returns : tie.Need-returns
-unfolding readFound
+unfolding read_found
 returns c = rw c.before.found.given.1 refl
 
 -- src/line.rt:45:1
 returns-2 : tie.Need-returns-2
-unfolding readFound
+unfolding read_found
 returns-2 c = rw c.before.before.found2.given.1 c.dropped.ensures
 
 -- src/line.rt:45:1
 returns-3 : tie.Need-returns-3
-unfolding readFound
+unfolding read_found
 returns-3 c = rw c.before.enum_told.given.1 c.dropped2.ensures
 
 -- src/line.rt:45:1
 returns-4 : tie.Need-returns-4
-unfolding readFound
+unfolding read_found
 returns-4 c = rw c.before.enum-told2.given.1 c.dropped3.ensures
 
 -- src/line.rt:45:1
 returns-5 : tie.Need-returns-5
-unfolding readFound
+unfolding read_found
 returns-5 c = rw c.before.enum-told3.given.1 c.dropped4.ensures
 
 pub read-as-spec : {M : Type 1} → statement M

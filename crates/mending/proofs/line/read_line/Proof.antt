@@ -1,4 +1,4 @@
-use Rattle.mending.specs.Laws.Reads.{found_of, last_of, read_of}
+use Rattle.mending.specs.Laws.Reads.{found_of_lem, last_of, read_of}
 use mathlib.Core.Path.{sym, ◌∙◌}
 use borrow.Author.Rules.{rules}
 use Rattle.mending.proofs.line.read_line.Statement.{statement}
@@ -36,7 +36,7 @@ returns c =
 read-as-requires-2 : tie.Need-read-as-requires-2
 read-as-requires-2 c κs =
     let s = c.before.before.before.before in
-    let f = found_of s.args.ports s.args.size s.args.at s.args.text.now s.requires.0 c.before.before.record-at.result c.before.before.record-at.ensures
+    let f = found_of_lem s.args.ports s.args.size s.args.at s.args.text.now s.requires.0 c.before.before.record-at.result c.before.before.record-at.ensures
     (sym c.before.is-unended.ensures ∙ c.if1.false) in
     (f.place, f.next)
 
@@ -44,7 +44,7 @@ read-as-requires-2 c κs =
 returns-2 : tie.Need-returns-2
 returns-2 c =
     let s = c.before.before.before.before.before in
-    let f = found_of s.args.ports s.args.size s.args.at s.args.text.now s.requires.0 c.before.before.before.record-at.result c.before.before.before.record-at.ensures
+    let f = found_of_lem s.args.ports s.args.size s.args.at s.args.text.now s.requires.0 c.before.before.before.record-at.result c.before.before.before.record-at.ensures
     (sym c.before.before.is-unended.ensures ∙ c.before.if1.false) in
     read_of s.args.ports s.args.size s.args.at s.args.text.now s.requires.0 s.requires.1 1 c.before.before.before.record-at.result f c.read-as2.result c.read-as2.ensures
 

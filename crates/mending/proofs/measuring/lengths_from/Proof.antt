@@ -1,5 +1,5 @@
-use Rattle.mending.specs.Laws.Counting.{whole-lengths}
-use Rattle.mending.specs.Laws.Counting.{Counting, count-dropped-turn, count-kept-turn, counting-ends, counting-starts}
+use Rattle.mending.specs.Laws.Counting.{whole_lengths}
+use Rattle.mending.specs.Laws.Counting.{Counting, count_dropped_turn, count_kept_turn, counting_ends, counting_starts}
 use lib.ListN.{length, replicate}
 use Prim.Native.Nat.{◌-◌}
 use mathlib.Core.Path.{ap}
@@ -28,7 +28,7 @@ no-keys-requires c κs = search rules
 loop-holds : tie.Need-loop-init invariant-loop decreases-loop
 loop-holds c =
     let s = c.before.before.before in
-    counting-starts s.args.counted s.args.ports s.args.size s.args.start s.args.text.now s.requires.0 _ _ (ap (replicate 64) c.before.none_yet.ensures) (ap (replicate 64) c.no_keys.ensures)
+    counting_starts s.args.counted s.args.ports s.args.size s.args.start s.args.text.now s.requires.0 _ _ (ap (replicate 64) c.before.none_yet.ensures) (ap (replicate 64) c.no_keys.ensures)
 
 -- src/measuring.rt:132:13
 read-line-requires : tie.Need-read-line-requires invariant-loop decreases-loop
@@ -109,7 +109,7 @@ loop-again c =
     let s = c.before.before.before.before.before.before.before.before.before.before.before.before.before in
     let l = c.before.before.before.before.before.before.before.before.before.loop in
     let r = c.before.before.before.before.before.before.before.read-line in
-    count-kept-turn s.args.counted s.args.ports s.args.size s.args.start s.args.text.now l.follows l.keys l.at l.mended l.notes l.number l.invariant c.before.before.before.before.before.before.before.before.loop-test.true
+    count_kept_turn s.args.counted s.args.ports s.args.size s.args.start s.args.text.now l.follows l.keys l.at l.mended l.notes l.number l.invariant c.before.before.before.before.before.before.before.before.loop-test.true
     r.result r.ensures.0 c.before.before.before.before.followed-if.result c.before.before.before.before.followed-if.ensures c.before.before.before.noted-by.result c.before.before.before.noted-by.ensures c.before.before.more.result c.before.before.more.ensures
     c.before.if1.true r.ensures.1.port c.with-key.result c.with-key.ensures
 
@@ -123,7 +123,7 @@ loop-again-2 c =
     let s = c.before.before.before.before.before.before.before.before.before.before.before.before in
     let l = c.before.before.before.before.before.before.before.before.loop in
     let r = c.before.before.before.before.before.before.read-line in
-    count-dropped-turn s.args.counted s.args.ports s.args.size s.args.start s.args.text.now l.follows l.keys l.at l.mended l.notes l.number l.invariant c.before.before.before.before.before.before.before.loop-test.true
+    count_dropped_turn s.args.counted s.args.ports s.args.size s.args.start s.args.text.now l.follows l.keys l.at l.mended l.notes l.number l.invariant c.before.before.before.before.before.before.before.loop-test.true
     r.result r.ensures.0 c.before.before.before.followed-if.result c.before.before.before.followed-if.ensures c.before.before.noted-by.result c.before.before.noted-by.ensures c.before.more.result c.before.more.ensures c.if1.false
 
 -- src/measuring.rt:150:9
@@ -135,8 +135,8 @@ returns : tie.Need-returns invariant-loop decreases-loop
 returns c =
     let s = c.before.before.before.before.before.before in
     let l = c.before.before.loop in
-    whole-lengths s.args.counted s.args.ports s.args.size s.args.start s.args.text.now l.follows l.keys l.mended l.notes
-    (counting-ends s.args.counted s.args.ports s.args.size s.args.start s.args.text.now l.follows l.keys l.at l.mended l.notes l.number l.invariant c.before.loop-test.false) _
+    whole_lengths s.args.counted s.args.ports s.args.size s.args.start s.args.text.now l.follows l.keys l.mended l.notes
+    (counting_ends s.args.counted s.args.ports s.args.size s.args.start s.args.text.now l.follows l.keys l.at l.mended l.notes l.number l.invariant c.before.loop-test.false) _
     (λ i. record { mended = l.mended; notes = c.with-last.ensures i; answer = 0 })
 
 pub lengths-from-spec : {M : Type 1} → statement M

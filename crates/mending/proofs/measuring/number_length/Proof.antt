@@ -1,4 +1,4 @@
-use Rattle.mending.specs.Laws.Counting.{number-told}
+use Rattle.mending.specs.Laws.Counting.{number_told}
 use lib.ListN.{replicate}
 use mathlib.Core.Path.{refl}
 use borrow.Author.Rules.{rules}
@@ -15,7 +15,7 @@ put-decimal-requires c κs = search rules
 
 -- src/measuring.rt:46:1
 returns : tie.Need-returns
-returns c = number-told c.before.before.before.args.number (replicate 21 0) refl c.before.put-decimal.result c.before.put-decimal.ensures.0
+returns c = number_told c.before.before.before.args.number (replicate 21 0) refl c.before.put-decimal.result c.before.put-decimal.ensures.0
 
 pub number-length-spec : {M : Type 1} → statement M
 number-length-spec = tie.close (tie.spec slice-aggregate-put-decimal put-decimal-requires returns)

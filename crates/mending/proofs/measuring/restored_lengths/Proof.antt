@@ -1,4 +1,4 @@
-use Rattle.mending.specs.Laws.Counting.{lengths-by}
+use Rattle.mending.specs.Laws.Counting.{lengths_by_lem}
 use borrow.Author.Rules.{rules}
 use Rattle.mending.proofs.measuring.restored_lengths.Statement.{statement}
 use Rattle.mending.proofs.measuring.restored_lengths.Tie as tie
@@ -39,7 +39,7 @@ add-result-2 c = search rules
 returns : tie.Need-returns
 returns c =
     let s = c.before.before.before.before.before.before.args in
-    lengths-by s.before s.after s.numbers c.before.before.restored-length.result c.before.restored-length2.result c.restored-length3.result c.before.before.before.before.before.is-first.result c.before.before.before.before.is-second.result c.before.before.before.is-third.result
+    lengths_by_lem s.before s.after s.numbers c.before.before.restored-length.result c.before.restored-length2.result c.restored-length3.result c.before.before.before.before.before.is-first.result c.before.before.before.before.is-second.result c.before.before.before.is-third.result
     c.before.before.restored-length.ensures.0 c.before.restored-length2.ensures.0 c.restored-length3.ensures.0 c.before.before.before.before.before.is-first.ensures c.before.before.before.before.is-second.ensures c.before.before.before.is-third.ensures
 
 pub restored-lengths-spec : {M : Type 1} → statement M

@@ -1,6 +1,6 @@
 use Rattle.mending.specs.Told.{told}
-use Rattle.mending.specs.Laws.Sweeps.{lengthEnd}
-use Rattle.mending.specs.Laws.Counting.{countIn, end-turn, told_none}
+use Rattle.mending.specs.Laws.Sweeps.{length_end}
+use Rattle.mending.specs.Laws.Counting.{count_in, end_turn, told_none}
 use lib.ListN.{length}
 use Prim.Native.Nat.{◌+◌, ◌-◌, ◌≤◌}
 use mathlib.Core.Path.{◌≡◌}
@@ -10,7 +10,7 @@ use Rattle.mending.proofs.measuring.with_last.Statement.{statement}
 use Rattle.mending.proofs.measuring.with_last.Tie as tie
 
 abbrev invariant-loop : tie.invariant-loop
-invariant-loop before follows keys notes₀ i₀ notes i = (i ≤ 64) × (length follows ≡ 64) × (length keys ≡ 64) × (notes ≡ told (before + lengthEnd i (countIn follows keys 0)))
+invariant-loop before follows keys notes₀ i₀ notes i = (i ≤ 64) × (length follows ≡ 64) × (length keys ≡ 64) × (notes ≡ told (before + length_end i (count_in follows keys 0)))
 
 abbrev decreases-loop : tie.decreases-loop
 decreases-loop before follows keys notes₀ i₀ notes i = 64 - i
@@ -60,7 +60,7 @@ loop-again : tie.Need-loop-preserved invariant-loop decreases-loop
 loop-again c =
     let i = c.before.before.before.before.before.before.loop.invariant in
     let s = c.before.before.before.before.before.before.before.args in
-    (omega arith, i.1, i.2, end-turn s.t1 s.t2 c.before.before.before.before.before.before.loop.i s.before c.before.before.before.before.before.before.loop.notes c.before.restored-length.result c.more.result c.before.before.is_last.result i.3 c.before.before.is_last.ensures c.before.restored-length.ensures.0 c.more.ensures)
+    (omega arith, i.1, i.2, end_turn s.t1 s.t2 c.before.before.before.before.before.before.loop.i s.before c.before.before.before.before.before.before.loop.notes c.before.restored-length.result c.more.result c.before.before.is_last.result i.3 c.before.before.is_last.ensures c.before.restored-length.ensures.0 c.more.ensures)
 
 -- src/measuring.rt:102:1
 returns : tie.Need-returns invariant-loop decreases-loop

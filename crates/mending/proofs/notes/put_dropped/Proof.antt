@@ -1,7 +1,7 @@
 use lib.Seq.{slice}
 use native.Mathlib.Omega.{arith}
-use Rattle.mending.specs.Laws.Noting.{dropped-put}
-use Rattle.mending.specs.Laws.Copies.{part-is}
+use Rattle.mending.specs.Laws.Noting.{dropped_put}
+use Rattle.mending.specs.Laws.Copies.{part_is}
 use borrow.Author.Rules.{rules}
 use Rattle.mending.proofs.notes.put_dropped.Statement.{statement}
 use Rattle.mending.proofs.notes.put_dropped.Tie as tie
@@ -52,8 +52,8 @@ returns c =
     let s = c.before.before.before.before.before.before.before.before.before.before.before.before.before.before.before.before.before.before.before.before.before in
     let a = s.requires.0 in
     let b = s.requires.1 in
-    dropped-put s.args.number (slice s.args.at s.args.end s.args.text.now) s.args.notes.now s.args.start s.requires.2
-    c.before.before.before.before.before.before.before.before.before.before.before.before.before.before.before.before.before.put-decimal.ensures c.before.before.before.before.before.before.before.before.before.before.before.before.put.ensures (rw (part-is s.args.at s.args.end s.args.text.now a (omega arith)) at c.before.before.before.before.before.before.before.put2.ensures) c.before.before.put3.ensures
+    dropped_put s.args.number (slice s.args.at s.args.end s.args.text.now) s.args.notes.now s.args.start s.requires.2
+    c.before.before.before.before.before.before.before.before.before.before.before.before.before.before.before.before.before.put-decimal.ensures c.before.before.before.before.before.before.before.before.before.before.before.before.put.ensures (rw (part_is s.args.at s.args.end s.args.text.now a (omega arith)) at c.before.before.before.before.before.before.before.put2.ensures) c.before.before.put3.ensures
 
 pub put-dropped-spec : {M : Type 1} → statement M
 put-dropped-spec =

@@ -1,4 +1,4 @@
-use Rattle.mending.specs.Laws.Noting.{put-nothing, read_dropped, read-other, read_same}
+use Rattle.mending.specs.Laws.Noting.{put_nothing, read_dropped_lem, read_other, read_same}
 use borrow.Author.Tests.{not-false, not-true}
 use native.Mathlib.Omega.{arith}
 use borrow.Author.Rules.{rules}
@@ -12,7 +12,7 @@ put-dropped-requires c κs =
     let b = s.requires.0 in
     let u = b.ends in
     let w = b.within in
-    (b.starts, omega arith, rw (read_dropped s.args.number s.args.text.now s.args.at s.args.mended.now s.args.to s.args.read (not-true s.args.read.kept c.before.if1.true)) at s.requires.2)
+    (b.starts, omega arith, rw (read_dropped_lem s.args.number s.args.text.now s.args.at s.args.mended.now s.args.to s.args.read (not-true s.args.read.kept c.before.if1.true)) at s.requires.2)
 
 -- src/notes.rt:70:9
 same_length : tie.Need-same-length
@@ -22,7 +22,7 @@ same_length c = search rules
 returns : tie.Need-returns
 returns c =
     let s = c.before.before.before.before.before.before.before.before.before in
-    rw (read_dropped s.args.number s.args.text.now s.args.at s.args.mended.now s.args.to s.args.read (not-true s.args.read.kept c.before.before.before.before.if1.true)) c.before.before.put-dropped.ensures
+    rw (read_dropped_lem s.args.number s.args.text.now s.args.at s.args.mended.now s.args.to s.args.read (not-true s.args.read.kept c.before.before.before.before.if1.true)) c.before.before.put-dropped.ensures
 
 -- src/notes.rt:73:9
 byte-at-requires : tie.Need-byte-at-requires
@@ -54,7 +54,7 @@ returns-2 : tie.Need-returns-2
 returns-2 c =
     let s = c.before.before.before.before.before.before.before.before in
     rw (read_same s.args.number s.args.text.now s.args.at s.args.mended.now s.args.to s.args.read (not-false s.args.read.kept c.before.before.before.if1.false) c.before.before.byte_at.result c.before.byte-at2.result
-    c.before.before.byte_at.ensures c.before.byte-at2.ensures c.if2.true) (put-nothing s.args.notes.now s.args.start)
+    c.before.before.byte_at.ensures c.before.byte-at2.ensures c.if2.true) (put_nothing s.args.notes.now s.args.start)
 
 -- src/notes.rt:80:23
 sub-byte-at-2 : tie.Need-overflow-sub-byte-at-2
@@ -68,7 +68,7 @@ byte-at-requires-3 c κs = search rules
 put-restored-requires : tie.Need-put-restored-requires
 put-restored-requires c κs =
     let s = c.before.before.before.before.before.before.before.before.before.before in
-    rw (read-other s.args.number s.args.text.now s.args.at s.args.mended.now s.args.to s.args.read (not-false s.args.read.kept c.before.before.before.before.before.if1.false) c.before.byte-at3.result c.before.before.before.before.byte_at.result c.before.before.before.byte-at2.result
+    rw (read_other s.args.number s.args.text.now s.args.at s.args.mended.now s.args.to s.args.read (not-false s.args.read.kept c.before.before.before.before.before.if1.false) c.before.byte-at3.result c.before.before.before.before.byte_at.result c.before.before.before.byte-at2.result
     c.before.byte-at3.ensures c.before.before.before.before.byte_at.ensures c.before.before.before.byte-at2.ensures c.before.before.if2.false) at s.requires.2
 
 -- src/notes.rt:56:1
@@ -79,7 +79,7 @@ same-length-2 c = search rules
 returns-3 : tie.Need-returns-3
 returns-3 c =
     let s = c.before.before.before.before.before.before.before.before.before.before.before.before.before in
-    rw (read-other s.args.number s.args.text.now s.args.at s.args.mended.now s.args.to s.args.read (not-false s.args.read.kept c.before.before.before.before.before.before.before.before.if1.false) c.before.before.before.before.byte-at3.result c.before.before.before.before.before.before.before.byte_at.result c.before.before.before.before.before.before.byte-at2.result
+    rw (read_other s.args.number s.args.text.now s.args.at s.args.mended.now s.args.to s.args.read (not-false s.args.read.kept c.before.before.before.before.before.before.before.before.if1.false) c.before.before.before.before.byte-at3.result c.before.before.before.before.before.before.before.byte_at.result c.before.before.before.before.before.before.byte-at2.result
     c.before.before.before.before.byte-at3.ensures c.before.before.before.before.before.before.before.byte_at.ensures c.before.before.before.before.before.before.byte-at2.ensures c.before.before.before.before.before.if2.false) c.before.before.put-restored.ensures
 
 pub put-note-spec : {M : Type 1} → statement M

@@ -1,4 +1,4 @@
-use Rattle.mending.specs.Laws.Noting.{Noting, note-turn, noting-ends, noting-starts, turn-fits}
+use Rattle.mending.specs.Laws.Noting.{Noting, note_turn, noting_ends, noting_starts, turn_fits}
 use lib.ListN.{length}
 use Prim.Native.Nat.{◌-◌}
 use mathlib.Core.Path.{sym, ◌∙◌}
@@ -14,7 +14,7 @@ decreases-loop text start ports size mended notes₀ at₀ to₀ number₀ writt
 
 -- src/notes.rt:114:5
 loop-holds : tie.Need-loop-init invariant-loop decreases-loop
-loop-holds c = let s = c.before.before.before in noting-starts s.args.ports s.args.size s.args.start s.args.text.now s.args.mended.now s.args.notes.now s.requires.0 s.requires.2
+loop-holds c = let s = c.before.before.before in noting_starts s.args.ports s.args.size s.args.start s.args.text.now s.args.mended.now s.args.notes.now s.requires.0 s.requires.2
 
 -- src/notes.rt:115:13
 read-line-requires : tie.Need-read-line-requires invariant-loop decreases-loop
@@ -26,7 +26,7 @@ put-note-requires c κs =
     let s = c.before.before.before.before.before.before.before in
     let l = c.before.before.before.loop in
     let r = c.before.read-line in
-    (r.ensures.1, l.invariant.behind, turn-fits s.args.ports s.args.size s.args.start s.args.text.now s.args.mended.now l.at l.to l.number l.written l.notes l.invariant c.before.before.loop-test.true r.result r.ensures.0)
+    (r.ensures.1, l.invariant.behind, turn_fits s.args.ports s.args.size s.args.start s.args.text.now s.args.mended.now l.at l.to l.number l.written l.notes l.invariant c.before.before.loop-test.true r.result r.ensures.0)
 
 -- src/notes.rt:117:9
 after-requires : tie.Need-after-requires invariant-loop decreases-loop
@@ -46,7 +46,7 @@ loop-again c =
     let s = c.before.before.before.before.before.before.before.before.before.before.before in
     let l = c.before.before.before.before.before.before.before.loop in
     let r = c.before.before.before.before.before.read-line in
-    note-turn s.args.ports s.args.size s.args.start s.args.text.now s.args.mended.now l.at l.to l.number l.written l.notes l.invariant c.before.before.before.before.before.before.loop-test.true r.result r.ensures.0
+    note_turn s.args.ports s.args.size s.args.start s.args.text.now s.args.mended.now l.at l.to l.number l.written l.notes l.invariant c.before.before.before.before.before.before.loop-test.true r.result r.ensures.0
     _ c.before.before.before.put-note.result c.after.result c.before.before.before.put-note.ensures c.after.ensures
 
 -- src/notes.rt:99:1
@@ -58,7 +58,7 @@ returns : tie.Need-returns invariant-loop decreases-loop
 returns c =
     let s = c.before.before.before.before.before in
     let l = c.before.loop in
-    noting-ends s.args.ports s.args.size s.args.start s.args.text.now s.args.mended.now l.at l.to l.number l.written l.notes l.invariant c.loop-test.false
+    noting_ends s.args.ports s.args.size s.args.start s.args.text.now s.args.mended.now l.at l.to l.number l.written l.notes l.invariant c.loop-test.false
 
 pub put-notes-spec : {M : Type 1} → statement M
 put-notes-spec =

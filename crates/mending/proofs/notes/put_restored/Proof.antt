@@ -1,4 +1,4 @@
-use Rattle.mending.specs.Laws.Noting.{restored-put}
+use Rattle.mending.specs.Laws.Noting.{restored_put}
 use borrow.Author.Rules.{rules}
 use Rattle.mending.proofs.notes.put_restored.Statement.{statement}
 use Rattle.mending.proofs.notes.put_restored.Tie as tie
@@ -31,7 +31,7 @@ same_length c = search rules
 returns : tie.Need-returns
 returns c =
     let s = c.before.before.before.before.before.before.before.before.before.before.before.before.before.before.before in
-    restored-put s.args.number s.args.high s.args.old s.args.new s.args.notes.now s.args.start s.requires c.before.before.before.before.before.before.before.before.before.before.before.before.put-decimal.ensures c.before.before.before.before.before.before.before.put.ensures c.before.before.put2.ensures
+    restored_put s.args.number s.args.high s.args.old s.args.new s.args.notes.now s.args.start s.requires c.before.before.before.before.before.before.before.before.before.before.before.before.put-decimal.ensures c.before.before.before.before.before.before.before.put.ensures c.before.before.put2.ensures
 
 pub put-restored-spec : {M : Type 1} → statement M
 put-restored-spec =

@@ -1,4 +1,4 @@
-use Rattle.mending.specs.Laws.Starts.{few-ports, fits_by, fits_not}
+use Rattle.mending.specs.Laws.Starts.{few_ports, fits_by, fits_not}
 use mathlib.Core.Path.{sym, ◌∙◌}
 use borrow.Author.Rules.{rules}
 use Rattle.mending.proofs.opening.is_fitting.Statement.{statement}
@@ -10,7 +10,7 @@ is-startable-requires c κs = search rules
 
 -- src/opening.rt:48:9
 times-fit-requires : tie.Need-times-fit-requires
-times-fit-requires c κs = few-ports c.before.before.args.settings (sym c.before.is-startable.ensures ∙ c.if1.true)
+times-fit-requires c κs = few_ports c.before.before.args.settings (sym c.before.is-startable.ensures ∙ c.if1.true)
 
 -- src/opening.rt:48:9
 returns : tie.Need-returns

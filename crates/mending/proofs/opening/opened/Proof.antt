@@ -1,5 +1,5 @@
-use Rattle.recording.specs.Opening.{openingIn}
-use Rattle.recording.specs.Theorems.Lines.{handed-end, handed-malformed, handed-set, handed-unfinished}
+use Rattle.recording.specs.Opening.{opening_in}
+use Rattle.recording.specs.Theorems.Lines.{handed_end, handed_malformed, handed_set, handed_unfinished}
 use Rattle.mending.specs.Laws.Starts.{start_of}
 use mathlib.Core.Bool.{true}
 use borrow.Author.Rules.{rules}
@@ -46,28 +46,28 @@ refused-requires-3 c κs = search rules
 returns : tie.Need-returns
 unfolding start_of
 returns c =
-    rw (handed-set (openingIn 0 true c.before.before.before.before.before.before.args.text.now) c.before.before.before.before.opening-at.result
+    rw (handed_set (opening_in 0 true c.before.before.before.before.before.before.args.text.now) c.before.before.before.before.opening-at.result
     c.before.before.before.before.opening-at.ensures c.before.before.enum_told.given.1) c.Opened-with.ensures
 
 -- src/opening.rt:67:1
 returns-2 : tie.Need-returns-2
 unfolding start_of
 returns-2 c =
-    rw (handed-malformed (openingIn 0 true c.before.before.before.before.before.args.text.now) c.before.before.before.opening-at.result
+    rw (handed_malformed (opening_in 0 true c.before.before.before.before.before.args.text.now) c.before.before.before.opening-at.result
     c.before.before.before.opening-at.ensures c.before.enum-told2.given.1) c.refused.ensures
 
 -- src/opening.rt:67:1
 returns-3 : tie.Need-returns-3
 unfolding start_of
 returns-3 c =
-    rw (handed-unfinished (openingIn 0 true c.before.before.before.before.before.args.text.now) c.before.before.before.opening-at.result
+    rw (handed_unfinished (opening_in 0 true c.before.before.before.before.before.args.text.now) c.before.before.before.opening-at.result
     c.before.before.before.opening-at.ensures c.before.enum-told3.given.1) c.refused2.ensures
 
 -- src/opening.rt:67:1
 returns-4 : tie.Need-returns-4
 unfolding start_of
 returns-4 c =
-    rw (handed-end (openingIn 0 true c.before.before.before.before.before.args.text.now) c.before.before.before.opening-at.result
+    rw (handed_end (opening_in 0 true c.before.before.before.before.before.args.text.now) c.before.before.before.opening-at.result
     c.before.before.before.opening-at.ensures c.before.enum-told4.given.1) c.refused3.ensures
 
 pub opened-spec : {M : Type 1} → statement M

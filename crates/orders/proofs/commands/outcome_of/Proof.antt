@@ -1,6 +1,6 @@
 -- `outcome_of` meets its contract: a kind of command a case, each the card's own call.
 use borrow.Author.Rules.{rules}
-use Rattle.orders.specs.Orders.{outcomeBy}
+use Rattle.orders.specs.Orders.{outcome_by}
 use Rattle.orders.proofs.commands.outcome_of.Statement.{statement}
 use Rattle.orders.proofs.commands.outcome_of.Tie as tie
 
@@ -29,19 +29,19 @@ release-requires : tie.Need-release-requires
 release-requires c κs = search rules
 
 returns : tie.Need-returns
-unfolding outcomeBy
+unfolding outcome_by
 returns c = rw c.before.enum_told.given.1 c.add.ensures
 
 returns-2 : tie.Need-returns-2
-unfolding outcomeBy
+unfolding outcome_by
 returns-2 c = rw c.before.enum-told2.given.1 c.remove.ensures
 
 returns-3 : tie.Need-returns-3
-unfolding outcomeBy
+unfolding outcome_by
 returns-3 c = rw c.before.enum-told3.given.1 c.claim.ensures
 
 returns-4 : tie.Need-returns-4
-unfolding outcomeBy
+unfolding outcome_by
 returns-4 c = rw c.before.enum-told4.given.1 c.release.ensures
 
 pub outcome-of-spec : {M : Type 1} → statement M

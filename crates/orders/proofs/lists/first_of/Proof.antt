@@ -54,7 +54,7 @@ use denote.Struct.Steps.{spelt}
 use borrow.Table.Elements.{at, cut_app, join_app}
 use lib.Seq.{length-take-le}
 use borrow.Rule.Array.Share.{Room-take}
-use Rattle.orders.specs.Orders.{orderedOf, answersOf}
+use Rattle.orders.specs.Orders.{ordered_of, answers_of}
 use Rattle.orders.specs.declared.commands.Command.{Command}
 use Rattle.cards.specs.declared.card.Card.{Card}
 use Rattle.orders.specs.declared.lists.Ordered.{Ordered}
@@ -116,11 +116,11 @@ spelled = LL.vals T'.the_type L'.the_laws
 abbrev RC : RattleType
 RC = TC.the_row
 
-abbrev spelledC : Card → List Val
-spelledC = LL.vals TC.the_type LC.the_laws
+abbrev spelled_c : Card → List Val
+spelled_c = LL.vals TC.the_type LC.the_laws
 
-abbrev lowC : Card → Val
-lowC = LL.val TC.the_type LC.the_laws
+abbrev low_c : Card → Val
+low_c = LL.val TC.the_type LC.the_laws
 
 abbrev RO : RattleType
 RO = TO.the_row
@@ -129,8 +129,8 @@ RO = TO.the_row
 abbrev Ra : RattleType
 Ra = Array R 64
 
-abbrev spelledA : List Command → List Val
-spelledA = array_vals spelled
+abbrev spelled_a : List Command → List Val
+spelled_a = array_vals spelled
 
 abbrev arr : Ty
 arr = ty_array L'.mir 64
@@ -146,23 +146,23 @@ module _ {M : Type 1} {𝓤 : Ura M} (𝓛 : Logic 𝓤) (mem' : Memory → SPro
 -- ---- an array in a local, as its elements in memory, and back to room
 module _ {M : Type 1} {𝓤 : Ura M} (𝓛 : Logic 𝓤) (cs : List Command) (b : ℕ) where
   abbrev av : Val
-  av = only (spelledA cs)
+  av = only (spelled_a cs)
 
-  in_memory : ent 𝓤 (sep 𝓤 (sem 𝓛 (fat full_share arr b 0 av)) (sem 𝓛 (Ra.own cs (spelledA cs)))) (sem 𝓛 (cells (mem R) cs b 0))
+  in_memory : ent 𝓤 (sep 𝓤 (sem 𝓛 (fat full_share arr b 0 av)) (sem 𝓛 (Ra.own cs (spelled_a cs)))) (sem 𝓛 (cells (mem R) cs b 0))
   unfolding part_of
-  in_memory = qed 𝓛 (‵ (fat full_share arr b 0 av) ∷ ‵ (Ra.own cs (spelledA cs)) ∷ []) ∵ use1 𝓛 (‵ (fat full_share (raw_ty arr) b 0 av)) (𝓛.laws.at_raw full_share arr b 0 av) $ fjoin ! $
-      fpack ! (List Val) (λ vs. fsep (cell_raw full_share (raw_all Ra.mir) vs b 0) (Ra.own cs vs)) (spelledA cs) $
+  in_memory = qed 𝓛 (‵ (fat full_share arr b 0 av) ∷ ‵ (Ra.own cs (spelled_a cs)) ∷ []) ∵ use1 𝓛 (‵ (fat full_share (raw_ty arr) b 0 av)) (𝓛.laws.at_raw full_share arr b 0 av) $ fjoin ! $
+      fpack ! (List Val) (λ vs. fsep (cell_raw full_share (raw_all Ra.mir) vs b 0) (Ra.own cs vs)) (spelled_a cs) $
       use1 𝓛 (‵ ((arr_parts (shares R) 64).part full_share cs b 0)) (Array-apart 𝓛 R full_share tt 64 cs b 0) $ fsplit ! $ drop ! $ by ! (whole_in 𝓛 R cs b 0)
 
   to_room : length cs ≡ 64 → ent 𝓤 (sem 𝓛 (cells (mem R) cs b 0)) (sem 𝓛 (froom arr b 0))
   unfolding part_of
   to_room l = qed 𝓛 (‵ (cells (mem R) cs b 0) ∷ []) ∵ use1 𝓛 (‵ (row R full_share cs b 0)) (whole_out 𝓛 R cs b 0) $ feq_i ! ℕ (length cs) 64 l $ fjoin ! $
       use1 𝓛 (‵ (part_at Ra full_share cs b 0)) (Array-whole 𝓛 R full_share 64 cs b 0) $ fpick ! (λ vs. fsplit ! $
-      spelt ! Ra (Is Ra) (shows 𝓛 Ra) spelledA (Array-Tells R spelled (LL.tells T'.the_type L'.the_laws) 64) full_share cs vs b 0 $
+      spelt ! Ra (Is Ra) (shows 𝓛 Ra) spelled_a (Array-Tells R spelled (LL.tells T'.the_type L'.the_laws) 64) full_share cs vs b 0 $
       use1 𝓛 (‵ (fat full_share arr b 0 av)) (𝓛.laws.raw_at full_share arr b 0 av) $ forget ! 0 refl $ keep ! (0 ∷ []) $ done !)
 
 module _ {M : Type 1} {𝓤 : Ura M} (𝓛 : Logic 𝓤) (mem' : Memory → SProp 𝓤) (run : Routine → Fun 𝓤) (κ : Lft) (q : Share) (b' o' : ℕ) (γ' : GName) (card : Card) (cs : List Command) (n : ℕ) (ys : List ℕ)
-    (is-card : Is RC card (spelledC card)) (is-array : Is Ra cs (spelledA cs)) (n-fits : n < 2 ^ 64) (room' : Room u8 (length ys)) (few : n ≤ 64) where
+    (is-card : Is RC card (spelled_c card)) (is-array : Is Ra cs (spelled_a cs)) (n-fits : n < 2 ^ 64) (room' : Room u8 (length ys)) (few : n ≤ 64) where
   open 𝓛 use {H, A}
 
   abbrev k : ℕ
@@ -188,7 +188,7 @@ module _ {M : Type 1} {𝓤 : Ura M} (𝓛 : Logic 𝓤) (mem' : Memory → SPro
   s = slice_val (b', o') k
 
   abbrev av' : Val
-  av' = only (spelledA cs)
+  av' = only (spelled_a cs)
 
   abbrev Arg : Type 0
   Arg = Card × (List Command × (ℕ × (Bor (List ℕ) × Unit {0})))
@@ -197,7 +197,7 @@ module _ {M : Type 1} {𝓤 : Ura M} (𝓛 : Logic 𝓤) (mem' : Memory → SPro
   a = (card, (cs, (n, (y γ' ys, tt))))
 
   abbrev vals : List Val × (List Val × (List Val × (List Val × Unit {0})))
-  vals = (spelledC card, (spelledA cs, (vint w64 n ∷ [], (s ∷ [], tt))))
+  vals = (spelled_c card, (spelled_a cs, (vint w64 n ∷ [], (s ∷ [], tt))))
 
   abbrev OwnMut : List ℕ → Fml
   OwnMut l = (MutSlice (named 0) κ u8).own_val (y γ' l) (s ∷ [])
@@ -208,7 +208,7 @@ module _ {M : Type 1} {𝓤 : Ura M} (𝓛 : Logic 𝓤) (mem' : Memory → SPro
   abbrev Post : Val → SProp 𝓤
   Post = (walk_of 𝓛 first_of.ended stayed (first_of.clauses 𝓛 mem' run)).post bound
 
-  exits : (l : List ℕ) (r : Ordered) (w : Val) → r ≡ orderedOf card front k → l ≡ answersOf card front ys → length l ≡ k
+  exits : (l : List ℕ) (r : Ordered) (w : Val) → r ≡ ordered_of card front k → l ≡ answers_of card front ys → length l ≡ k
       → ent 𝓤 (⋆ 𝓛 (‵ (OwnMut l) ∷ ‵ (flft κ q) ∷ ‵ (RO.own r (w ∷ [])) ∷ [])) (Post w)
   exits l r w e e' same =
       qed 𝓛 (‵ (OwnMut l) ∷ ‵ (flft κ q) ∷ ‵ (RO.own r (w ∷ [])) ∷ []) ∵
@@ -230,10 +230,10 @@ module _ {M : Type 1} {𝓤 : Ura M} (𝓛 : Logic 𝓤) (mem' : Memory → SPro
   passed b δ δ' = (card, (x b δ, (y δ' ys, tt)))
 
   abbrev to-order : ℕ → ℕ → GName → ℕ → GName → (Order 𝓛 mem' run).Ghost
-  to-order b ν δ ν' δ' = (((ν ∷ [], (ν' ∷ [], tt)), (full_share, (full_share, tt)), tt, passed b δ δ', (spelledC card, (v b ∷ [], (s ∷ [], tt)))), tt)
+  to-order b ν δ ν' δ' = (((ν ∷ [], (ν' ∷ [], tt)), (full_share, (full_share, tt)), tt, passed b δ δ', (spelled_c card, (v b ∷ [], (s ∷ [], tt)))), tt)
 
   abbrev Passed : ℕ → ℕ → GName → ℕ → GName → Fml
-  Passed b ν δ ν' δ' = owns (RC ∷ ShrSlice (named 0) (ν ∷ []) R ∷ MutSlice (named 1) (ν' ∷ []) u8 ∷ []) (passed b δ δ') (spelledC card, (v b ∷ [], (s ∷ [], tt)))
+  Passed b ν δ ν' δ' = owns (RC ∷ ShrSlice (named 0) (ν ∷ []) R ∷ MutSlice (named 1) (ν' ∷ []) u8 ∷ []) (passed b δ δ') (spelled_c card, (v b ∷ [], (s ∷ [], tt)))
 
   goes : (b ν : ℕ) (δ : GName) (ν' : ℕ) (δ' : GName)
       → ent 𝓤 (sep 𝓤 (sep 𝓤 (A.lft (ν ∷ []) full_share) (sep 𝓤 (A.lft (ν' ∷ []) full_share) (sem 𝓛 ftrue))) (sem 𝓛 (Passed b ν δ ν' δ'))) ((Order 𝓛 mem' run).pre (to-order b ν δ ν' δ'))
@@ -244,23 +244,23 @@ module _ {M : Type 1} {𝓤 : Ura M} (𝓛 : Logic 𝓤) (mem' : Memory → SPro
       abbrev word : Ty
       word = ty_int w64
 
-      abbrev sliceA : Ty
-      sliceA = slice_ty (ty_ref (named 0) mut (ty_int w8))
+      abbrev slice_a : Ty
+      slice_a = slice_ty (ty_ref (named 0) mut (ty_int w8))
 
-      abbrev refC : Ty
-      refC = ty_ref erased imm (pointee Ra.written)
+      abbrev ref_c : Ty
+      ref_c = ty_ref erased imm (pointee Ra.written)
 
-      abbrev refS : Ty
-      refS = ty_ref erased imm (pointee R.written)
+      abbrev ref_s : Ty
+      ref_s = ty_ref erased imm (pointee R.written)
 
-      abbrev refE : Ty
-      refE = ty_ref erased mut (ty_int w8)
+      abbrev ref_e : Ty
+      ref_e = ty_ref erased mut (ty_int w8)
 
       abbrev En : Env 𝓤 H
-      En = (LO.mir, l₀) ∷ (LC.mir, l₁) ∷ (arr, l₂) ∷ (word, l₃) ∷ (sliceA, l₄) ∷ (arr, l₅) ∷ (refC, l₆) ∷ (slice_ty refS, l₇) ∷ (refE, l₈) ∷ (slice_ty refE, l₉) ∷ []
+      En = (LO.mir, l₀) ∷ (LC.mir, l₁) ∷ (arr, l₂) ∷ (word, l₃) ∷ (slice_a, l₄) ∷ (arr, l₅) ∷ (ref_c, l₆) ∷ (slice_ty ref_s, l₇) ∷ (ref_e, l₈) ∷ (slice_ty ref_e, l₉) ∷ []
 
       abbrev Start : List (Item 𝓤)
-      Start = ‵ (froom (slice_ty refE) l₉ 0) ∷ ‵ (fdies (slice_ty refE) l₉) ∷ ‵ (froom refE l₈ 0) ∷ ‵ (fdies refE l₈) ∷ ‵ (froom (slice_ty refS) l₇ 0) ∷ ‵ (fdies (slice_ty refS) l₇) ∷ ‵ (froom refC l₆ 0) ∷ ‵ (fdies refC l₆) ∷ ‵ (froom arr l₅ 0) ∷ ‵ (fdies arr l₅) ∷ ‵ (fat full_share sliceA l₄ 0 s) ∷ ‵ (fdies sliceA l₄) ∷ ‵ (fat full_share word l₃ 0 (vint w64 n)) ∷ ‵ (fdies word l₃) ∷ ‵ (fat full_share arr l₂ 0 av') ∷ ‵ (fdies arr l₂) ∷ ‵ (fat full_share LC.mir l₁ 0 (lowC card)) ∷ ‵ (fdies LC.mir l₁) ∷ ‵ (froom LO.mir l₀ 0) ∷ ‵ (fdies LO.mir l₀) ∷ (‵ (flft κ q) ⊛ ‵ ftrue) ∷ ‵ (owns (RC ∷ Ra ∷ usize ∷ MutSlice (named 0) κ u8 ∷ []) a vals) ∷ []
+      Start = ‵ (froom (slice_ty ref_e) l₉ 0) ∷ ‵ (fdies (slice_ty ref_e) l₉) ∷ ‵ (froom ref_e l₈ 0) ∷ ‵ (fdies ref_e l₈) ∷ ‵ (froom (slice_ty ref_s) l₇ 0) ∷ ‵ (fdies (slice_ty ref_s) l₇) ∷ ‵ (froom ref_c l₆ 0) ∷ ‵ (fdies ref_c l₆) ∷ ‵ (froom arr l₅ 0) ∷ ‵ (fdies arr l₅) ∷ ‵ (fat full_share slice_a l₄ 0 s) ∷ ‵ (fdies slice_a l₄) ∷ ‵ (fat full_share word l₃ 0 (vint w64 n)) ∷ ‵ (fdies word l₃) ∷ ‵ (fat full_share arr l₂ 0 av') ∷ ‵ (fdies arr l₂) ∷ ‵ (fat full_share LC.mir l₁ 0 (low_c card)) ∷ ‵ (fdies LC.mir l₁) ∷ ‵ (froom LO.mir l₀ 0) ∷ ‵ (fdies LO.mir l₀) ∷ (‵ (flft κ q) ⊛ ‵ ftrue) ∷ ‵ (owns (RC ∷ Ra ∷ usize ∷ MutSlice (named 0) κ u8 ∷ []) a vals) ∷ []
 
       begins : Sq 𝓛 Start (runs C Λ En mir.t-1 (at_ret En Post))
       begins =
@@ -284,8 +284,8 @@ module _ {M : Type 1} {𝓤 : Ura M} (𝓛 : Logic 𝓤) (mem' : Memory → SPro
           use2 𝓛 (raw ((Order 𝓛 mem' run).pre (to-order l₅ ν δ ν' δ'))) (goes l₅ ν δ ν' δ') $
           calls_at ! fm (Order 𝓛 mem' run) known (to-order l₅ ν δ ν' δ') (and_then ! (load ! (from ! (stop !)) (look ! (5 + at-card) refl)) (and_then ! (load ! (from ! (stop !)) (look ! (6 + at_front) refl)) (and_then ! (load ! (from ! (stop !)) (look ! (6 + at-lent) refl)) (no_more !)))) (λ w.
           use1 𝓛 (later (some (λ (r : Ordered). ((‵ (flft (ν ∷ []) full_share) ⊛ (‵ (flft (ν' ∷ []) full_share) ⊛ ‵ ftrue)) ⊛ ‵ (RO.own r (w ∷ []))) ⊛ raw (ensured 𝓛 order.ended (order.clauses 𝓛 mem' run) (ν ∷ [], (ν' ∷ [], tt)) (passed l₅ δ δ') tt r)))) (id⊢ 𝓤 _) $ await ! tt $ pick ! (λ r.
-          split ! $ move ! (1 ∷ []) $ use1 𝓛 (some (λ (zs : Unit {0} × (Unit {0} × (List ℕ × Unit {0}))). ‵ (lasts order.ended (ν ∷ [], (ν' ∷ [], tt)) (passed l₅ δ δ') zs) ⊛ raw (fact 𝓤 ((r ≡ orderedOf card front k) × (zs.1.1.0 ≡ answersOf card front ys))))) (id⊢ 𝓤 _) $ pick ! (λ zs.
-          split ! $ move ! (1 ∷ []) $ heard ! ((r ≡ orderedOf card front k) × (zs.1.1.0 ≡ answersOf card front ys)) (λ e. fsplit ! $ drop ! $ fsplit ! $ drop ! $ fsplit ! $ fsplit ! $ move ! (1 ∷ []) $ feq_l ! (λ as_long.
+          split ! $ move ! (1 ∷ []) $ use1 𝓛 (some (λ (zs : Unit {0} × (Unit {0} × (List ℕ × Unit {0}))). ‵ (lasts order.ended (ν ∷ [], (ν' ∷ [], tt)) (passed l₅ δ δ') zs) ⊛ raw (fact 𝓤 ((r ≡ ordered_of card front k) × (zs.1.1.0 ≡ answers_of card front ys))))) (id⊢ 𝓤 _) $ pick ! (λ zs.
+          split ! $ move ! (1 ∷ []) $ heard ! ((r ≡ ordered_of card front k) × (zs.1.1.0 ≡ answers_of card front ys)) (λ e. fsplit ! $ drop ! $ fsplit ! $ drop ! $ fsplit ! $ fsplit ! $ move ! (1 ∷ []) $ feq_l ! (λ as_long.
           move ! (2 ∷ []) $ split ! $ move ! (1 ∷ []) $ peeks ! RO (Is RO) (shows 𝓛 RO) r (w ∷ []) (λ is.
           land ! (from ! (stop !)) (init ! (8 + at-result) refl ((LL.lawful TO.the_type LO.the_laws 𝓛).typed r _ is).0) $
           -- ν is ended, and the array's memory is whole again
@@ -299,9 +299,9 @@ module _ {M : Type 1} {𝓤 : Ura M} (𝓛 : Logic 𝓤) (mem' : Memory → SPro
           keep ! (in_order 17 5 (3 ∷ 16 ∷ in_order 8 4 (0 ∷ 1 ∷ 4 ∷ []))) $ free1 ! $ free1 ! $ free1 ! $ free1 ! $ free1 ! $ free1 ! $ free1 ! $ free1 ! $ free1 ! $ free1 ! $ free0 ! $
           by ! (exits zs.1.1.0 r w e.0 e.1 as_long)))))))))))
 
-    walk : ent 𝓤 (on_entry 𝓛 first_of.signature (κ, tt) (q, tt) a vals) (WpFn 𝓤 H C Λ code.function (lowC card ∷ av' ∷ vint w64 n ∷ s ∷ []) Post)
+    walk : ent 𝓤 (on_entry 𝓛 first_of.signature (κ, tt) (q, tt) a vals) (WpFn 𝓤 H C Λ code.function (low_c card ∷ av' ∷ vint w64 n ∷ s ∷ []) Post)
     walk =
-        qed 𝓛 ((‵ (flft κ q) ⊛ ‵ ftrue) ∷ ‵ (owns (RC ∷ Ra ∷ usize ∷ MutSlice (named 0) κ u8 ∷ []) a vals) ∷ []) ∵ enter ! C Λ code.function (lowC card ∷ av' ∷ vint w64 n ∷ s ∷ []) _ $
+        qed 𝓛 ((‵ (flft κ q) ⊛ ‵ ftrue) ∷ ‵ (owns (RC ∷ Ra ∷ usize ∷ MutSlice (named 0) κ u8 ∷ []) a vals) ∷ []) ∵ enter ! C Λ code.function (low_c card ∷ av' ∷ vint w64 n ∷ s ∷ []) _ $
         alloc1 ! (λ l₀. alloc1 ! (λ l₁. alloc1 ! (λ l₂. alloc1 ! (λ l₃. alloc1 ! (λ l₄. alloc1 ! (λ l₅. alloc1 ! (λ l₆. alloc1 ! (λ l₇. alloc1 ! (λ l₈. alloc1 ! (λ l₉. alloc0 ! $ params1 ! $
         pass1 ! (init ! at-card refl ((LL.lawful TC.the_type LC.the_laws 𝓛).typed card _ is-card).0) $ pass1 ! (init ! at-commands refl (Array-Typed R (LL.lawful T'.the_type L'.the_laws 𝓛).typed 64 cs _ is-array).0) $
         pass1 ! (init ! at_n refl (tt, record { fits = n-fits })) $ pass1 ! (init ! at-answers refl (tt, (tt, (record { fits = room'.0 }, tt)))) $ pass0 ! $ begins l₀ l₁ l₂ l₃ l₄ l₅ l₆ l₇ l₈ l₉))))))))))
@@ -310,7 +310,7 @@ module _ {M : Type 1} {𝓤 : Ura M} (𝓛 : Logic 𝓤) (mem' : Memory → SPro
   open 𝓛 use {H}
 
   first-of-walks : Walks 𝓛 first_of.ended stayed (WpFn 𝓤 H 𝓣.C 𝓣.Λ code.function) (first_of.clauses 𝓛 mem' run)
-  first-of-walks = walked 𝓛 first_of.ended stayed (first_of.clauses 𝓛 mem' run) (WpFn 𝓤 H 𝓣.C 𝓣.Λ code.function) (λ κs. (spelledC, (spelledA, (uint_vals w64, (mut_slice_vals, tt)))))
+  first-of-walks = walked 𝓛 first_of.ended stayed (first_of.clauses 𝓛 mem' run) (WpFn 𝓤 H 𝓣.C 𝓣.Λ code.function) (λ κs. (spelled_c, (spelled_a, (uint_vals w64, (mut_slice_vals, tt)))))
       (λ κs. (LL.tells TC.the_type LC.the_laws, (Array-Tells R spelled (LL.tells T'.the_type L'.the_laws) 64, (uint_Tells w64, (mut_slice_Tells (named 0) κs.0 u8, tt)))))
       (λ κs qs bounds a g are. needs 𝓤 (a.1.1.0 ≤ 64) _ (λ few.
       walk 𝓛 mem' run κs.0 qs.0 a.1.1.1.0.ref_ptr.0 a.1.1.1.0.ref_ptr.1 a.1.1.1.0.ghost_name a.0 a.1.0 a.1.1.0 a.1.1.1.0.now are.0 are.1.0 are.1.1.0.1 are.1.1.1.0.0.1 few 𝓣.C 𝓣.Λ (fm_of 𝓤 H 𝓛.laws 𝓣) known))

@@ -52,8 +52,8 @@ use denote.Triple.Clauses.{ensured, lasts}
 use denote.Triple.Table.{entered, cited}
 use denote.Triple.Walked.{says, Stays, stay_none, stay_none_slice, stay_slice, walk_of, Goes-none, Goes-none_slice, Goes-slice, Walks, ends_at, walked, walk_Meets}
 use denote.Exit.{yes}
-use Rattle.orders.specs.Orders.{turnsOf, finishOf, outcomeBy, storedBy, orderedOf, answersOf}
-use Rattle.orders.specs.Singles.{noCommand}
+use Rattle.orders.specs.Orders.{turns_of, finish_of, outcome_by, stored_by, ordered_of, answers_of}
+use Rattle.orders.specs.Singles.{no_command}
 use Rattle.orders.specs.declared.commands.Command.{Command}
 use Rattle.cards.specs.declared.card.Card.{Card}
 use Rattle.orders.specs.declared.lists.Ordered.{Ordered}
@@ -63,7 +63,7 @@ use Rattle.cards.specs.contracts.card.Card as TC
 use Rattle.cards.proofs.card.Card.TheLaws as LC
 use Rattle.orders.specs.contracts.lists.Ordered as TO
 use Rattle.orders.proofs.lists.Ordered.TheLaws as LO
-use Rattle.orders.proofs.Turned.{cardAt, listAt, list_length, card-next, list-next, turns-left, turns-right, place-fits, card-left, list_left}
+use Rattle.orders.proofs.Turned.{card_at, list_at, list_length, card_next, list_next, turns_left_lem, turns_right, place_fits, card_left_lem, list_left}
 use Rattle.orders.proofs.Places.{in_order, upward}
 use Rattle.orders.proofs.LentAgain.{LentAgain, lends_again, comes_back}
 use Rattle.orders.specs.contracts.lists.turns as turns
@@ -146,11 +146,11 @@ low = LL.val T'.the_type L'.the_laws
 abbrev RC : RattleType
 RC = TC.the_row
 
-abbrev spelledC : Card → List Val
-spelledC = LL.vals TC.the_type LC.the_laws
+abbrev spelled_c : Card → List Val
+spelled_c = LL.vals TC.the_type LC.the_laws
 
-abbrev lowC : Card → Val
-lowC = LL.val TC.the_type LC.the_laws
+abbrev low_c : Card → Val
+low_c = LL.val TC.the_type LC.the_laws
 
 abbrev RO : RattleType
 RO = TO.the_row
@@ -170,7 +170,7 @@ module _ {M : Type 1} {𝓤 : Ura M} (𝓛 : Logic 𝓤) (mem : Memory → SProp
   One = triple_of 𝓛 one.signature (one.spec 𝓛 mem run)
 
 module _ {M : Type 1} {𝓤 : Ura M} (𝓛 : Logic 𝓤) (mem : Memory → SProp 𝓤) (run : Routine → Fun 𝓤) (κ κ' : Lft) (q q' : Share) (b o b' o' : ℕ) (γ γ' : GName) (card : Card) (cs : List Command) (ys : List ℕ)
-    (is-card : Is RC card (spelledC card)) (room : Room R (length cs)) (room' : Room u8 (length ys)) where
+    (is-card : Is RC card (spelled_c card)) (room : Room R (length cs)) (room' : Room u8 (length ys)) where
   open 𝓛 use {H, A}
 
   abbrev m : ℕ
@@ -180,7 +180,7 @@ module _ {M : Type 1} {𝓤 : Ura M} (𝓛 : Logic 𝓤) (mem : Memory → SProp
   k = length ys
 
   abbrev n : ℕ
-  n = turnsOf m k
+  n = turns_of m k
 
   -- the two slices; the answers under the name δ, at the list l
   abbrev x : Bor (List Command)
@@ -203,7 +203,7 @@ module _ {M : Type 1} {𝓤 : Ura M} (𝓛 : Logic 𝓤) (mem : Memory → SProp
   a = (card, (x, (y γ' ys, tt)))
 
   abbrev vals : List Val × (List Val × (List Val × Unit {0}))
-  vals = (spelledC card, (v ∷ [], (s ∷ [], tt)))
+  vals = (spelled_c card, (v ∷ [], (s ∷ [], tt)))
 
   abbrev Own : Fml
   Own = (ShrSlice (named 0) κ R).own_val x (v ∷ [])
@@ -212,7 +212,7 @@ module _ {M : Type 1} {𝓤 : Ura M} (𝓛 : Logic 𝓤) (mem : Memory → SProp
   OwnMut l = (MutSlice (named 1) κ' u8).own_val (y γ' l) (s ∷ [])
 
   abbrev OwnCard : Card → Fml
-  OwnCard d = RC.own d (spelledC d)
+  OwnCard d = RC.own d (spelled_c d)
 
   abbrev Shared : Fml
   Shared = fshr_bor κ (λ p. (arr_parts (shares R) m).part p cs b o)
@@ -223,7 +223,7 @@ module _ {M : Type 1} {𝓤 : Ura M} (𝓛 : Logic 𝓤) (mem : Memory → SProp
   abbrev Post : Val → SProp 𝓤
   Post = (walk_of 𝓛 order.ended stayed (order.clauses 𝓛 mem run)).post bound
 
-  exits : (l : List ℕ) (r : Ordered) (w : Val) → r ≡ orderedOf card cs k → l ≡ answersOf card cs ys → length l ≡ k
+  exits : (l : List ℕ) (r : Ordered) (w : Val) → r ≡ ordered_of card cs k → l ≡ answers_of card cs ys → length l ≡ k
       → ent 𝓤 (⋆ 𝓛 (‵ (OwnMut l) ∷ ‵ (flft κ' q') ∷ ‵ Own ∷ ‵ (flft κ q) ∷ ‵ (RO.own r (w ∷ [])) ∷ [])) (Post w)
   exits l r w e e' same =
       qed 𝓛 (‵ (OwnMut l) ∷ ‵ (flft κ' q') ∷ ‵ Own ∷ ‵ (flft κ q) ∷ ‵ (RO.own r (w ∷ [])) ∷ []) ∵
@@ -243,20 +243,20 @@ module _ {M : Type 1} {𝓤 : Ura M} (𝓛 : Logic 𝓤) (mem : Memory → SProp
 
   -- ---- the call of `finish`, with the card d
   abbrev to-finish : Card → (Finish 𝓛 mem run).Ghost
-  to-finish d = ((tt, tt, tt, (d, (m, (k, tt))), (spelledC d, (vint w64 m ∷ [], (vint w64 k ∷ [], tt)))), tt)
+  to-finish d = ((tt, tt, tt, (d, (m, (k, tt))), (spelled_c d, (vint w64 m ∷ [], (vint w64 k ∷ [], tt)))), tt)
 
   goes-finish : (d : Card) → ent 𝓤 (sem 𝓛 (OwnCard d)) ((Finish 𝓛 mem run).pre (to-finish d))
   goes-finish d = qed 𝓛 (‵ (OwnCard d) ∷ []) ∵ nothing ! $ owned ! usize (Is usize) (uint_Makes 𝓛 w64) k _ (refl, room'.0) $ fjoin ! $ owned ! usize (Is usize) (uint_Makes 𝓛 w64) m _ (refl, room.0) $ fjoin ! $ move ! (1 ∷ 0 ∷ []) $ fjoin ! $ nothing ! $ join ! $ frame ! $ done !
 
-  finish-said : (d : Card) (r : Ordered) → ent 𝓤 (ensured 𝓛 finish.ended (finish.clauses 𝓛 mem run) tt (d, (m, (k, tt))) tt r) (fact 𝓤 (r ≡ finishOf d m k))
-  finish-said d r = ex_e 𝓤 _ (λ ws. snd∗ 𝓤 (sem 𝓛 (lasts finish.ended tt (d, (m, (k, tt))) ws)) (fact 𝓤 (r ≡ finishOf d m k)))
+  finish-said : (d : Card) (r : Ordered) → ent 𝓤 (ensured 𝓛 finish.ended (finish.clauses 𝓛 mem run) tt (d, (m, (k, tt))) tt r) (fact 𝓤 (r ≡ finish_of d m k))
+  finish-said d r = ex_e 𝓤 _ (λ ws. snd∗ 𝓤 (sem 𝓛 (lasts finish.ended tt (d, (m, (k, tt))) ws)) (fact 𝓤 (r ≡ finish_of d m k)))
 
   -- ---- the call of `one`: the answers are lent again for the lifetime ν, under the name δ, at the list l
   abbrev OneArg : Type 0
   OneArg = Card × (Command × (ℕ × (Bor (List ℕ) × Unit {0})))
 
   abbrev to_one : Card → Command → ℕ → List ℕ → ℕ → GName → (One 𝓛 mem run).Ghost
-  to_one d c i l ν δ = (((ν ∷ [], tt), (full_share, tt), tt, (d, (c, (i, (y δ l, tt)))), (spelledC d, (spelled c, (vint w64 i ∷ [], (s ∷ [], tt))))), tt)
+  to_one d c i l ν δ = (((ν ∷ [], tt), (full_share, tt), tt, (d, (c, (i, (y δ l, tt)))), (spelled_c d, (spelled c, (vint w64 i ∷ [], (s ∷ [], tt))))), tt)
 
   goes_one : (d : Card) (c : Command) (i : ℕ) (l : List ℕ) (ν : ℕ) (δ : GName) → Is R c (spelled c) → i < 2 ^ 64 → i < length l
       → ent 𝓤 (sep 𝓤 (A.lft (ν ∷ []) full_share) (sep 𝓤 (sem 𝓛 ((MutSlice (named 0) (ν ∷ []) u8).own_val (y δ l) (s ∷ []))) (sem 𝓛 (OwnCard d)))) ((One 𝓛 mem run).pre (to_one d c i l ν δ))
@@ -264,7 +264,7 @@ module _ {M : Type 1} {𝓤 : Ura M} (𝓛 : Logic 𝓤) (mem : Memory → SProp
       qed 𝓛 (‵ (flft (ν ∷ []) full_share) ∷ ‵ ((MutSlice (named 0) (ν ∷ []) u8).own_val (y δ l) (s ∷ [])) ∷ ‵ (OwnCard d) ∷ []) ∵ says ! within $ nothing ! $ move ! (1 ∷ 0 ∷ []) $ join ! $ frame ! $
       nothing ! $ move ! (1 ∷ 0 ∷ []) $ fjoin ! $ owned ! usize (Is usize) (uint_Makes 𝓛 w64) i _ (refl, fits) $ fjoin ! $ owned ! R (Is R) (LL.makes T'.the_type L'.the_plain 𝓛) c _ is $ fjoin ! $ move ! (1 ∷ 0 ∷ []) $ fjoin ! $ done !
 
-  card-typed : T (has_ty LC.mir (lowC card)) × WT (lowC card)
+  card-typed : T (has_ty LC.mir (low_c card)) × WT (low_c card)
   card-typed = ((LL.lawful TC.the_type LC.the_laws 𝓛).typed card _ is-card).0
 
   -- ---- the loop
@@ -278,7 +278,7 @@ module _ {M : Type 1} {𝓤 : Ura M} (𝓛 : Logic 𝓤) (mem : Memory → SProp
   Nearer-wf = InvImage.wf (λ (i : Upto). n - i.0) lt-wf_rel.wf
 
   n-fits : n < 2 ^ 64
-  n-fits = lt_of_le_of_lt (turns-left m k) room.0
+  n-fits = lt_of_le_of_lt (turns_left_lem m k) room.0
 
   module _ (𝓣 : Tables 𝓤 H) (known-turns : Triple 𝓤 (𝓣.C #turns) (Turns 𝓛 mem run)) (known-finish : Triple 𝓤 (𝓣.C #finish) (Finish 𝓛 mem run)) (known-one : Triple 𝓤 (𝓣.C #one) (One 𝓛 mem run)) where
     abbrev C : Calls 𝓤 H
@@ -294,28 +294,28 @@ module _ {M : Type 1} {𝓤 : Ura M} (𝓛 : Logic 𝓤) (mem : Memory → SProp
       abbrev word : Ty
       word = ty_int w64
 
-      abbrev sliceC : Ty
-      sliceC = slice_ty (ty_ref (named 0) imm (pointee R.written))
+      abbrev slice_c : Ty
+      slice_c = slice_ty (ty_ref (named 0) imm (pointee R.written))
 
-      abbrev sliceA : Ty
-      sliceA = slice_ty (ty_ref (named 1) mut (ty_int w8))
+      abbrev slice_a : Ty
+      slice_a = slice_ty (ty_ref (named 1) mut (ty_int w8))
 
-      abbrev refE : Ty
-      refE = ty_ref erased mut (ty_int w8)
+      abbrev ref_e : Ty
+      ref_e = ty_ref erased mut (ty_int w8)
 
       abbrev En : Env 𝓤 H
-      En = (LO.mir, l₀) ∷ (LC.mir, l₁) ∷ (sliceC, l₂) ∷ (sliceA, l₃) ∷ (word, l₄) ∷ (LC.mir, l₅) ∷ (word, l₆) ∷ (L'.mir, l₇) ∷ (word, l₈) ∷ (word, l₉) ∷ (ty_bool, l₁₀) ∷ (word, l₁₁) ∷ (ty_ptr, l₁₂) ∷ (L'.mir, l₁₃) ∷ (refE, l₁₄) ∷ (slice_ty refE, l₁₅) ∷ []
+      En = (LO.mir, l₀) ∷ (LC.mir, l₁) ∷ (slice_c, l₂) ∷ (slice_a, l₃) ∷ (word, l₄) ∷ (LC.mir, l₅) ∷ (word, l₆) ∷ (L'.mir, l₇) ∷ (word, l₈) ∷ (word, l₉) ∷ (ty_bool, l₁₀) ∷ (word, l₁₁) ∷ (ty_ptr, l₁₂) ∷ (L'.mir, l₁₃) ∷ (ref_e, l₁₄) ∷ (slice_ty ref_e, l₁₅) ∷ []
 
       -- the locals, the last first, where i commands are done
       abbrev Locals : ℕ → List (Item 𝓤)
-      Locals i = ‵ (froom (slice_ty refE) l₁₅ 0) ∷ ‵ (fdies (slice_ty refE) l₁₅) ∷ ‵ (froom refE l₁₄ 0) ∷ ‵ (fdies refE l₁₄) ∷ ‵ (froom L'.mir l₁₃ 0) ∷ ‵ (fdies L'.mir l₁₃) ∷ ‵ (froom ty_ptr l₁₂ 0) ∷ ‵ (fdies ty_ptr l₁₂)
+      Locals i = ‵ (froom (slice_ty ref_e) l₁₅ 0) ∷ ‵ (fdies (slice_ty ref_e) l₁₅) ∷ ‵ (froom ref_e l₁₄ 0) ∷ ‵ (fdies ref_e l₁₄) ∷ ‵ (froom L'.mir l₁₃ 0) ∷ ‵ (fdies L'.mir l₁₃) ∷ ‵ (froom ty_ptr l₁₂ 0) ∷ ‵ (fdies ty_ptr l₁₂)
           ∷ ‵ (froom word l₁₁ 0) ∷ ‵ (fdies word l₁₁) ∷ ‵ (froom ty_bool l₁₀ 0) ∷ ‵ (fdies ty_bool l₁₀) ∷ ‵ (froom word l₉ 0) ∷ ‵ (fdies word l₉) ∷ ‵ (froom word l₈ 0) ∷ ‵ (fdies word l₈)
-          ∷ ‵ (froom L'.mir l₇ 0) ∷ ‵ (fdies L'.mir l₇) ∷ ‵ (fat full_share word l₆ 0 (vint w64 i)) ∷ ‵ (fdies word l₆) ∷ ‵ (fat full_share LC.mir l₅ 0 (lowC (cardAt card cs i))) ∷ ‵ (fdies LC.mir l₅) ∷ ‵ (fat full_share word l₄ 0 (vint w64 n)) ∷ ‵ (fdies word l₄)
-          ∷ ‵ (fat full_share sliceA l₃ 0 s) ∷ ‵ (fdies sliceA l₃) ∷ ‵ (fat full_share sliceC l₂ 0 v) ∷ ‵ (fdies sliceC l₂) ∷ ‵ (fat full_share LC.mir l₁ 0 (lowC card)) ∷ ‵ (fdies LC.mir l₁) ∷ ‵ (froom LO.mir l₀ 0) ∷ ‵ (fdies LO.mir l₀) ∷ []
+          ∷ ‵ (froom L'.mir l₇ 0) ∷ ‵ (fdies L'.mir l₇) ∷ ‵ (fat full_share word l₆ 0 (vint w64 i)) ∷ ‵ (fdies word l₆) ∷ ‵ (fat full_share LC.mir l₅ 0 (low_c (card_at card cs i))) ∷ ‵ (fdies LC.mir l₅) ∷ ‵ (fat full_share word l₄ 0 (vint w64 n)) ∷ ‵ (fdies word l₄)
+          ∷ ‵ (fat full_share slice_a l₃ 0 s) ∷ ‵ (fdies slice_a l₃) ∷ ‵ (fat full_share slice_c l₂ 0 v) ∷ ‵ (fdies slice_c l₂) ∷ ‵ (fat full_share LC.mir l₁ 0 (low_c card)) ∷ ‵ (fdies LC.mir l₁) ∷ ‵ (froom LO.mir l₀ 0) ∷ ‵ (fdies LO.mir l₀) ∷ []
 
       -- the invariant
       abbrev At : Upto → List (Item 𝓤)
-      At i = ‵ (OwnMut (listAt card cs ys i.0)) ∷ ‵ (flft κ' q') ∷ ‵ Own ∷ ‵ Shared ∷ ‵ (flft κ q) ∷ ‵ (OwnCard (cardAt card cs i.0)) ∷ Locals i.0
+      At i = ‵ (OwnMut (list_at card cs ys i.0)) ∷ ‵ (flft κ' q') ∷ ‵ Own ∷ ‵ Shared ∷ ‵ (flft κ q) ∷ ‵ (OwnCard (card_at card cs i.0)) ∷ Locals i.0
 
       abbrev Left : Out → SProp 𝓤
       Left = after_block 𝓤 H (after_seq 𝓤 H (Wp 𝓤 H C Λ En mir.t-7 (at_return 𝓤 H En Post)) (at_return 𝓤 H En Post))
@@ -335,11 +335,11 @@ module _ {M : Type 1} {𝓤 : Ura M} (𝓛 : Logic 𝓤) (mem : Memory → SProp
           rewrite ! (6 + at_place) (λ (p : ℕ). ‵ (fat full_share ty_ptr l₁₂ 0 (vptr b p))) (sym (place_is 12 o j)) refl $
           -- the slice of commands is looked into, and the command is copied out
           move ! (3 ∷ 4 ∷ []) $ looks_slice ! tt R (Is R) (shows 𝓛 R) spelled (LL.tells T'.the_type L'.the_laws) (LL.copy T'.the_type L'.the_copy 𝓛) cs b o (λ q''.
-          elem_out ! R (Is R) (shows 𝓛 R) spelled (LL.tells T'.the_type L'.the_laws) q'' cs j noCommand b o within-cs (λ g.
+          elem_out ! R (Is R) (shows 𝓛 R) spelled (LL.tells T'.the_type L'.the_laws) q'' cs j no_command b o within-cs (λ g.
           -- [commands[i]; what it owns; the others; what shuts; the shared borrow; what answers own; κ''s token; what commands own; what the card owns; _15; …]
           assigns ! (of_opd ! (load ! (from ! (hop ! (look ! (9 + at_place) refl) (stop !))) (look_raw ! 0 refl))) (from ! (stop !)) (init ! (9 + at-copied) refl (typed g)) $
           assigns ! (of_opd ! (load ! (from ! (stop !)) (look ! (9 + at-copied) refl))) (from ! (stop !)) (init ! (9 + at-command) refl (typed g)) $
-          elem_back ! R q'' cs j noCommand (spelled c) b o within-cs $ shuts_slice ! tt R q'' cs b o $
+          elem_back ! R q'' cs j no_command (spelled c) b o within-cs $ shuts_slice ! tt R q'' cs b o $
           -- [κ's token; the shared borrow; what answers own; κ''s token; what commands own; what the card owns; _15; …]
           assigns ! (addr ! (from ! (fld ! refl (hop ! (look_in ! (6 + at-answers) (sub ! 0 refl (whole !))) (stop !))))) (from ! (stop !)) (init ! (6 + at_first) refl (tt, tt)) $
           assigns ! (agg ! (and_then ! (load ! (from ! (stop !)) (look ! (6 + at_first) refl)) (and_then ! (load ! (from ! (fld ! refl (stop !))) (look_in ! (6 + at-answers) (sub ! 1 refl (whole !)))) (no_more !)))) (from ! (stop !)) (init ! (6 + at-lent) refl (tt, (tt, (record { fits = room'.0 }, tt)))) $
@@ -352,17 +352,17 @@ module _ {M : Type 1} {𝓤 : Ura M} (𝓛 : Logic 𝓤) (mem : Memory → SProp
           -- [what `one` asks; what is kept; κ's token; the shared borrow; what commands own; _15; …]
           calls_at ! fm (One 𝓛 mem run) known-one (to_one d c j l ν δ) (and_then ! (load ! (from ! (stop !)) (look ! (5 + at_left) refl)) (and_then ! (load ! (from ! (stop !)) (look ! (5 + at-command) refl)) (and_then ! (load ! (from ! (stop !)) (look ! (5 + at_i) refl)) (and_then ! (load ! (from ! (stop !)) (look ! (5 + at-lent) refl)) (no_more !))))) (λ w.
           use1 𝓛 (later (some (λ (r : Card). ((‵ (flft (ν ∷ []) full_share) ⊛ ‵ ftrue) ⊛ ‵ (RC.own r (w ∷ []))) ⊛ raw (ensured 𝓛 one.ended (one.clauses 𝓛 mem run) (ν ∷ [], tt) (d, (c, (j, (y δ l, tt)))) tt r)))) (id⊢ 𝓤 _) $ await ! tt $ pick ! (λ r.
-          split ! $ move ! (1 ∷ []) $ use1 𝓛 (some (λ (zs : Unit {0} × (Unit {0} × (Unit {0} × (List ℕ × Unit {0})))). ‵ (lasts one.ended (ν ∷ [], tt) (d, (c, (j, (y δ l, tt)))) zs) ⊛ raw (fact 𝓤 ((r ≡ (outcomeBy d c).card) × (zs.1.1.1.0 ≡ storedBy d c j l))))) (id⊢ 𝓤 _) $ pick ! (λ zs.
-          split ! $ move ! (1 ∷ []) $ heard ! ((r ≡ (outcomeBy d c).card) × (zs.1.1.1.0 ≡ storedBy d c j l)) (λ e. fsplit ! $ drop ! $ fsplit ! $ drop ! $ fsplit ! $ drop ! $ fsplit ! $ fsplit ! $ move ! (1 ∷ []) $ feq_l ! (λ as_long.
+          split ! $ move ! (1 ∷ []) $ use1 𝓛 (some (λ (zs : Unit {0} × (Unit {0} × (Unit {0} × (List ℕ × Unit {0})))). ‵ (lasts one.ended (ν ∷ [], tt) (d, (c, (j, (y δ l, tt)))) zs) ⊛ raw (fact 𝓤 ((r ≡ (outcome_by d c).card) × (zs.1.1.1.0 ≡ stored_by d c j l))))) (id⊢ 𝓤 _) $ pick ! (λ zs.
+          split ! $ move ! (1 ∷ []) $ heard ! ((r ≡ (outcome_by d c).card) × (zs.1.1.1.0 ≡ stored_by d c j l)) (λ e. fsplit ! $ drop ! $ fsplit ! $ drop ! $ fsplit ! $ drop ! $ fsplit ! $ fsplit ! $ move ! (1 ∷ []) $ feq_l ! (λ as_long.
           move ! (2 ∷ []) $ split ! $ move ! (1 ∷ []) $ peeks ! RC (Is RC) (shows 𝓛 RC) r (w ∷ []) (λ is.
           -- [what the card owns; ν's token; the last answers; true; what is kept; κ's token; the shared borrow; what commands own; _15; …]
           land ! (from ! (stop !)) (store ! (8 + at_left) refl ((LL.lawful TC.the_type LC.the_laws 𝓛).typed r _ is).0) $
-          rewrite ! (8 + at_left) (λ (u : Val). ‵ (fat full_share LC.mir l₅ 0 u)) (ap only (LL.tells TC.the_type LC.the_laws r _ is) ∙ ap lowC (e.0 ∙ card-next card cs j)) refl $
-          rewrite ! 0 (λ (us : List Val). ‵ (RC.own r us)) (LL.tells TC.the_type LC.the_laws r _ is) refl $ rewrite ! 0 (λ (d' : Card). ‵ (OwnCard d')) (e.0 ∙ card-next card cs j) refl $
+          rewrite ! (8 + at_left) (λ (u : Val). ‵ (fat full_share LC.mir l₅ 0 u)) (ap only (LL.tells TC.the_type LC.the_laws r _ is) ∙ ap low_c (e.0 ∙ card_next card cs j)) refl $
+          rewrite ! 0 (λ (us : List Val). ‵ (RC.own r us)) (LL.tells TC.the_type LC.the_laws r _ is) refl $ rewrite ! 0 (λ (d' : Card). ‵ (OwnCard d')) (e.0 ∙ card_next card cs j) refl $
           -- the lifetime is ended, and the slice comes back at the list that `one` left
           move ! (1 ∷ []) $ split ! $ lft_end ! tt $ move ! (0 ∷ 5 ∷ 3 ∷ []) $
           use3 𝓛 (later (‵ ((MutSlice (named 1) κ' u8).own_val (y γ' zs.1.1.1.0) (slice_val (b', o') (length l) ∷ [])) ⊛ ‵ (flft κ' q'))) (comes_back u8 κ' (ν ∷ []) q' γ' b' o' 𝓛 (named 1) (named 0) l δ zs.1.1.1.0 (subst (Room u8) (sym same) room') as_long) $ await ! tt $ split ! $
-          rewrite ! 0 (λ (u : ℕ). ‵ ((MutSlice (named 1) κ' u8).own_val (y γ' zs.1.1.1.0) (slice_val (b', o') u ∷ []))) same refl $ rewrite ! 0 (λ (l' : List ℕ). ‵ (OwnMut l')) (e.1 ∙ list-next card cs ys j) refl $
+          rewrite ! 0 (λ (u : ℕ). ‵ ((MutSlice (named 1) κ' u8).own_val (y γ' zs.1.1.1.0) (slice_val (b', o') u ∷ []))) same refl $ rewrite ! 0 (λ (l' : List ℕ). ‵ (OwnMut l')) (e.1 ∙ list_next card cs ys j) refl $
           -- [what answers own; κ''s token; true; what the card owns; true; κ's token; the shared borrow; what commands own; _15; …]
           assigns_last ! (bin ! (load ! (from ! (stop !)) (look ! (8 + at_i) refl)) (lit ! tt) (record { fits = next_fits })) (from ! (stop !)) (store ! (8 + at_i) refl (tt, record { fits = next_fits })) $
           forget ! (8 + at-lent) refl $ forget ! (8 + at_first) refl $ forget ! (8 + at-copied) refl $ forget ! (8 + at_place) refl $ forget ! (8 + at-bytes) refl $ forget ! (8 + at_test) refl $ forget ! (8 + at-command) refl $
@@ -372,13 +372,13 @@ module _ {M : Type 1} {𝓤 : Ura M} (𝓛 : Logic 𝓤) (mem : Memory → SProp
           j = i.0
 
           c : Command
-          c = get_or cs j noCommand
+          c = get_or cs j no_command
 
           d : Card
-          d = cardAt card cs j
+          d = card_at card cs j
 
           l : List ℕ
-          l = listAt card cs ys j
+          l = list_at card cs ys j
 
           small : j < n
           small = ltb→lt j n (subst T (sym less) tt)
@@ -387,10 +387,10 @@ module _ {M : Type 1} {𝓤 : Ura M} (𝓛 : Logic 𝓤) (mem : Memory → SProp
           same = list_length card cs ys j
 
           within-cs : j < m
-          within-cs = lt_of_lt_of_le small (turns-left m k)
+          within-cs = lt_of_lt_of_le small (turns_left_lem m k)
 
           within-l : j < length l
-          within-l = subst (λ (u : ℕ). j < u) (sym same) (lt_of_lt_of_le small (turns-right m k))
+          within-l = subst (λ (u : ℕ). j < u) (sym same) (lt_of_lt_of_le small (turns_right m k))
 
           j-fits : j < 2 ^ 64
           j-fits = lt_of_le_of_lt i.1 n-fits
@@ -399,7 +399,7 @@ module _ {M : Type 1} {𝓤 : Ura M} (𝓛 : Logic 𝓤) (mem : Memory → SProp
           next_fits = lt_of_le_of_lt (add-one-le small) n-fits
 
           far : j * 12 < 2 ^ 64
-          far = place-fits j m within-cs room.1
+          far = place_fits j m within-cs room.1
 
           typed : Is R c (spelled c) → T (has_ty L'.mir (low c)) × WT (low c)
           typed g = ((LL.lawful T'.the_type L'.the_laws 𝓛).typed c _ g).0
@@ -417,19 +417,19 @@ module _ {M : Type 1} {𝓤 : Ura M} (𝓛 : Logic 𝓤) (mem : Memory → SProp
           move ! (5 ∷ []) $ use1 𝓛 (raw ((Finish 𝓛 mem run).pre (to-finish d))) (goes-finish d) $
           calls_at ! fm (Finish 𝓛 mem run) known-finish (to-finish d) (and_then ! (load ! (from ! (stop !)) (look ! (6 + at_left) refl)) (and_then ! (load ! (from ! (stop !)) (look ! (6 + at-m) refl)) (and_then ! (load ! (from ! (stop !)) (look ! (6 + at-k) refl)) (no_more !)))) (λ w.
           use1 𝓛 (later (some (λ (r : Ordered). (‵ ftrue ⊛ ‵ (RO.own r (w ∷ []))) ⊛ raw (ensured 𝓛 finish.ended (finish.clauses 𝓛 mem run) tt (d, (m, (k, tt))) tt r)))) (id⊢ 𝓤 _) $ await ! tt $ pick ! (λ r.
-          split ! $ move ! (1 ∷ []) $ use1 𝓛 (raw (fact 𝓤 (r ≡ finishOf d m k))) (finish-said d r) $ heard ! (r ≡ finishOf d m k) (λ e. split ! $ drop ! $
+          split ! $ move ! (1 ∷ []) $ use1 𝓛 (raw (fact 𝓤 (r ≡ finish_of d m k))) (finish-said d r) $ heard ! (r ≡ finish_of d m k) (λ e. split ! $ drop ! $
           -- [the result; what answers own; κ''s token; what commands own; the shared borrow; κ's token; _15; …]
           peeks ! RO (Is RO) (shows 𝓛 RO) r (w ∷ []) (λ is.
           land ! (from ! (stop !)) (init ! (6 + at-result) refl ((LL.lawful TO.the_type LO.the_laws 𝓛).typed r _ is).0) $
           returns ! (look ! (6 + at-result) refl) $ forget ! (6 + at_test) refl $ forget ! (6 + at-k) refl $ forget ! (6 + at-m) refl $ forget ! (6 + at_i) refl $ forget ! (6 + at_left) refl $ forget ! (6 + at_n) refl $ forget ! (6 + at-answers) refl $ forget ! (6 + at-commands) refl $ forget ! (6 + at-card) refl $ forget ! (6 + at-result) refl $
           keep ! (in_order 6 16 (1 ∷ 2 ∷ 3 ∷ 5 ∷ 0 ∷ [])) $ free1 ! $ free1 ! $ free1 ! $ free1 ! $ free1 ! $ free1 ! $ free1 ! $ free1 ! $ free1 ! $ free1 ! $ free1 ! $ free1 ! $ free1 ! $ free1 ! $ free1 ! $ free1 ! $ free0 ! $
-          by ! (exits (listAt card cs ys j) r w (e ∙ ap (λ (u : ℕ). finishOf (cardAt card cs u) m k) all ∙ card-left card cs k) (ap (λ (u : ℕ). listAt card cs ys u) all ∙ list_left card cs ys) (list_length card cs ys j))))))
+          by ! (exits (list_at card cs ys j) r w (e ∙ ap (λ (u : ℕ). finish_of (card_at card cs u) m k) all ∙ card_left_lem card cs k) (ap (λ (u : ℕ). list_at card cs ys u) all ∙ list_left card cs ys) (list_length card cs ys j))))))
         where
           j : ℕ
           j = i.0
 
           d : Card
-          d = cardAt card cs j
+          d = card_at card cs j
 
           all : j ≡ n
           all = le_antisymm i.1 (nltb→le j n (subst (λ (t : Bool). T (not t)) (sym over) tt))
@@ -443,10 +443,10 @@ module _ {M : Type 1} {𝓤 : Ura M} (𝓛 : Logic 𝓤) (mem : Memory → SProp
 
       -- the body, from its first statement: the parameters' locals are set, and the others are room
       abbrev Start : List (Item 𝓤)
-      Start = ‵ (froom (slice_ty refE) l₁₅ 0) ∷ ‵ (fdies (slice_ty refE) l₁₅) ∷ ‵ (froom refE l₁₄ 0) ∷ ‵ (fdies refE l₁₄) ∷ ‵ (froom L'.mir l₁₃ 0) ∷ ‵ (fdies L'.mir l₁₃) ∷ ‵ (froom ty_ptr l₁₂ 0) ∷ ‵ (fdies ty_ptr l₁₂)
+      Start = ‵ (froom (slice_ty ref_e) l₁₅ 0) ∷ ‵ (fdies (slice_ty ref_e) l₁₅) ∷ ‵ (froom ref_e l₁₄ 0) ∷ ‵ (fdies ref_e l₁₄) ∷ ‵ (froom L'.mir l₁₃ 0) ∷ ‵ (fdies L'.mir l₁₃) ∷ ‵ (froom ty_ptr l₁₂ 0) ∷ ‵ (fdies ty_ptr l₁₂)
           ∷ ‵ (froom word l₁₁ 0) ∷ ‵ (fdies word l₁₁) ∷ ‵ (froom ty_bool l₁₀ 0) ∷ ‵ (fdies ty_bool l₁₀) ∷ ‵ (froom word l₉ 0) ∷ ‵ (fdies word l₉) ∷ ‵ (froom word l₈ 0) ∷ ‵ (fdies word l₈)
           ∷ ‵ (froom L'.mir l₇ 0) ∷ ‵ (fdies L'.mir l₇) ∷ ‵ (froom word l₆ 0) ∷ ‵ (fdies word l₆) ∷ ‵ (froom LC.mir l₅ 0) ∷ ‵ (fdies LC.mir l₅) ∷ ‵ (froom word l₄ 0) ∷ ‵ (fdies word l₄)
-          ∷ ‵ (fat full_share sliceA l₃ 0 s) ∷ ‵ (fdies sliceA l₃) ∷ ‵ (fat full_share sliceC l₂ 0 v) ∷ ‵ (fdies sliceC l₂) ∷ ‵ (fat full_share LC.mir l₁ 0 (lowC card)) ∷ ‵ (fdies LC.mir l₁) ∷ ‵ (froom LO.mir l₀ 0) ∷ ‵ (fdies LO.mir l₀)
+          ∷ ‵ (fat full_share slice_a l₃ 0 s) ∷ ‵ (fdies slice_a l₃) ∷ ‵ (fat full_share slice_c l₂ 0 v) ∷ ‵ (fdies slice_c l₂) ∷ ‵ (fat full_share LC.mir l₁ 0 (low_c card)) ∷ ‵ (fdies LC.mir l₁) ∷ ‵ (froom LO.mir l₀ 0) ∷ ‵ (fdies LO.mir l₀)
           ∷ (‵ (flft κ q) ⊛ (‵ (flft κ' q') ⊛ ‵ ftrue)) ∷ ‵ (owns (RC ∷ ShrSlice (named 0) κ R ∷ MutSlice (named 1) κ' u8 ∷ []) a vals) ∷ []
 
       begins : Sq 𝓛 Start (runs C Λ En mir.t-1 (at_ret En Post))
@@ -466,9 +466,9 @@ module _ {M : Type 1} {𝓤 : Ura M} (𝓛 : Logic 𝓤) (mem : Memory → SProp
           keep ! (3 ∷ 0 ∷ 6 ∷ 5 ∷ 2 ∷ upward 7 33) $
           first ! $ blocks ! $ loops ! 𝓣 Nearer Nearer-wf At turn (0, zero-le)))))
 
-    walk : ent 𝓤 (on_entry 𝓛 order.signature (κ, (κ', tt)) (q, (q', tt)) a vals) (WpFn 𝓤 H C Λ code.function (lowC card ∷ v ∷ s ∷ []) Post)
+    walk : ent 𝓤 (on_entry 𝓛 order.signature (κ, (κ', tt)) (q, (q', tt)) a vals) (WpFn 𝓤 H C Λ code.function (low_c card ∷ v ∷ s ∷ []) Post)
     walk =
-        qed 𝓛 ((‵ (flft κ q) ⊛ (‵ (flft κ' q') ⊛ ‵ ftrue)) ∷ ‵ (owns (RC ∷ ShrSlice (named 0) κ R ∷ MutSlice (named 1) κ' u8 ∷ []) a vals) ∷ []) ∵ enter ! C Λ code.function (lowC card ∷ v ∷ s ∷ []) _ $
+        qed 𝓛 ((‵ (flft κ q) ⊛ (‵ (flft κ' q') ⊛ ‵ ftrue)) ∷ ‵ (owns (RC ∷ ShrSlice (named 0) κ R ∷ MutSlice (named 1) κ' u8 ∷ []) a vals) ∷ []) ∵ enter ! C Λ code.function (low_c card ∷ v ∷ s ∷ []) _ $
         alloc1 ! (λ l₀. alloc1 ! (λ l₁. alloc1 ! (λ l₂. alloc1 ! (λ l₃. alloc1 ! (λ l₄. alloc1 ! (λ l₅. alloc1 ! (λ l₆. alloc1 ! (λ l₇. alloc1 ! (λ l₈. alloc1 ! (λ l₉. alloc1 ! (λ l₁₀. alloc1 ! (λ l₁₁. alloc1 ! (λ l₁₂. alloc1 ! (λ l₁₃. alloc1 ! (λ l₁₄. alloc1 ! (λ l₁₅. alloc0 ! $ params1 ! $
         pass1 ! (init ! at-card refl card-typed) $ pass1 ! (init ! at-commands refl (tt, (tt, (record { fits = room.0 }, tt)))) $ pass1 ! (init ! at-answers refl (tt, (tt, (record { fits = room'.0 }, tt)))) $ pass0 ! $ begins l₀ l₁ l₂ l₃ l₄ l₅ l₆ l₇ l₈ l₉ l₁₀ l₁₁ l₁₂ l₁₃ l₁₄ l₁₅))))))))))))))))
 
@@ -477,7 +477,7 @@ module _ {M : Type 1} {𝓤 : Ura M} (𝓛 : Logic 𝓤) (mem : Memory → SProp
   open 𝓛 use {H}
 
   order-walks : Walks 𝓛 order.ended stayed (WpFn 𝓤 H 𝓣.C 𝓣.Λ code.function) (order.clauses 𝓛 mem run)
-  order-walks = walked 𝓛 order.ended stayed (order.clauses 𝓛 mem run) (WpFn 𝓤 H 𝓣.C 𝓣.Λ code.function) (λ κs. (spelledC, (shr_slice_vals, (mut_slice_vals, tt)))) (λ κs. (LL.tells TC.the_type LC.the_laws, (shr_slice_Tells (named 0) κs.0 R, (mut_slice_Tells (named 1) κs.1.0 u8, tt))))
+  order-walks = walked 𝓛 order.ended stayed (order.clauses 𝓛 mem run) (WpFn 𝓤 H 𝓣.C 𝓣.Λ code.function) (λ κs. (spelled_c, (shr_slice_vals, (mut_slice_vals, tt)))) (λ κs. (LL.tells TC.the_type LC.the_laws, (shr_slice_Tells (named 0) κs.0 R, (mut_slice_Tells (named 1) κs.1.0 u8, tt))))
       (λ κs qs bounds a g are. via 𝓤 _ (fst∗ 𝓤 _ (emp 𝓤))
       (walk 𝓛 mem run κs.0 κs.1.0 qs.0 qs.1.0 a.1.0.ref_ptr.0 a.1.0.ref_ptr.1 a.1.1.0.ref_ptr.0 a.1.1.0.ref_ptr.1 a.1.0.ghost_name a.1.1.0.ghost_name a.0 a.1.0.now a.1.1.0.now are.0 are.1.0.0.1 are.1.1.0.0.1 𝓣 known-turns known-finish known-one))
 

@@ -1,10 +1,10 @@
 use Rattle.std.proofs.Common.{refl}
-use Rattle.packet.specs.Counts.{carriesLow}
+use Rattle.packet.specs.Counts.{carries_low}
 use Rattle.packet.proofs.counts.carries_low.Statement.{statement}
 use Rattle.packet.proofs.counts.carries_low.Tie as tie
 
 returns : tie.Need-returns
-unfolding carriesLow
+unfolding carries_low
 returns c = refl
 
 pub carries-low-spec : {M : Type 1} → statement M

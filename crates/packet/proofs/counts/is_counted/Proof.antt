@@ -1,5 +1,5 @@
 use Rattle.std.proofs.Common.{refl, rules}
-use Rattle.packet.specs.Counts.{h4Counts}
+use Rattle.packet.specs.Counts.{h4_counts}
 use Rattle.packet.proofs.counts.is_counted.Statement.{statement}
 use Rattle.packet.proofs.counts.is_counted.Tie as tie
 
@@ -13,7 +13,7 @@ cast-low : tie.Need-overflow-cast-low
 cast-low c = search rules
 
 returns : tie.Need-returns
-unfolding h4Counts
+unfolding h4_counts
 returns c = refl
 
 pub is-counted-spec : {M : Type 1} → statement M

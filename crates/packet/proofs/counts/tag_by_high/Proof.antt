@@ -1,5 +1,5 @@
 use Rattle.std.proofs.Common.{refl, arith}
-use Rattle.packet.specs.Counts.{tagByHigh}
+use Rattle.packet.specs.Counts.{tag_by_high}
 use Rattle.packet.proofs.counts.tag_by_high.Statement.{statement}
 use Rattle.packet.proofs.counts.tag_by_high.Tie as tie
 
@@ -13,7 +13,7 @@ add-result : tie.Need-overflow-add-result
 add-result c = omega arith
 
 returns : tie.Need-returns
-unfolding tagByHigh
+unfolding tag_by_high
 returns c = refl
 
 pub tag-by-high-spec : {M : Type 1} → statement M

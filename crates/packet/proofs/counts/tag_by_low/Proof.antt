@@ -1,5 +1,5 @@
 use Rattle.std.proofs.Common.{refl, arith}
-use Rattle.packet.specs.Counts.{tagByLow}
+use Rattle.packet.specs.Counts.{tag_by_low}
 use Rattle.packet.proofs.counts.tag_by_low.Statement.{statement}
 use Rattle.packet.proofs.counts.tag_by_low.Tie as tie
 
@@ -19,7 +19,7 @@ add-result-2 : tie.Need-overflow-add-result-2
 add-result-2 c = omega arith
 
 returns : tie.Need-returns
-unfolding tagByLow
+unfolding tag_by_low
 returns c = refl
 
 pub tag-by-low-spec : {M : Type 1} → statement M

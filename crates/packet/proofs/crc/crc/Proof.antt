@@ -1,7 +1,7 @@
 -- `crc` meets its contract: the shares of the seven bytes that the data nibbles make, joined (`seven`).
 use Rattle.std.proofs.Common.{◌∙◌, arith}
-use Rattle.packet.specs.ByTable.{crcWith}
-use Rattle.packet.specs.Shares.{byte_at, shareIn}
+use Rattle.packet.specs.ByTable.{crc_with}
+use Rattle.packet.specs.Shares.{byte_at, share_in}
 use Rattle.packet.proofs.Joining.{seven}
 use Rattle.packet.proofs.crc.crc.Statement.{statement}
 use Rattle.packet.proofs.crc.crc.Tie as tie
@@ -73,7 +73,7 @@ join-requires : tie.Need-join-requires
 join-requires c κs = omega arith
 
 returns : tie.Need-returns
-unfolding crcWith
+unfolding crc_with
 returns c =
     let at-byte-of6 = c.before.before in
     let at-byte-of5 = at-byte-of6.before in
@@ -81,9 +81,9 @@ returns c =
     let at-byte-of3 = at-byte-of4.before in
     let at-byte-of2 = at-byte-of3.before in
     let at-byte-of = at-byte-of2.before in
-    let at-start = at-byte-of.before in
+    let at_start_lem = at-byte-of.before in
     c.join.ensures
-    ∙ seven (shareIn at-start.args.table.now) (byte_at at-start.args.t2) _ _ _ _ _ _ _
+    ∙ seven (share_in at_start_lem.args.table.now) (byte_at at_start_lem.args.t2) _ _ _ _ _ _ _
     at-byte-of.byte_of.ensures
     at-byte-of2.byte-of2.ensures
     at-byte-of3.byte-of3.ensures

@@ -1,6 +1,6 @@
 -- `join` meets its contract: an entry of the table for each of seven bytes, joined in the definition's order.
 use Rattle.std.proofs.Common.{rules}
-use Rattle.packet.specs.Shares.{shareIn}
+use Rattle.packet.specs.Shares.{share_in}
 use Rattle.packet.proofs.Joining.{from_first}
 use Rattle.packet.proofs.crc.join.Statement.{statement}
 use Rattle.packet.proofs.crc.join.Tie as tie
@@ -49,16 +49,16 @@ index-2-result-7 c = search rules
 
 returns : tie.Need-returns
 returns c =
-    let at-start = c.before.before.before.before.before.before.before in
-    let t = at-start.args.table.now in
+    let at_start_lem = c.before.before.before.before.before.before.before in
+    let t = at_start_lem.args.table.now in
     from_first
-    (shareIn t 0 at-start.args.at-0)
-    (shareIn t 1 at-start.args.at_1)
-    (shareIn t 2 at-start.args.at-2)
-    (shareIn t 3 at-start.args.at-3)
-    (shareIn t 4 at-start.args.at-4)
-    (shareIn t 5 at-start.args.at_5)
-    (shareIn t 6 at-start.args.at-6)
+    (share_in t 0 at_start_lem.args.at-0)
+    (share_in t 1 at_start_lem.args.at_1)
+    (share_in t 2 at_start_lem.args.at-2)
+    (share_in t 3 at_start_lem.args.at-3)
+    (share_in t 4 at_start_lem.args.at-4)
+    (share_in t 5 at_start_lem.args.at_5)
+    (share_in t 6 at_start_lem.args.at-6)
 
 pub join-spec : {M : Type 1} → statement M
 join-spec =

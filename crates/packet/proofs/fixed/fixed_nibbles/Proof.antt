@@ -1,10 +1,10 @@
 use Rattle.std.proofs.Common.{refl}
-use Rattle.packet.specs.Fixed.{fixedNibbles, fixedNibblesWith}
+use Rattle.packet.specs.Fixed.{fixed_nibbles, fixed_nibbles_with}
 use Rattle.packet.proofs.fixed.fixed_nibbles.Statement.{statement}
 use Rattle.packet.proofs.fixed.fixed_nibbles.Tie as tie
 
 returns : tie.Need-returns
-unfolding fixedNibbles fixedNibblesWith
+unfolding fixed_nibbles fixed_nibbles_with
 returns c = refl
 
 pub fixed-nibbles-spec : {M : Type 1} → statement M

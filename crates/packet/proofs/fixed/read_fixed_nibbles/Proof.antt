@@ -1,7 +1,7 @@
 -- `read_fixed_nibbles` meets its contract: another word than FIXED is refused, else number and epoch are put together of their nibbles.
 use Rattle.std.proofs.Common.{refl, arith, ne_eqb}
-use Rattle.packet.specs.Fixed.{readFixedNibbles}
-use Rattle.packet.proofs.Answers.{fixed-packet}
+use Rattle.packet.specs.Fixed.{read_fixed_nibbles}
+use Rattle.packet.proofs.Answers.{fixed_packet}
 use Rattle.packet.proofs.fixed.read_fixed_nibbles.Statement.{statement}
 use Rattle.packet.proofs.fixed.read_fixed_nibbles.Tie as tie
 
@@ -27,14 +27,14 @@ byte-of-requires-2 : tie.Need-byte-of-requires-2
 byte-of-requires-2 c κs = omega arith
 
 returns : tie.Need-returns
-unfolding readFixedNibbles
+unfolding read_fixed_nibbles
 returns c = rw (ne_eqb _ 0 c.if1.true) refl
 
 fixed-fields-requires : tie.Need-fixed-fields-requires
 fixed-fields-requires c κs = omega arith
 
 returns-2 : tie.Need-returns-2
-returns-2 c = fixed-packet c.before.before.before.before.before.args.t1 _ _ _ c.before.if1.false c.before.before.before.before.byte_of.ensures c.before.before.before.byte-of2.ensures c.fixed-fields.ensures
+returns-2 c = fixed_packet c.before.before.before.before.before.args.t1 _ _ _ c.before.if1.false c.before.before.before.before.byte_of.ensures c.before.before.before.byte-of2.ensures c.fixed-fields.ensures
 
 pub read-fixed-nibbles-spec : {M : Type 1} → statement M
 read-fixed-nibbles-spec =

@@ -1,17 +1,17 @@
 -- `write_fixed` meets its contract: 9, 8, and under 0 the sixteen H4 bytes. Each exit cites one law of Answers over plain numbers, in the order of the tests.
-use Rattle.packet.proofs.Answers.{fixed-done, fixed-epoch, fixed-length, fixed-sq}
+use Rattle.packet.proofs.Answers.{fixed_done, fixed_epoch, fixed_length, fixed_sq}
 use Rattle.std.proofs.Common.{arith}
 use Rattle.packet.proofs.fixed.write_fixed.Statement.{statement}
 use Rattle.packet.proofs.fixed.write_fixed.Tie as tie
 
 returns : tie.Need-returns
-returns c = fixed-length _ _ _ c.if1.true
+returns c = fixed_length _ _ _ c.if1.true
 
 returns-2 : tie.Need-returns-2
-returns-2 c = fixed-epoch _ _ _ c.before.if1.false c.if2.true
+returns-2 c = fixed_epoch _ _ _ c.before.if1.false c.if2.true
 
 returns-3 : tie.Need-returns-3
-returns-3 c = fixed-sq _ _ _ c.before.before.if1.false c.before.if2.false c.if3.true
+returns-3 c = fixed_sq _ _ _ c.before.before.if1.false c.before.if2.false c.if3.true
 
 cast-fixed-nibbles : tie.Need-overflow-cast-fixed-nibbles
 cast-fixed-nibbles c = omega arith
@@ -42,7 +42,7 @@ returns-4 c =
     let at-if3 = at-fixed-nibbles.before in
     let at-if2 = at-if3.before in
     let at-if1 = at-if2.before in
-    fixed-done _ _ _ at-if1.if1.false at-if2.if2.false at-if3.if3.false _ _ _ at-fixed-nibbles.fixed-nibbles.ensures at-h4-of.h4-of.ensures at_copy.copy.ensures.1
+    fixed_done _ _ _ at-if1.if1.false at-if2.if2.false at-if3.if3.false _ _ _ at-fixed-nibbles.fixed-nibbles.ensures at-h4-of.h4-of.ensures at_copy.copy.ensures.1
 
 pub write-fixed-spec : {M : Type 1} → statement M
 write-fixed-spec =

@@ -1,5 +1,5 @@
 use Rattle.std.proofs.Common.{arith, eq-eqb, ne_eqb}
-use Rattle.packet.specs.Kinds.{firstTag, frames, tags, lead}
+use Rattle.packet.specs.Kinds.{first_tag, frames, tags, lead}
 use Rattle.packet.proofs.kinds.first_tag.Statement.{statement}
 use Rattle.packet.proofs.kinds.first_tag.Tie as tie
 
@@ -7,7 +7,7 @@ mul-result : tie.Need-overflow-mul-result
 mul-result c = omega arith
 
 returns : tie.Need-returns
-unfolding firstTag frames tags lead
+unfolding first_tag frames tags lead
 returns c = rw (eq-eqb _ 1 c.if1.true) (omega arith)
 
 mul-result-2 : tie.Need-overflow-mul-result-2
@@ -17,7 +17,7 @@ add-result : tie.Need-overflow-add-result
 add-result c = omega arith
 
 returns-2 : tie.Need-returns-2
-unfolding firstTag frames tags lead
+unfolding first_tag frames tags lead
 returns-2 c = rw (ne_eqb _ 1 c.if1.false) (omega arith)
 
 pub first-tag-spec : {M : Type 1} → statement M

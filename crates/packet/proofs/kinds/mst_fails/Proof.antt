@@ -1,5 +1,5 @@
 use Rattle.std.proofs.Common.{refl, arith}
-use Rattle.packet.specs.Kinds.{mstFails}
+use Rattle.packet.specs.Kinds.{mst_fails}
 use Rattle.packet.proofs.kinds.mst_fails.Statement.{statement}
 use Rattle.packet.proofs.kinds.mst_fails.Tie as tie
 
@@ -10,7 +10,7 @@ shr-result : tie.Need-overflow-shr-result
 shr-result c = omega arith
 
 returns : tie.Need-returns
-unfolding mstFails
+unfolding mst_fails
 returns c = refl
 
 pub mst-fails-spec : {M : Type 1} → statement M

@@ -1,6 +1,6 @@
 -- `h4_of` meets its contract: sixteen bytes, each a nibble above the MFI1 of its place; what is asked for is that places lie in the row and sums fit a byte.
 use Rattle.std.proofs.Common.{refl, arith}
-use Rattle.packet.specs.Layout.{h4Of}
+use Rattle.packet.specs.Layout.{h4_of}
 use Rattle.packet.proofs.layout.h4_of.Statement.{statement}
 use Rattle.packet.proofs.layout.h4_of.Tie as tie
 
@@ -149,7 +149,7 @@ add-t98 : tie.Need-overflow-add-t98
 add-t98 c = omega arith
 
 returns : tie.Need-returns
-unfolding h4Of
+unfolding h4_of
 returns c = refl
 
 pub h4-of-spec : {M : Type 1} → statement M

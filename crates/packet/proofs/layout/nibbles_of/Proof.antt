@@ -1,5 +1,5 @@
 use Rattle.std.proofs.Common.{arith}
-use Rattle.packet.proofs.Answers.{sealed-nibbles}
+use Rattle.packet.proofs.Answers.{sealed_nibbles}
 use Rattle.packet.proofs.layout.nibbles_of.Statement.{statement}
 use Rattle.packet.proofs.layout.nibbles_of.Tie as tie
 
@@ -16,7 +16,7 @@ array-write-nibbles-2 : tie.Need-array-write-nibbles-2
 array-write-nibbles-2 c = omega arith
 
 returns : tie.Need-returns
-returns c = sealed-nibbles c.before.before.requires.0 _ _ _ c.before.data_of.ensures c.crc.ensures
+returns c = sealed_nibbles c.before.before.requires.0 _ _ _ c.before.data_of.ensures c.crc.ensures
 
 pub nibbles-of-spec : {M : Type 1} → statement M
 nibbles-of-spec =

@@ -1,6 +1,6 @@
 -- `highs_of` meets its contract: the high nibble of each of sixteen bytes.
 use Rattle.std.proofs.Common.{refl, arith}
-use Rattle.packet.specs.Layout.{highsOf}
+use Rattle.packet.specs.Layout.{highs_of}
 use Rattle.packet.proofs.reader.highs_of.Statement.{statement}
 use Rattle.packet.proofs.reader.highs_of.Tie as tie
 
@@ -53,7 +53,7 @@ shared-slice-read-t48 : tie.Need-shared-slice-read-t48
 shared-slice-read-t48 c = omega arith
 
 returns : tie.Need-returns
-unfolding highsOf
+unfolding highs_of
 returns c = refl
 
 pub highs-of-spec : {M : Type 1} → statement M

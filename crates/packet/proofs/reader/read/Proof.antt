@@ -1,14 +1,14 @@
 -- `read` meets its contract: 9, and else what its high nibbles read as. They are read as the eight bytes that they make (`by_bytes`).
 use Rattle.std.proofs.Common.{◌≡◌, length, refl, ◌∙◌, arith, eq-eqb, ne_eqb}
-use Rattle.packet.specs.Layout.{highsOf}
-use Rattle.packet.specs.Reading.{readAnswer}
-use Rattle.packet.specs.Theorems.ByTable.{read-nibbles-with}
+use Rattle.packet.specs.Layout.{highs_of}
+use Rattle.packet.specs.Reading.{read_answer}
+use Rattle.packet.specs.Theorems.ByTable.{read_nibbles_with_lem}
 use Rattle.packet.proofs.Eight.{by_bytes}
 use Rattle.packet.proofs.reader.read.Statement.{statement}
 use Rattle.packet.proofs.reader.read.Tie as tie
 
 returns : tie.Need-returns
-unfolding readAnswer
+unfolding read_answer
 returns c = rw (ne_eqb _ 16 c.if1.true) refl
 
 -- the place of the test on the length, seen from behind each byte
@@ -112,7 +112,7 @@ read-bytes-requires : tie.Need-read-bytes-requires
 read-bytes-requires c κs = omega arith
 
 returns-2 : tie.Need-returns-2
-unfolding readAnswer highsOf
+unfolding read_answer highs_of
 returns-2 c =
     let at-byte-of7 = c.before.before.before.before in
     let at-byte-of6 = at-byte-of7.before.before.before in
@@ -122,11 +122,11 @@ returns-2 c =
     let at-byte-of2 = at-byte-of3.before.before.before in
     let at-byte-of = at-byte-of2.before.before.before in
     let at-if1 = at-byte-of.before.before.before.before.before in
-    let at-start = at-if1.before.before in
-    let sized : length (highsOf at-start.args.h4.now) ≡ 16 = refl in
+    let at_start_lem = at-if1.before.before in
+    let sized : length (highs_of at_start_lem.args.h4.now) ≡ 16 = refl in
     rw (eq-eqb _ 16 at-if1.if1.false)
     (c.read-bytes.ensures
-    ∙ by_bytes _ (highsOf at-start.args.h4.now) _ _ _ _ _ _ _ _
+    ∙ by_bytes _ (highs_of at_start_lem.args.h4.now) _ _ _ _ _ _ _ _
     at-byte-of.byte_of.ensures
     at-byte-of2.byte-of2.ensures
     at-byte-of3.byte-of3.ensures
@@ -135,7 +135,7 @@ returns-2 c =
     at-byte-of6.byte-of6.ensures
     at-byte-of7.byte-of7.ensures
     c.before.byte-of8.ensures
-    ∙ read-nibbles-with at-byte-of.before.before.before.before.share-table.ensures (highsOf at-start.args.h4.now) (omega arith))
+    ∙ read_nibbles_with_lem at-byte-of.before.before.before.before.share-table.ensures (highs_of at_start_lem.args.h4.now) (omega arith))
 
 pub read_spec : {M : Type 1} → statement M
 read_spec =

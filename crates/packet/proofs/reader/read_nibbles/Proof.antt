@@ -88,9 +88,9 @@ returns c =
     let at-byte-of3 = at-byte-of4.before in
     let at-byte-of2 = at-byte-of3.before in
     let at-byte-of = at-byte-of2.before in
-    let at-start = at-byte-of.before in
+    let at_start_lem = at-byte-of.before in
     c.read-bytes.ensures
-    ∙ by_bytes _ at-start.args.t2 _ _ _ _ _ _ _ _
+    ∙ by_bytes _ at_start_lem.args.t2 _ _ _ _ _ _ _ _
     at-byte-of.byte_of.ensures
     at-byte-of2.byte-of2.ensures
     at-byte-of3.byte-of3.ensures

@@ -1,5 +1,5 @@
 use Rattle.std.proofs.Common.{refl, ◌∙◌, rules, eq-eqb, ne_eqb}
-use Rattle.packet.specs.Symbols.{entryWith}
+use Rattle.packet.specs.Symbols.{entry_with}
 use Rattle.packet.proofs.symbols.entry_with.Statement.{statement}
 use Rattle.packet.proofs.symbols.entry_with.Tie as tie
 
@@ -7,11 +7,11 @@ pair-with-requires : tie.Need-pair-with-requires
 pair-with-requires c κs = search rules
 
 returns : tie.Need-returns
-unfolding entryWith
+unfolding entry_with
 returns c = c.pair-with.ensures ∙ rw (eq-eqb _ 1 c.before.if1.true) refl
 
 returns-2 : tie.Need-returns-2
-unfolding entryWith
+unfolding entry_with
 returns-2 c = rw (ne_eqb _ 1 c.if1.false) refl
 
 pub entry-with-spec : {M : Type 1} → statement M

@@ -1,5 +1,5 @@
 use Rattle.std.proofs.Common.{refl, rules, eq-eqb, ne_eqb}
-use Rattle.packet.specs.Symbols.{entryWith}
+use Rattle.packet.specs.Symbols.{entry_with}
 use Rattle.packet.proofs.symbols.pair_with.Statement.{statement}
 use Rattle.packet.proofs.symbols.pair_with.Tie as tie
 
@@ -10,7 +10,7 @@ add-result : tie.Need-overflow-add-result
 add-result c = search rules
 
 returns : tie.Need-returns
-unfolding entryWith
+unfolding entry_with
 returns c = rw (eq-eqb _ 0 c.if1.true) refl
 
 mul-result-2 : tie.Need-overflow-mul-result-2
@@ -20,7 +20,7 @@ add-result-2 : tie.Need-overflow-add-result-2
 add-result-2 c = search rules
 
 returns-2 : tie.Need-returns-2
-unfolding entryWith
+unfolding entry_with
 returns-2 c = rw (ne_eqb _ 0 c.if1.false) refl
 
 pub pair-with-spec : {M : Type 1} → statement M

@@ -2,7 +2,7 @@
 use Rattle.std.proofs.Common.{refl, arith, rules}
 use Rattle.packet.proofs.symbols.with_symbol.Statement.{statement}
 use Rattle.packet.proofs.symbols.with_symbol.Tie as tie
-use Rattle.packet.specs.Theorems.Symbols.{with-parts, with-past}
+use Rattle.packet.specs.Theorems.Symbols.{with_parts, with_past}
 
 entry-at-requires : tie.Need-entry-at-requires
 entry-at-requires c κs = search rules
@@ -23,10 +23,10 @@ array-write-entries : tie.Need-array-write-entries
 array-write-entries c = search rules
 
 returns : tie.Need-returns
-returns c = with-parts _ _ _ _ _ _ _ c.before.before.entry_at.ensures refl c.entry-with.ensures
+returns c = with_parts _ _ _ _ _ _ _ c.before.before.entry_at.ensures refl c.entry-with.ensures
 
 returns-2 : tie.Need-returns-2
-returns-2 c = with-past _ _ _ _ _ c.before.entry_at.ensures (omega arith)
+returns-2 c = with_past _ _ _ _ _ c.before.entry_at.ensures (omega arith)
 
 pub with-symbol-spec : {M : Type 1} → statement M
 with-symbol-spec =

@@ -1,6 +1,6 @@
 -- `data_of` meets its contract: the fields in order make one number, which is that of the 29 data bits (`data-number`), and fits since each field does.
 use Rattle.std.proofs.Common.{sym, arith}
-use Rattle.packet.specs.Laws.Vc12.{data-number}
+use Rattle.packet.specs.Laws.Vc12.{data_number}
 use Rattle.packet.proofs.vc12.data_of.Statement.{statement}
 use Rattle.packet.proofs.vc12.data_of.Tie as tie
 
@@ -59,7 +59,7 @@ add-result-6 : tie.Need-overflow-add-result-6
 add-result-6 c = omega arith
 
 returns : tie.Need-returns
-returns c = let start = c.before.before.before.before.before.before.before.before in sym (data-number start.args.fields start.requires)
+returns c = let start = c.before.before.before.before.before.before.before.before in sym (data_number start.args.fields start.requires)
 
 pub data-of-spec : {M : Type 1} → statement M
 data-of-spec =

@@ -1,5 +1,5 @@
 use Rattle.std.proofs.Common.{◌<◌, refl, arith, lt-ltb}
-use Rattle.packet.specs.Vc12.{vc12Fits}
+use Rattle.packet.specs.Vc12.{vc12_fits}
 use Rattle.packet.proofs.vc12.fits.Statement.{statement}
 use Rattle.packet.proofs.vc12.fits.Tie as tie
 
@@ -7,7 +7,7 @@ is-assigned-requires : tie.Need-is-assigned-requires
 is-assigned-requires c κs = omega arith
 
 returns : tie.Need-returns
-unfolding vc12Fits
+unfolding vc12_fits
 returns c =
     let f = c.before.before.before.before.before.before.before.before.before.args.fields in
     let m : f.mst < 256 = omega arith in

@@ -3,8 +3,8 @@ use Rattle.std.proofs.Common.{◌≡◌, ℕ, ◌-◌, ◌≤◌, get_or, refl, 
 use Rattle.ground.specs.Bits.{odd}
 use Rattle.ground.specs.Bits.{number as spelt}
 use Rattle.ground.specs.Table.{tabulate}
-use Rattle.packet.specs.Vc12.{lowestOf}
-use Rattle.packet.proofs.OneNumber.{spelt-lt, spelt-more}
+use Rattle.packet.specs.Vc12.{lowest_of}
+use Rattle.packet.proofs.OneNumber.{spelt_lt, spelt_more}
 use Rattle.packet.proofs.vc12.number_of.Statement.{statement}
 use Rattle.packet.proofs.vc12.number_of.Tie as tie
 
@@ -18,7 +18,7 @@ loop-holds : tie.Need-loop-init invariant-loop decreases-loop
 loop-holds c = (omega arith, refl)
 
 mul-number : tie.Need-overflow-mul-number invariant-loop decreases-loop
-mul-number c = let low = spelt-lt (λ i. odd (get_or c.before.before.args.frames.now i 0)) c.before.loop.number c.before.loop.k 31 c.before.loop.invariant.1 (omega arith) in omega arith
+mul-number c = let low = spelt_lt (λ i. odd (get_or c.before.before.args.frames.now i 0)) c.before.loop.number c.before.loop.k 31 c.before.loop.invariant.1 (omega arith) in omega arith
 
 shared-slice-read-number : tie.Need-shared-slice-read-number invariant-loop decreases-loop
 shared-slice-read-number c = omega arith
@@ -27,7 +27,7 @@ cast-number : tie.Need-overflow-cast-number invariant-loop decreases-loop
 cast-number c = omega arith
 
 add-number : tie.Need-overflow-add-number invariant-loop decreases-loop
-add-number c = let low = spelt-lt (λ i. odd (get_or c.before.before.before.args.frames.now i 0)) c.before.before.loop.number c.before.before.loop.k 31 c.before.before.loop.invariant.1 (omega arith) in omega arith
+add-number c = let low = spelt_lt (λ i. odd (get_or c.before.before.before.args.frames.now i 0)) c.before.before.loop.number c.before.before.loop.k 31 c.before.before.loop.invariant.1 (omega arith) in omega arith
 
 add-k : tie.Need-overflow-add-k invariant-loop decreases-loop
 add-k c = omega arith
@@ -39,10 +39,10 @@ loop-again : tie.Need-loop-preserved invariant-loop decreases-loop
 loop-again c =
     let s = c.before.before.before.args.frames.now in
     let loop = c.before.before.loop in
-    (omega arith, spelt-more (λ i. odd (get_or s i 0)) loop.number loop.k (get_or s loop.k 0) loop.invariant.1 refl)
+    (omega arith, spelt_more (λ i. odd (get_or s i 0)) loop.number loop.k (get_or s loop.k 0) loop.invariant.1 refl)
 
 returns : tie.Need-returns invariant-loop decreases-loop
-unfolding lowestOf
+unfolding lowest_of
 returns c =
     let e : c.before.loop.k ≡ 32 = omega arith in
     c.before.loop.invariant.1 ∙ ap (λ (m : ℕ). spelt (tabulate m (λ i. odd (get_or c.before.before.args.frames.now i 0)))) e

@@ -1,5 +1,5 @@
 use Rattle.std.proofs.Common.{arith}
-use Rattle.packet.proofs.OneNumber.{read_right, read-wrong}
+use Rattle.packet.proofs.OneNumber.{read_right, read_wrong}
 use Rattle.packet.proofs.vc12.read_number.Statement.{statement}
 use Rattle.packet.proofs.vc12.read_number.Tie as tie
 
@@ -7,7 +7,7 @@ left-of-requires : tie.Need-left-of-requires
 left-of-requires c κs = omega arith
 
 returns : tie.Need-returns
-returns c = read-wrong _ _ c.before.left-of.ensures c.if1.true
+returns c = read_wrong _ _ c.before.left-of.ensures c.if1.true
 
 fields-of-requires : tie.Need-fields-of-requires
 fields-of-requires c κs = omega arith

@@ -1,22 +1,22 @@
 -- `write_vc12` meets its contract: 9, 8, and under 0 the bytes of 32 frames.
 use Rattle.std.proofs.Common.{sym, ◌∙◌, arith}
 use borrow.Author.Tests.{not-true, not-false}
-use Rattle.packet.specs.Laws.Bounds.{vc12-bounds}
-use Rattle.packet.proofs.OneNumber.{write_done, write-field, write-length}
+use Rattle.packet.specs.Laws.Bounds.{vc12_bounds}
+use Rattle.packet.proofs.OneNumber.{write_done, write_field, write_length}
 use Rattle.packet.proofs.vc12.write_vc12.Statement.{statement}
 use Rattle.packet.proofs.vc12.write_vc12.Tie as tie
 
 returns : tie.Need-returns
-returns c = write-length _ _ c.if1.true
+returns c = write_length _ _ c.if1.true
 
 fits-requires : tie.Need-fits-requires
 fits-requires c κs = omega arith
 
 returns-2 : tie.Need-returns-2
-returns-2 c = write-field _ _ c.before.before.if1.false (sym c.before.fits2.ensures ∙ not-true _ c.if2.true)
+returns-2 c = write_field _ _ c.before.before.if1.false (sym c.before.fits2.ensures ∙ not-true _ c.if2.true)
 
 packet-of-requires : tie.Need-packet-of-requires
-packet-of-requires c κs = vc12-bounds _ (sym c.before.fits2.ensures ∙ not-false _ c.if2.false)
+packet-of-requires c κs = vc12_bounds _ (sym c.before.fits2.ensures ∙ not-false _ c.if2.false)
 
 put-bytes-requires : tie.Need-put-bytes-requires
 put-bytes-requires c κs = omega arith

@@ -2,18 +2,18 @@
 use Rattle.std.proofs.Common.{sym, ◌∙◌, arith}
 use borrow.Author.Tests.{not-true, not-false}
 use Rattle.packet.specs.Laws.Bounds.{bounds}
-use Rattle.packet.proofs.Answers.{write-length, write-field, write_done}
+use Rattle.packet.proofs.Answers.{write_length, write_field, write_done}
 use Rattle.packet.proofs.writer.write.Statement.{statement}
 use Rattle.packet.proofs.writer.write.Tie as tie
 
 returns : tie.Need-returns
-returns c = write-length _ _ c.if1.true
+returns c = write_length _ _ c.if1.true
 
 fits-requires : tie.Need-fits-requires
 fits-requires c κs = omega arith
 
 returns-2 : tie.Need-returns-2
-returns-2 c = write-field _ _ c.before.before.if1.false (sym c.before.fits2.ensures ∙ not-true _ c.if2.true)
+returns-2 c = write_field _ _ c.before.before.if1.false (sym c.before.fits2.ensures ∙ not-true _ c.if2.true)
 
 share-table-requires : tie.Need-share-table-requires
 share-table-requires c κs = omega arith

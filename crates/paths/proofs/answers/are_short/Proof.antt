@@ -6,14 +6,14 @@ use native.Mathlib.Omega.{arith}
 use lib.Dec.{leb}
 use lib.ListN.{length}
 use Rattle.ground.specs.Counting.Words.{every}
-use Rattle.paths.specs.Answers.{areShort}
-use Rattle.paths.specs.Paths.{delayAt}
+use Rattle.paths.specs.Answers.{are_short}
+use Rattle.paths.specs.Paths.{delay_at}
 use borrow.Author.Rules.{rules}
 use Rattle.paths.proofs.answers.are_short.Statement.{statement}
 use Rattle.paths.proofs.answers.are_short.Tie as tie
 
 abbrev invariant-loop : tie.invariant-loop
-invariant-loop delays all₀ i₀ all i = (i ≤ length delays) × (all ≡ every i (λ j. leb (delayAt delays j) 4095))
+invariant-loop delays all₀ i₀ all i = (i ≤ length delays) × (all ≡ every i (λ j. leb (delay_at delays j) 4095))
 
 abbrev decreases-loop : tie.decreases-loop
 decreases-loop delays all₀ i₀ all i = length delays - i
@@ -37,7 +37,7 @@ loop-again : tie.Need-loop-preserved invariant-loop decreases-loop
 loop-again c = (omega arith, rw (c.before.before.loop.invariant.1, add-one))
 
 returns : tie.Need-returns invariant-loop decreases-loop
-unfolding areShort
+unfolding are_short
 returns c = let e : c.before.loop.i ≡ length c.before.before.args.delays.now = omega arith in rw e at c.before.loop.invariant.1
 
 pub are-short-spec : {M : Type 1} → statement M

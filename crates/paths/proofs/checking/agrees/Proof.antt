@@ -4,14 +4,14 @@ use Prim.Native.Nat.{◌≤◌, ◌-◌}
 use native.Mathlib.Numerals.{add-one}
 use native.Mathlib.Omega.{arith}
 use Rattle.ground.specs.Counting.Words.{every}
-use Rattle.paths.specs.Checking.{agree, agreesWith}
-use Rattle.paths.specs.Paths.{pathAt}
+use Rattle.paths.specs.Checking.{agree, agrees_with}
+use Rattle.paths.specs.Paths.{path_at}
 use borrow.Author.Rules.{rules}
 use Rattle.paths.proofs.checking.agrees.Statement.{statement}
 use Rattle.paths.proofs.checking.agrees.Tie as tie
 
 abbrev invariant-loop : tie.invariant-loop
-invariant-loop delays set a room all₀ b₀ all b = (b ≤ a) × (all ≡ every b (λ i. agree delays room (pathAt set i) (pathAt set a)))
+invariant-loop delays set a room all₀ b₀ all b = (b ≤ a) × (all ≡ every b (λ i. agree delays room (path_at set i) (path_at set a)))
 
 abbrev decreases-loop : tie.decreases-loop
 decreases-loop delays set a room all₀ b₀ all b = a - b
@@ -38,7 +38,7 @@ loop-again : tie.Need-loop-preserved invariant-loop decreases-loop
 loop-again c = (omega arith, rw (c.before.before.before.before.loop.invariant.1, c.do-agree.ensures, add-one))
 
 returns : tie.Need-returns invariant-loop decreases-loop
-unfolding agreesWith
+unfolding agrees_with
 returns c = let e : c.before.loop.b ≡ c.before.before.before.before.args.a = omega arith in rw e at c.before.loop.invariant.1
 
 pub agrees-spec : {M : Type 1} → statement M

@@ -6,13 +6,13 @@ use native.Mathlib.Omega.{arith}
 use lib.ListN.{length}
 use borrow.Author.Tests.{eq-eqb, ne_eqb}
 use Rattle.ground.specs.Counting.Words.{every}
-use Rattle.paths.specs.Checking.{accepts, entryFits}
+use Rattle.paths.specs.Checking.{accepts, entry_fits}
 use borrow.Author.Rules.{rules}
 use Rattle.paths.proofs.checking.is_accepted.Statement.{statement}
 use Rattle.paths.proofs.checking.is_accepted.Tie as tie
 
 abbrev invariant-loop : tie.invariant-loop
-invariant-loop delays k room set all₀ a₀ all a = (a ≤ length set) × (all ≡ every a (entryFits delays set room))
+invariant-loop delays k room set all₀ a₀ all a = (a ≤ length set) × (all ≡ every a (entry_fits delays set room))
 
 abbrev decreases-loop : tie.decreases-loop
 decreases-loop delays k room set all₀ a₀ all a = length set - a

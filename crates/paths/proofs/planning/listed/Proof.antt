@@ -3,18 +3,18 @@ use mathlib.Core.Path.{◌≡◌, refl}
 use Prim.Native.Nat.{◌+◌, ◌≤◌, ◌-◌}
 use native.Mathlib.Omega.{arith}
 use lib.ListN.{length}
-use Rattle.ground.specs.Counting.Laws.Numbers.{count_fits, count-more}
+use Rattle.ground.specs.Counting.Laws.Numbers.{count_fits, count_more}
 use Rattle.ground.specs.Counting.Words.{count as count_of}
-use Rattle.paths.specs.Laws.Listing.{length-listed}
-use Rattle.paths.specs.Planning.{inStretch, listedPlan, padded}
-use Rattle.paths.specs.Planning.{listed as listedTo}
+use Rattle.paths.specs.Laws.Listing.{length_listed}
+use Rattle.paths.specs.Planning.{in_stretch, listed_plan, padded}
+use Rattle.paths.specs.Planning.{listed as listed_to}
 use Rattle.paths.proofs.Growing.{listed_more}
 use borrow.Author.Rules.{rules}
 use Rattle.paths.proofs.planning.listed.Statement.{statement}
 use Rattle.paths.proofs.planning.listed.Tie as tie
 
 abbrev invariant-loop : tie.invariant-loop
-invariant-loop n first k ranks paths₀ count₀ i₀ paths count i = (length ranks ≡ 64) × (i ≤ n) × (count ≡ count_of i (inStretch ranks first k)) × (paths ≡ padded (listedTo i (inStretch ranks first k)))
+invariant-loop n first k ranks paths₀ count₀ i₀ paths count i = (length ranks ≡ 64) × (i ≤ n) × (count ≡ count_of i (in_stretch ranks first k)) × (paths ≡ padded (listed_to i (in_stretch ranks first k)))
 
 abbrev decreases-loop : tie.decreases-loop
 decreases-loop n first k ranks paths₀ count₀ i₀ paths count i = n - i
@@ -38,7 +38,7 @@ one-if-requires : tie.Need-one-if-requires invariant-loop decreases-loop
 one-if-requires c κs = search rules
 
 add-count : tie.Need-overflow-add-count invariant-loop decreases-loop
-add-count c = let h : c.before.before.before.before.loop.count + c.one-if.result ≤ c.before.before.before.before.loop.i + 1 = count_fits (inStretch c.before.before.before.before.before.args.t1 c.before.before.before.before.before.args.first c.before.before.before.before.before.args.k) c.before.before.is_Within.result _ _ _ c.before.before.before.before.loop.invariant.2 c.one-if.ensures in omega arith
+add-count c = let h : c.before.before.before.before.loop.count + c.one-if.result ≤ c.before.before.before.before.loop.i + 1 = count_fits (in_stretch c.before.before.before.before.before.args.t1 c.before.before.before.before.before.args.first c.before.before.before.before.before.args.k) c.before.before.is_Within.result _ _ _ c.before.before.before.before.loop.invariant.2 c.one-if.ensures in omega arith
 
 add-i : tie.Need-overflow-add-i invariant-loop decreases-loop
 add-i c = search rules
@@ -47,11 +47,11 @@ loop-less : tie.Need-loop-smaller invariant-loop decreases-loop
 loop-less c = search rules
 
 loop-again : tie.Need-loop-preserved invariant-loop decreases-loop
-loop-again c = (c.before.before.before.before.loop.invariant.0, omega arith, count-more (inStretch c.before.before.before.before.before.args.t1 c.before.before.before.before.before.args.first c.before.before.before.before.before.args.k) c.before.before.before.before.loop.i c.before.before.before.before.loop.count c.one-if.result c.before.before.before.before.loop.invariant.2 (rw (c.one-if.ensures, c.before.before.is_Within.ensures) refl), listed_more (inStretch c.before.before.before.before.before.args.t1 c.before.before.before.before.before.args.first c.before.before.before.before.before.args.k) c.before.before.before.before.loop.i c.before.before.before.before.loop.count c.before.before.before.before.loop.paths _ c.before.before.is_Within.result (omega arith) c.before.before.before.before.loop.invariant.2 c.before.before.before.before.loop.invariant.3 c.before.before.is_Within.ensures c.before.put-path.ensures)
+loop-again c = (c.before.before.before.before.loop.invariant.0, omega arith, count_more (in_stretch c.before.before.before.before.before.args.t1 c.before.before.before.before.before.args.first c.before.before.before.before.before.args.k) c.before.before.before.before.loop.i c.before.before.before.before.loop.count c.one-if.result c.before.before.before.before.loop.invariant.2 (rw (c.one-if.ensures, c.before.before.is_Within.ensures) refl), listed_more (in_stretch c.before.before.before.before.before.args.t1 c.before.before.before.before.before.args.first c.before.before.before.before.before.args.k) c.before.before.before.before.loop.i c.before.before.before.before.loop.count c.before.before.before.before.loop.paths _ c.before.before.is_Within.result (omega arith) c.before.before.before.before.loop.invariant.2 c.before.before.before.before.loop.invariant.3 c.before.before.is_Within.ensures c.before.put-path.ensures)
 
 returns : tie.Need-returns invariant-loop decreases-loop
-unfolding listedPlan
-returns c = let e : c.before.loop.i ≡ c.before.before.args.n = omega arith in rw (c.before.loop.invariant.3, c.before.loop.invariant.2, e, length-listed c.before.before.args.n (inStretch c.before.before.args.t1 c.before.before.args.first c.before.before.args.k)) refl
+unfolding listed_plan
+returns c = let e : c.before.loop.i ≡ c.before.before.args.n = omega arith in rw (c.before.loop.invariant.3, c.before.loop.invariant.2, e, length_listed c.before.before.args.n (in_stretch c.before.before.args.t1 c.before.before.args.first c.before.before.args.k)) refl
 
 pub listed-spec : {M : Type 1} → statement M
 listed-spec =

@@ -2,7 +2,7 @@
 -- Only a right size makes X P small enough to be worked out, and X no more than the starts that are given (`sizes`, `frame-most`).
 use mathlib.Core.Path.{sym, ◌∙◌}
 use native.Mathlib.Omega.{arith}
-use Rattle.payload.specs.Laws.Fits.{sizes, frame-most}
+use Rattle.payload.specs.Laws.Fits.{sizes, frame_most}
 use Rattle.payload.proofs.answer.from.Statement.{statement}
 use Rattle.payload.proofs.answer.from.Tie as tie
 
@@ -12,7 +12,7 @@ is-sized-requires c κs = omega arith
 mul-ends-within : tie.Need-overflow-mul-ends-within
 mul-ends-within c =
     let a = c.before.before.before.args in
-    let s = frame-most a.x a.p (sizes a.x a.p (sym c.before.is-sized.ensures ∙ c.if1.true)) in
+    let s = frame_most a.x a.p (sizes a.x a.p (sym c.before.is-sized.ensures ∙ c.if1.true)) in
     omega arith
 
 ends-within-requires : tie.Need-ends-within-requires

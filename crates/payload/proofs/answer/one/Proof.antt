@@ -1,6 +1,6 @@
 use mathlib.Core.Path.{sym, ◌∙◌}
 use native.Mathlib.Omega.{arith}
-use Rattle.payload.specs.Laws.Fits.{sizes, frame-most}
+use Rattle.payload.specs.Laws.Fits.{sizes, frame_most}
 use Rattle.payload.proofs.answer.one.Statement.{statement}
 use Rattle.payload.proofs.answer.one.Tie as tie
 
@@ -8,7 +8,7 @@ is-sized-requires : tie.Need-is-sized-requires
 is-sized-requires c κs = omega arith
 
 mul-n : tie.Need-overflow-mul-n
-mul-n c = let a = c.before.before.args in let s = frame-most a.x a.p (sizes a.x a.p (sym c.before.is-sized.ensures ∙ c.if1.true)) in omega arith
+mul-n c = let a = c.before.before.args in let s = frame_most a.x a.p (sizes a.x a.p (sym c.before.is-sized.ensures ∙ c.if1.true)) in omega arith
 
 by-lengths-requires : tie.Need-by-lengths-requires
 by-lengths-requires c κs = omega arith

@@ -3,12 +3,12 @@ use Prim.Native.Nat.{◌≤◌, ◌-◌}
 use mathlib.Core.Path.{◌≡◌, refl}
 use native.Mathlib.Omega.{arith}
 use native.Mathlib.Numerals.{add-one}
-use Rattle.payload.specs.Joining.{startsFit}
+use Rattle.payload.specs.Joining.{starts_fit}
 use Rattle.payload.proofs.answer.starts_fit.Statement.{statement}
 use Rattle.payload.proofs.answer.starts_fit.Tie as tie
 
 abbrev invariant-loop : tie.invariant-loop
-invariant-loop x p starts store fit₀ r₀ fit r = (r ≤ x) × (fit ≡ startsFit r p starts store)
+invariant-loop x p starts store fit₀ r₀ fit r = (r ≤ x) × (fit ≡ starts_fit r p starts store)
 
 abbrev decreases-loop : tie.decreases-loop
 decreases-loop x p starts store fit₀ r₀ fit r = x - r

@@ -2,8 +2,8 @@
 -- One exit for each of the three sizes; every row lies within the members (`ranked-in`) and every line within the frame (`block_in`).
 use mathlib.Core.Path.{◌≡◌}
 use native.Mathlib.Omega.{arith}
-use Rattle.payload.specs.Joining.{rankedByte}
-use Rattle.payload.proofs.Blocks.{block_in, block-is, ranked-in}
+use Rattle.payload.specs.Joining.{ranked_byte}
+use Rattle.payload.proofs.Blocks.{block_in, block_is, ranked_in}
 use borrow.Author.Rules.{rules}
 use Rattle.payload.proofs.block.block.Statement.{statement}
 use Rattle.payload.proofs.block.block.Tie as tie
@@ -18,7 +18,7 @@ read-ranked-requires c κs =
     let s = e.0 in
     let high : a.h ≡ 8 = omega arith in
     let wide : a.w ≡ 16 = omega arith in
-    (omega arith, omega arith, ranked-in a.x a.p a.r a.j 8 16 _ (omega arith) (omega arith) e.3)
+    (omega arith, omega arith, ranked_in a.x a.p a.r a.j 8 16 _ (omega arith) (omega arith) e.3)
 
 lay-eight-requires : tie.Need-lay-eight-requires
 lay-eight-requires c κs =
@@ -40,7 +40,7 @@ read-ranked-requires-2 c κs =
     let s = e.0 in
     let high : a.h ≡ 16 = omega arith in
     let wide : a.w ≡ 8 = omega arith in
-    (omega arith, omega arith, ranked-in a.x a.p a.r a.j 16 8 _ (omega arith) (omega arith) e.3)
+    (omega arith, omega arith, ranked_in a.x a.p a.r a.j 16 8 _ (omega arith) (omega arith) e.3)
 
 lay-sixteen-requires : tie.Need-lay-sixteen-requires
 lay-sixteen-requires c κs =
@@ -62,7 +62,7 @@ read-ranked-requires-3 c κs =
     let s = e.0 in
     let high : a.h ≡ 16 = omega arith in
     let wide : a.w ≡ 16 = omega arith in
-    (omega arith, omega arith, ranked-in a.x a.p a.r a.j 16 16 _ (omega arith) (omega arith) e.3)
+    (omega arith, omega arith, ranked_in a.x a.p a.r a.j 16 16 _ (omega arith) (omega arith) e.3)
 
 lay-wide-requires : tie.Need-lay-wide-requires
 lay-wide-requires c κs =
@@ -85,7 +85,7 @@ returns c =
     let s = c.before.before.before.before.before.before.before.before.before.before.requires.0 in
     let high : a.h ≡ 8 = omega arith in
     let wide : a.w ≡ 16 = omega arith in
-    block-is a.x 0 (rankedByte a.p a.members.now) a.h a.w 8 16 a.j a.r _ _ a.frame.now _ high wide at_read.read-ranked.ensures at-lay.lay-eight.ensures
+    block_is a.x 0 (ranked_byte a.p a.members.now) a.h a.w 8 16 a.j a.r _ _ a.frame.now _ high wide at_read.read-ranked.ensures at-lay.lay-eight.ensures
 
 same-length-2 : tie.Need-same-length-2
 same-length-2 c = search rules
@@ -98,7 +98,7 @@ returns-2 c =
     let s = c.before.before.before.before.before.before.before.before.before.before.before.requires.0 in
     let high : a.h ≡ 16 = omega arith in
     let wide : a.w ≡ 8 = omega arith in
-    block-is a.x 0 (rankedByte a.p a.members.now) a.h a.w 16 8 a.j a.r _ _ a.frame.now _ high wide at_read.read-ranked2.ensures at-lay.lay-sixteen.ensures
+    block_is a.x 0 (ranked_byte a.p a.members.now) a.h a.w 16 8 a.j a.r _ _ a.frame.now _ high wide at_read.read-ranked2.ensures at-lay.lay-sixteen.ensures
 
 same-length-3 : tie.Need-same-length-3
 same-length-3 c = search rules
@@ -111,7 +111,7 @@ returns-3 c =
     let s = c.before.before.before.before.before.before.before.before.before.before.before.requires.0 in
     let high : a.h ≡ 16 = omega arith in
     let wide : a.w ≡ 16 = omega arith in
-    block-is a.x 0 (rankedByte a.p a.members.now) a.h a.w 16 16 a.j a.r _ _ a.frame.now _ high wide at_read.read-ranked3.ensures at-lay.lay-wide.ensures
+    block_is a.x 0 (ranked_byte a.p a.members.now) a.h a.w 16 16 a.j a.r _ _ a.frame.now _ high wide at_read.read-ranked3.ensures at-lay.lay-wide.ensures
 
 pub block_spec : {M : Type 1} → statement M
 block_spec =

@@ -2,8 +2,8 @@
 -- One exit for each of the two sizes.
 use mathlib.Core.Path.{◌≡◌, refl}
 use native.Mathlib.Omega.{arith}
-use Rattle.payload.specs.Joining.{startedByte}
-use Rattle.payload.proofs.Blocks.{block-is}
+use Rattle.payload.specs.Joining.{started_byte}
+use Rattle.payload.proofs.Blocks.{block_is}
 use borrow.Author.Rules.{rules}
 use Rattle.payload.proofs.block.block_from.Statement.{statement}
 use Rattle.payload.proofs.block.block_from.Tie as tie
@@ -54,7 +54,7 @@ returns c =
     let a = c.before.before.before.before.before.before.before.before.before.before.before.args in
     let s = c.before.before.before.before.before.before.before.before.before.before.before.requires.0 in
     let high : a.h ≡ 8 = omega arith in
-    block-is a.x a.place (startedByte a.starts.now a.store.now) a.h 16 8 16 a.j a.r _ _ a.out.now _ high refl at_read.read-started.ensures at-lay.lay-eight.ensures
+    block_is a.x a.place (started_byte a.starts.now a.store.now) a.h 16 8 16 a.j a.r _ _ a.out.now _ high refl at_read.read-started.ensures at-lay.lay-eight.ensures
 
 same-length-2 : tie.Need-same-length-2
 same-length-2 c = search rules
@@ -66,7 +66,7 @@ returns-2 c =
     let a = c.before.before.before.before.before.before.before.before.before.before.before.args in
     let s = c.before.before.before.before.before.before.before.before.before.before.before.requires.0 in
     let high : a.h ≡ 16 = omega arith in
-    block-is a.x a.place (startedByte a.starts.now a.store.now) a.h 16 16 16 a.j a.r _ _ a.out.now _ high refl at_read.read-started2.ensures at-lay.lay-wide.ensures
+    block_is a.x a.place (started_byte a.starts.now a.store.now) a.h 16 16 16 a.j a.r _ _ a.out.now _ high refl at_read.read-started2.ensures at-lay.lay-wide.ensures
 
 pub block-from-spec : {M : Type 1} → statement M
 block-from-spec =

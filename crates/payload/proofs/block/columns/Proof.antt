@@ -3,17 +3,17 @@
 use mathlib.Core.Path.{◌≡◌, ◌∙◌}
 use Prim.Native.Nat.{◌≤◌, ◌-◌, ◌+◌, min}
 use native.Mathlib.Omega.{arith}
-use Rattle.ground.specs.Drawn.{Drawing, drawing-none}
+use Rattle.ground.specs.Drawn.{Drawing, drawing_none}
 use Rattle.payload.specs.Inner.Area.{area}
-use Rattle.payload.specs.Joining.{rankedByte}
-use Rattle.payload.specs.Order.{groupByte}
-use Rattle.payload.proofs.Areas.{area-no-line}
+use Rattle.payload.specs.Joining.{ranked_byte}
+use Rattle.payload.specs.Order.{group_byte}
+use Rattle.payload.proofs.Areas.{area_no_line}
 use Rattle.payload.proofs.Blocks.{block_in, lines_more}
 use Rattle.payload.proofs.block.columns.Statement.{statement}
 use Rattle.payload.proofs.block.columns.Tie as tie
 
 abbrev invariant-loop : tie.invariant-loop
-invariant-loop h w x p members r from to frame₀ c₀ frame c = (from ≤ c) × (c ≤ to + w) × Drawing (area x 0 from (min c to - from) r h) (λ k. groupByte x (rankedByte p members) (k - 0)) frame₀ frame
+invariant-loop h w x p members r from to frame₀ c₀ frame c = (from ≤ c) × (c ≤ to + w) × Drawing (area x 0 from (min c to - from) r h) (λ k. group_byte x (ranked_byte p members) (k - 0)) frame₀ frame
 
 abbrev decreases-loop : tie.decreases-loop
 decreases-loop h w x p members r from to frame₀ c₀ frame c = to - c
@@ -22,7 +22,7 @@ loop-holds : tie.Need-loop-init invariant-loop decreases-loop
 loop-holds c =
     let a = c.before.before.args in
     let e : min a.from a.to - a.from ≡ 0 = omega arith in
-    (omega arith, omega arith, rw e (drawing-none _ _ _ (area-no-line _ _ a.from _ _)))
+    (omega arith, omega arith, rw e (drawing_none _ _ _ (area_no_line _ _ a.from _ _)))
 
 start-requires : tie.Need-start-requires invariant-loop decreases-loop
 start-requires c κs = omega arith
@@ -45,16 +45,16 @@ loop-less c = let s = c.before.before.before.before.before.before.before.before.
 loop-again : tie.Need-loop-preserved invariant-loop decreases-loop
 loop-again c =
     let at_block = c.before.before in
-    let at-start = at_block.before.before in
-    let at-loop = at-start.before.before in
+    let at_start_lem = at_block.before.before in
+    let at-loop = at_start_lem.before.before in
     let at_entry_lem = at-loop.before.before.before in
     let a = at_entry_lem.args in
-    let j = at-start.start.result in
+    let j = at_start_lem.start.result in
     let i = at-loop.loop.c in
-    let e = at-start.start.ensures in (
+    let e = at_start_lem.start.ensures in (
       omega arith,
       omega arith,
-      lines_more a.x 0 (rankedByte a.p a.members.now) a.from (min i a.to - a.from) j a.w (min (i + a.w) a.to - a.from) a.r a.h _ (omega arith) (omega arith) (omega arith) (omega arith) at-loop.loop.invariant.2 at_block.block.ensures,
+      lines_more a.x 0 (ranked_byte a.p a.members.now) a.from (min i a.to - a.from) j a.w (min (i + a.w) a.to - a.from) a.r a.h _ (omega arith) (omega arith) (omega arith) (omega arith) at-loop.loop.invariant.2 at_block.block.ensures,
     )
 
 same_length : tie.Need-same-length invariant-loop decreases-loop

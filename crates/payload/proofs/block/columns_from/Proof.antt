@@ -3,17 +3,17 @@
 use mathlib.Core.Path.{◌≡◌}
 use Prim.Native.Nat.{◌≤◌, ◌-◌, ◌+◌, min}
 use native.Mathlib.Omega.{arith}
-use Rattle.ground.specs.Drawn.{Drawing, drawing-none}
+use Rattle.ground.specs.Drawn.{Drawing, drawing_none}
 use Rattle.payload.specs.Inner.Area.{area}
-use Rattle.payload.specs.Joining.{startedByte}
-use Rattle.payload.specs.Order.{groupByte}
-use Rattle.payload.proofs.Areas.{area-no-line}
+use Rattle.payload.specs.Joining.{started_byte}
+use Rattle.payload.specs.Order.{group_byte}
+use Rattle.payload.proofs.Areas.{area_no_line}
 use Rattle.payload.proofs.Blocks.{block_in, lines_more}
 use Rattle.payload.proofs.block.columns_from.Statement.{statement}
 use Rattle.payload.proofs.block.columns_from.Tie as tie
 
 abbrev invariant-loop : tie.invariant-loop
-invariant-loop h x p starts store r place out₀ c₀ out c = (c ≤ p + 15) × Drawing (area x place 0 (min c p) r h) (λ k. groupByte x (startedByte starts store) (k - place)) out₀ out
+invariant-loop h x p starts store r place out₀ c₀ out c = (c ≤ p + 15) × Drawing (area x place 0 (min c p) r h) (λ k. group_byte x (started_byte starts store) (k - place)) out₀ out
 
 abbrev decreases-loop : tie.decreases-loop
 decreases-loop h x p starts store r place out₀ c₀ out c = p - c
@@ -21,7 +21,7 @@ decreases-loop h x p starts store r place out₀ c₀ out c = p - c
 loop-holds : tie.Need-loop-init invariant-loop decreases-loop
 loop-holds c =
     let e : min 0 c.before.before.before.args.p ≡ 0 = omega arith in
-    (omega arith, rw e (drawing-none _ _ _ (area-no-line _ _ 0 _ _)))
+    (omega arith, rw e (drawing_none _ _ _ (area_no_line _ _ 0 _ _)))
 
 start-requires : tie.Need-start-requires invariant-loop decreases-loop
 start-requires c κs = omega arith
@@ -48,15 +48,15 @@ loop-less c = omega arith
 loop-again : tie.Need-loop-preserved invariant-loop decreases-loop
 loop-again c =
     let at_block = c.before.before in
-    let at-start = at_block.before.before in
-    let at-loop = at-start.before.before in
+    let at_start_lem = at_block.before.before in
+    let at-loop = at_start_lem.before.before in
     let at_entry_lem = at-loop.before.before.before.before in
     let a = at_entry_lem.args in
-    let j = at-start.start.result in
+    let j = at_start_lem.start.result in
     let i = at-loop.loop.c in
-    let e = at-start.start.ensures in (
+    let e = at_start_lem.start.ensures in (
       omega arith,
-      lines_more a.x a.place (startedByte a.starts.now a.store.now) 0 (min i a.p) j 16 (min (i + 16) a.p) a.r a.h _ (omega arith) (omega arith) (omega arith) (omega arith) at-loop.loop.invariant.1 at_block.block-from.ensures,
+      lines_more a.x a.place (started_byte a.starts.now a.store.now) 0 (min i a.p) j 16 (min (i + 16) a.p) a.r a.h _ (omega arith) (omega arith) (omega arith) (omega arith) at-loop.loop.invariant.1 at_block.block-from.ensures,
     )
 
 same_length : tie.Need-same-length invariant-loop decreases-loop

@@ -4,7 +4,7 @@ use Prim.Native.Nat.{◌≤◌, ◌-◌, min}
 use native.Mathlib.Nat.{zero-add}
 use native.Mathlib.Omega.{arith}
 use lib.ListN.{length, get_or}
-use Rattle.ground.specs.Drawn.{Filling, filling-none, filling-more, filling-all}
+use Rattle.ground.specs.Drawn.{Filling, filling_none, filling_more, filling_all}
 use borrow.Author.Rules.{rules}
 use Rattle.payload.proofs.block.few_of.Statement.{statement}
 use Rattle.payload.proofs.block.few_of.Tie as tie
@@ -16,7 +16,7 @@ abbrev decreases-loop : tie.decreases-loop
 decreases-loop x starts own₀ r₀ own r = 8 - r
 
 loop-holds : tie.Need-loop-init invariant-loop decreases-loop
-loop-holds c = (refl, omega arith, filling-none _ _ _)
+loop-holds c = (refl, omega arith, filling_none _ _ _)
 
 start-requires : tie.Need-start-requires invariant-loop decreases-loop
 start-requires c κs = search rules
@@ -41,12 +41,12 @@ loop-less c = search rules
 
 loop-again : tie.Need-loop-preserved invariant-loop decreases-loop
 loop-again c =
-    (c.before.before.before.loop.invariant.0, omega arith, rw c.before.start.ensures (rw zero-add at (filling-more c.before.before.before.loop.invariant.2)))
+    (c.before.before.before.loop.invariant.0, omega arith, rw c.before.start.ensures (rw zero-add at (filling_more c.before.before.before.loop.invariant.2)))
 
 returns : tie.Need-returns invariant-loop decreases-loop
 returns c =
     let e : c.before.loop.r ≡ 8 = omega arith in
-    filling-all (rw e at c.before.loop.invariant.2) c.before.loop.invariant.0
+    filling_all (rw e at c.before.loop.invariant.2) c.before.loop.invariant.0
 
 pub few-of-spec : {M : Type 1} → statement M
 few-of-spec =

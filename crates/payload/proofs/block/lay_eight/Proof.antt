@@ -1,4 +1,4 @@
-use Rattle.payload.proofs.Blocks.{block-turned}
+use Rattle.payload.proofs.Blocks.{block_turned}
 use borrow.Author.Rules.{rules}
 use Rattle.payload.proofs.block.lay_eight.Statement.{statement}
 use Rattle.payload.proofs.block.lay_eight.Tie as tie
@@ -20,7 +20,7 @@ returns c =
     let at-write = c.before.before in
     let at_rows = at-write.before.before.before in
     let a = at_rows.before.before.args in
-    block-turned 8 16 a.x a.place a.j a.r a.q at_rows.eight-rows.result a.out.now _ at_rows.eight-rows.ensures at-write.write.ensures
+    block_turned 8 16 a.x a.place a.j a.r a.q at_rows.eight-rows.result a.out.now _ at_rows.eight-rows.ensures at-write.write.ensures
 
 pub lay-eight-spec : {M : Type 1} → statement M
 lay-eight-spec =

@@ -1,4 +1,4 @@
-use Rattle.payload.proofs.Blocks.{block-turned}
+use Rattle.payload.proofs.Blocks.{block_turned}
 use borrow.Author.Rules.{rules}
 use Rattle.payload.proofs.block.lay_wide.Statement.{statement}
 use Rattle.payload.proofs.block.lay_wide.Tie as tie
@@ -20,7 +20,7 @@ returns c =
     let at-write = c.before.before in
     let at_rows = at-write.before.before.before in
     let a = at_rows.before.before.args in
-    block-turned 16 16 a.x a.place a.j a.r a.q at_rows.sixteen-wide.result a.out.now _ at_rows.sixteen-wide.ensures at-write.write.ensures
+    block_turned 16 16 a.x a.place a.j a.r a.q at_rows.sixteen-wide.result a.out.now _ at_rows.sixteen-wide.ensures at-write.write.ensures
 
 pub lay-wide-spec : {M : Type 1} → statement M
 lay-wide-spec =

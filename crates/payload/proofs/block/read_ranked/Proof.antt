@@ -4,13 +4,13 @@ use Prim.Native.Nat.{ℕ, ◌≤◌, ◌+◌, ◌-◌, ◌*◌}
 use native.Mathlib.Omega.{arith}
 use lib.ListN.{length, get_or}
 use Rattle.payload.specs.Inner.Block.{Rows}
-use Rattle.payload.specs.Joining.{rankedByte}
-use Rattle.payload.proofs.Blocks.{RowIn, row-in, rows_none, row_more}
+use Rattle.payload.specs.Joining.{ranked_byte}
+use Rattle.payload.proofs.Blocks.{RowIn, row_in_lem, rows_none, row_more}
 use Rattle.payload.proofs.block.read_ranked.Statement.{statement}
 use Rattle.payload.proofs.block.read_ranked.Tie as tie
 
 abbrev invariant-loop : tie.invariant-loop
-invariant-loop h w p members r j q₀ l₀ q l = (l ≤ h) × Rows l w (rankedByte p members) r j q₀ q
+invariant-loop h w p members r j q₀ l₀ q l = (l ≤ h) × Rows l w (ranked_byte p members) r j q₀ q
 
 abbrev decreases-loop : tie.decreases-loop
 decreases-loop h w p members r j q₀ l₀ q l = h - l
@@ -19,7 +19,7 @@ inside : (c : tie.In-loop invariant-loop decreases-loop)
     → RowIn (length c.before.before.before.before.args.members.now) (length c.before.before.before.before.args.q.now) c.before.before.before.before.args.p c.before.before.before.before.args.r c.before.loop.l c.before.before.before.before.args.j c.before.before.before.before.args.w
 inside c =
     let h = c.before.before.before.before.requires in
-    row-in _ _ _ _ _ _ _ _ h.0 h.1 c.loop-test.true (h.2 c.before.loop.l c.loop-test.true)
+    row_in_lem _ _ _ _ _ _ _ _ h.0 h.1 c.loop-test.true (h.2 c.before.loop.l c.loop-test.true)
 
 loop-holds : tie.Need-loop-init invariant-loop decreases-loop
 loop-holds c = (omega arith, rows_none _ _ _ _ _)
@@ -54,7 +54,7 @@ loop-again c =
     let l = at-loop.loop.l in
     let s = inside at-by-bytes.before.before in (
       omega arith,
-      row_more l a.w a.r a.j (rankedByte a.p a.members.now) (λ i. get_or a.members.now ((a.r + l) * a.p + a.j + i) 0) _ s.to at-loop.loop.invariant.1 at-by-bytes.by_bytes.ensures
+      row_more l a.w a.r a.j (ranked_byte a.p a.members.now) (λ i. get_or a.members.now ((a.r + l) * a.p + a.j + i) 0) _ s.to at-loop.loop.invariant.1 at-by-bytes.by_bytes.ensures
           (λ i b. let e : (a.r + l) * a.p + a.j + i ≡ (a.r + l) * a.p + (a.j + i) = omega arith in ap (λ (k : ℕ). get_or a.members.now k 0) e),
     )
 

@@ -4,14 +4,14 @@ use Prim.Native.Nat.{ℕ, ◌≤◌, ◌+◌, ◌-◌}
 use native.Mathlib.Omega.{arith}
 use lib.ListN.{get_or}
 use Rattle.payload.specs.Inner.Block.{Rows}
-use Rattle.payload.specs.Joining.{startedByte}
+use Rattle.payload.specs.Joining.{started_byte}
 use Rattle.payload.proofs.Blocks.{rows_none, row_more}
-use Rattle.payload.proofs.Frames.{member-in}
+use Rattle.payload.proofs.Frames.{member_in}
 use Rattle.payload.proofs.block.read_started.Statement.{statement}
 use Rattle.payload.proofs.block.read_started.Tie as tie
 
 abbrev invariant-loop : tie.invariant-loop
-invariant-loop h w starts store r j q₀ l₀ q l = (l ≤ h) × Rows l w (startedByte starts store) r j q₀ q
+invariant-loop h w starts store r j q₀ l₀ q l = (l ≤ h) × Rows l w (started_byte starts store) r j q₀ q
 
 abbrev decreases-loop : tie.decreases-loop
 decreases-loop h w starts store r j q₀ l₀ q l = h - l
@@ -32,12 +32,12 @@ add-by-bytes : tie.Need-overflow-add-by-bytes invariant-loop decreases-loop
 add-by-bytes c = let s = c.before.before.before.before.before.before.requires.2 c.before.before.loop.l c.before.loop-test.true in omega arith
 
 mul-by-bytes : tie.Need-overflow-mul-by-bytes invariant-loop decreases-loop
-mul-by-bytes c = let t = member-in c.before.before.before.before.before.before.args.h c.before.before.before.before.before.before.args.w c.before.before.loop.l c.before.loop-test.true in omega arith
+mul-by-bytes c = let t = member_in c.before.before.before.before.before.before.args.h c.before.before.before.before.before.before.args.w c.before.before.loop.l c.before.loop-test.true in omega arith
 
 by-bytes-requires : tie.Need-by-bytes-requires invariant-loop decreases-loop
 by-bytes-requires c κs =
     let s = c.before.before.before.before.before.before.before.requires.2 c.before.before.before.loop.l c.before.before.loop-test.true in
-    let t = member-in c.before.before.before.before.before.before.before.args.h c.before.before.before.before.before.before.before.args.w c.before.before.before.loop.l c.before.before.loop-test.true in
+    let t = member_in c.before.before.before.before.before.before.before.args.h c.before.before.before.before.before.before.before.args.w c.before.before.before.loop.l c.before.before.loop-test.true in
     omega (arith, c.before.before.before.loop.invariant.1.len)
 
 add-l : tie.Need-overflow-add-l invariant-loop decreases-loop
@@ -53,9 +53,9 @@ loop-again c =
     let at_entry_lem = at-loop.before.before.before.before in
     let a = at_entry_lem.args in
     let l = at-loop.loop.l in
-    let t = member-in a.h a.w l at-by-bytes.before.before.before.loop-test.true in (
+    let t = member_in a.h a.w l at-by-bytes.before.before.before.loop-test.true in (
       omega arith,
-      row_more l a.w a.r a.j (startedByte a.starts.now a.store.now) (λ i. get_or a.store.now (get_or a.starts.now (a.r + l) 0 + a.j + i) 0) _ (omega (arith, t)) at-loop.loop.invariant.1 at-by-bytes.by_bytes.ensures
+      row_more l a.w a.r a.j (started_byte a.starts.now a.store.now) (λ i. get_or a.store.now (get_or a.starts.now (a.r + l) 0 + a.j + i) 0) _ (omega (arith, t)) at-loop.loop.invariant.1 at-by-bytes.by_bytes.ensures
           (λ i b. let e : get_or a.starts.now (a.r + l) 0 + a.j + i ≡ get_or a.starts.now (a.r + l) 0 + (a.j + i) = omega arith in ap (λ (k : ℕ). get_or a.store.now k 0) e),
     )
 

@@ -3,17 +3,17 @@
 use mathlib.Core.Path.{◌≡◌, ◌∙◌}
 use Prim.Native.Nat.{◌≤◌, ◌-◌, ◌+◌, min}
 use native.Mathlib.Omega.{arith}
-use Rattle.ground.specs.Drawn.{Drawing, drawing-none}
+use Rattle.ground.specs.Drawn.{Drawing, drawing_none}
 use Rattle.payload.specs.Inner.Area.{area}
-use Rattle.payload.specs.Joining.{rankedByte}
-use Rattle.payload.specs.Order.{groupByte}
-use Rattle.payload.proofs.Areas.{area-no-column}
-use Rattle.payload.proofs.Blocks.{block_in, columns-more}
+use Rattle.payload.specs.Joining.{ranked_byte}
+use Rattle.payload.specs.Order.{group_byte}
+use Rattle.payload.proofs.Areas.{area_no_column}
+use Rattle.payload.proofs.Blocks.{block_in, columns_more}
 use Rattle.payload.proofs.block.tile.Statement.{statement}
 use Rattle.payload.proofs.block.tile.Tie as tie
 
 abbrev invariant-loop : tie.invariant-loop
-invariant-loop h w x p members from to frame₀ c₀ frame c = (c ≤ x + h) × Drawing (area x 0 from (to - from) 0 (min c x)) (λ k. groupByte x (rankedByte p members) (k - 0)) frame₀ frame
+invariant-loop h w x p members from to frame₀ c₀ frame c = (c ≤ x + h) × Drawing (area x 0 from (to - from) 0 (min c x)) (λ k. group_byte x (ranked_byte p members) (k - 0)) frame₀ frame
 
 abbrev decreases-loop : tie.decreases-loop
 decreases-loop h w x p members from to frame₀ c₀ frame c = x - c
@@ -21,7 +21,7 @@ decreases-loop h w x p members from to frame₀ c₀ frame c = x - c
 loop-holds : tie.Need-loop-init invariant-loop decreases-loop
 loop-holds c =
     let e : min 0 c.before.before.args.x ≡ 0 = omega arith in
-    (omega arith, rw e (drawing-none _ _ _ (area-no-column _ _ _ _ 0)))
+    (omega arith, rw e (drawing_none _ _ _ (area_no_column _ _ _ _ 0)))
 
 start-requires : tie.Need-start-requires invariant-loop decreases-loop
 start-requires c κs = omega arith
@@ -44,15 +44,15 @@ loop-less c = let s = c.before.before.before.before.before.before.before.before.
 loop-again : tie.Need-loop-preserved invariant-loop decreases-loop
 loop-again c =
     let at-columns = c.before.before in
-    let at-start = at-columns.before.before in
-    let at-loop = at-start.before.before in
+    let at_start_lem = at-columns.before.before in
+    let at-loop = at_start_lem.before.before in
     let at_entry_lem = at-loop.before.before.before in
     let a = at_entry_lem.args in
-    let r = at-start.start.result in
+    let r = at_start_lem.start.result in
     let i = at-loop.loop.c in
-    let e = at-start.start.ensures in (
+    let e = at_start_lem.start.ensures in (
       omega arith,
-      columns-more a.x 0 (rankedByte a.p a.members.now) a.from (a.to - a.from) (min i a.x) r a.h (min (i + a.h) a.x) _ (omega arith) (omega arith) (omega arith) at-loop.loop.invariant.1 at-columns.columns.ensures,
+      columns_more a.x 0 (ranked_byte a.p a.members.now) a.from (a.to - a.from) (min i a.x) r a.h (min (i + a.h) a.x) _ (omega arith) (omega arith) (omega arith) at-loop.loop.invariant.1 at-columns.columns.ensures,
     )
 
 same_length : tie.Need-same-length invariant-loop decreases-loop

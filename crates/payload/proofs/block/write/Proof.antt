@@ -3,17 +3,17 @@ use mathlib.Core.Path.{◌≡◌}
 use Prim.Native.Nat.{◌≤◌, ◌+◌, ◌-◌, ◌*◌}
 use native.Mathlib.Nat.{le_refl}
 use native.Mathlib.Omega.{arith}
-use Rattle.ground.specs.Drawn.{Drawing, drawing-none}
+use Rattle.ground.specs.Drawn.{Drawing, drawing_none}
 use Rattle.payload.specs.Inner.Area.{area}
-use Rattle.payload.specs.Inner.Block.{lineByte}
-use Rattle.payload.proofs.Areas.{area-no-line}
-use Rattle.payload.proofs.Blocks.{RunIn, run_in, line-more}
-use Rattle.payload.proofs.Frames.{member-in}
+use Rattle.payload.specs.Inner.Block.{line_byte}
+use Rattle.payload.proofs.Areas.{area_no_line}
+use Rattle.payload.proofs.Blocks.{RunIn, run_in, line_more}
+use Rattle.payload.proofs.Frames.{member_in}
 use Rattle.payload.proofs.block.write.Statement.{statement}
 use Rattle.payload.proofs.block.write.Tie as tie
 
 abbrev invariant-loop : tie.invariant-loop
-invariant-loop q h w x place j r out₀ i₀ out i = (i ≤ w) × Drawing (area x place j i r h) (lineByte h x place j r q) out₀ out
+invariant-loop q h w x place j r out₀ i₀ out i = (i ≤ w) × Drawing (area x place j i r h) (line_byte h x place j r q) out₀ out
 
 abbrev decreases-loop : tie.decreases-loop
 decreases-loop q h w x place j r out₀ i₀ out i = w - i
@@ -22,10 +22,10 @@ inside : (c : tie.In-loop invariant-loop decreases-loop) → RunIn ((c.before.be
 inside c = run_in _ _ _ _ _ _ _ (le_refl _) c.before.before.before.before.requires.0 c.before.before.before.before.requires.1 c.loop-test.true
 
 loop-holds : tie.Need-loop-init invariant-loop decreases-loop
-loop-holds c = (omega arith, drawing-none _ _ _ (area-no-line _ _ _ _ _))
+loop-holds c = (omega arith, drawing_none _ _ _ (area_no_line _ _ _ _ _))
 
 mul-by-bytes : tie.Need-overflow-mul-by-bytes invariant-loop decreases-loop
-mul-by-bytes c = let t = member-in c.before.before.before.before.args.w c.before.before.before.before.args.h c.before.loop.i c.loop-test.true in omega arith
+mul-by-bytes c = let t = member_in c.before.before.before.before.args.w c.before.before.before.before.args.h c.before.loop.i c.loop-test.true in omega arith
 
 add-by-bytes : tie.Need-overflow-add-by-bytes invariant-loop decreases-loop
 add-by-bytes c = let s = inside c in omega arith
@@ -42,7 +42,7 @@ add-by-bytes-3 c = let s = inside c in omega arith
 by-bytes-requires : tie.Need-by-bytes-requires invariant-loop decreases-loop
 by-bytes-requires c κs =
     let s = inside c.before in
-    let t = member-in c.before.before.before.before.before.args.w c.before.before.before.before.before.args.h c.before.before.loop.i c.before.loop-test.true in
+    let t = member_in c.before.before.before.before.before.args.w c.before.before.before.before.before.args.h c.before.before.loop.i c.before.loop-test.true in
     omega (arith, c.before.before.loop.invariant.1.len)
 
 add-i : tie.Need-overflow-add-i invariant-loop decreases-loop
@@ -58,7 +58,7 @@ loop-again c =
     let at_entry_lem = at-loop.before.before.before in
     let a = at_entry_lem.args in (
       omega arith,
-      line-more a.h a.x a.place a.j at-loop.loop.i a.r a.q.now _ at_entry_lem.requires.1 at-loop.loop.invariant.1 at-by-bytes.by_bytes.ensures,
+      line_more a.h a.x a.place a.j at-loop.loop.i a.r a.q.now _ at_entry_lem.requires.1 at-loop.loop.invariant.1 at-by-bytes.by_bytes.ensures,
     )
 
 same_length : tie.Need-same-length invariant-loop decreases-loop

@@ -29,9 +29,9 @@ returns c =
     let at-by-bytes2 = c.before.before in
     let at-by-bytes = at-by-bytes2.before.before.before.before in
     let at-blank = at-by-bytes.before.before in
-    let at-start = at-blank.before.before.before in
-    let a = at-start.args in
-    by_way a.place a.n (λ j. get_or a.from.now (a.at + j) 0) at-blank.blank.result _ a.to.now _ (omega (arith, at-start.requires.0, at-blank.blank.ensures)) at-by-bytes.by_bytes.ensures at-by-bytes2.by-bytes2.ensures
+    let at_start_lem = at-blank.before.before.before in
+    let a = at_start_lem.args in
+    by_way a.place a.n (λ j. get_or a.from.now (a.at + j) 0) at-blank.blank.result _ a.to.now _ (omega (arith, at_start_lem.requires.0, at-blank.blank.ensures)) at-by-bytes.by_bytes.ensures at-by-bytes2.by-bytes2.ensures
 
 pub at-once-spec : {M : Type 1} → statement M
 at-once-spec =

@@ -3,7 +3,7 @@ use Prim.Native.Nat.{◌≤◌, ◌-◌, ◌+◌}
 use mathlib.Core.Path.{◌≡◌}
 use native.Mathlib.Omega.{arith}
 use lib.ListN.{get_or}
-use Rattle.ground.specs.Drawn.{Filling, filling-none, filling-more}
+use Rattle.ground.specs.Drawn.{Filling, filling_none, filling_more}
 use Rattle.payload.proofs.copy.by_bytes.Statement.{statement}
 use Rattle.payload.proofs.copy.by_bytes.Tie as tie
 
@@ -14,7 +14,7 @@ abbrev decreases-loop : tie.decreases-loop
 decreases-loop from at n place to₀ j₀ to j = n - j
 
 loop-holds : tie.Need-loop-init invariant-loop decreases-loop
-loop-holds c = (omega arith, filling-none _ _ _)
+loop-holds c = (omega arith, filling_none _ _ _)
 
 add-to : tie.Need-overflow-add-to invariant-loop decreases-loop
 add-to c = omega arith
@@ -35,7 +35,7 @@ loop-less : tie.Need-loop-smaller invariant-loop decreases-loop
 loop-less c = omega arith
 
 loop-again : tie.Need-loop-preserved invariant-loop decreases-loop
-loop-again c = (omega arith, filling-more c.before.before.loop.invariant.1)
+loop-again c = (omega arith, filling_more c.before.before.loop.invariant.1)
 
 same_length : tie.Need-same-length invariant-loop decreases-loop
 same_length c = c.before.loop.invariant.1.len

@@ -1,4 +1,4 @@
-use Rattle.payload.proofs.Deals.{dealt-by}
+use Rattle.payload.proofs.Deals.{dealt_by}
 use borrow.Author.Rules.{rules}
 use Rattle.payload.proofs.deal.dealt.Statement.{statement}
 use Rattle.payload.proofs.deal.dealt.Tie as tie
@@ -10,7 +10,7 @@ split-requires : tie.Need-split-requires
 split-requires c κs = search rules
 
 returns : tie.Need-returns
-returns c = dealt-by c.before.before.args.n _ _ _ c.before.before.requires c.before.pairs.ensures c.split.ensures
+returns c = dealt_by c.before.before.args.n _ _ _ c.before.before.requires c.before.pairs.ensures c.split.ensures
 
 pub dealt-spec : {M : Type 1} → statement M
 dealt-spec = tie.close (tie.spec pairs-requires split-requires returns)

@@ -5,7 +5,7 @@ use native.Mathlib.Omega.{arith}
 use lib.ListN.{length, length-set}
 use borrow.Author.Rules.{rules}
 use Rattle.payload.specs.Inner.Deal.{Pairs}
-use Rattle.payload.proofs.Deals.{pairs-none, pair-more}
+use Rattle.payload.proofs.Deals.{pairs_none, pair_more}
 use Rattle.payload.proofs.deal.pairs.Statement.{statement}
 use Rattle.payload.proofs.deal.pairs.Tie as tie
 
@@ -16,7 +16,7 @@ abbrev decreases-loop : tie.decreases-loop
 decreases-loop q w₀ i₀ w i = 64 - i
 
 loop-holds : tie.Need-loop-init invariant-loop decreases-loop
-loop-holds c = (refl, omega arith, pairs-none _ _)
+loop-holds c = (refl, omega arith, pairs_none _ _)
 
 mul-pair : tie.Need-overflow-mul-pair invariant-loop decreases-loop
 mul-pair c = search rules
@@ -52,7 +52,7 @@ loop-again : tie.Need-loop-preserved invariant-loop decreases-loop
 loop-again c =
     let at-loop = c.before.before in
     let long = at-loop.loop.invariant.0 in
-    (simp length-set long, omega arith, pair-more at-loop.loop.i c.pair.result at-loop.before.args.t1 at-loop.loop.w (omega (arith, long)) c.pair.ensures at-loop.loop.invariant.2)
+    (simp length-set long, omega arith, pair_more at-loop.loop.i c.pair.result at-loop.before.args.t1 at-loop.loop.w (omega (arith, long)) c.pair.ensures at-loop.loop.invariant.2)
 
 returns : tie.Need-returns invariant-loop decreases-loop
 returns c =

@@ -4,7 +4,7 @@ use Prim.Native.Nat.{◌≤◌, ◌<◌, ◌-◌}
 use native.Mathlib.Omega.{arith}
 use borrow.Author.Rules.{rules}
 use Rattle.payload.specs.Inner.Deal.{Split}
-use Rattle.payload.proofs.Deals.{split-none, split-more}
+use Rattle.payload.proofs.Deals.{split_none, split_more}
 use Rattle.payload.proofs.deal.split.Statement.{statement}
 use Rattle.payload.proofs.deal.split.Tie as tie
 
@@ -15,7 +15,7 @@ abbrev decreases-loop : tie.decreases-loop
 decreases-loop n w s₀ i₀ s i = n - i
 
 loop-holds : tie.Need-loop-init invariant-loop decreases-loop
-loop-holds c = (omega arith, split-none _ _ _ refl)
+loop-holds c = (omega arith, split_none _ _ _ refl)
 
 mul_low : tie.Need-overflow-mul-low invariant-loop decreases-loop
 mul_low c = search rules
@@ -55,7 +55,7 @@ loop-again c =
     let at-loop = c.before.before.before in
     let at_entry_lem = at-loop.before in
     let more : at-loop.loop.i < at_entry_lem.args.n = omega arith in
-    (omega arith, split-more at_entry_lem.args.n at-loop.loop.i c.before.low.result c.high.result _ at-loop.loop.s at_entry_lem.requires more c.before.low.ensures c.high.ensures at-loop.loop.invariant.1)
+    (omega arith, split_more at_entry_lem.args.n at-loop.loop.i c.before.low.result c.high.result _ at-loop.loop.s at_entry_lem.requires more c.before.low.ensures c.high.ensures at-loop.loop.invariant.1)
 
 returns : tie.Need-returns invariant-loop decreases-loop
 returns c =

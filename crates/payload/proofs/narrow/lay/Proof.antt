@@ -3,8 +3,8 @@
 use mathlib.Core.Path.{sym}
 use Prim.Native.Nat.{◌<◌}
 use native.Mathlib.Omega.{arith}
-use Rattle.payload.proofs.Blocks.{block-turned}
-use Rattle.payload.proofs.Evens.{even-size, lines-run}
+use Rattle.payload.proofs.Blocks.{block_turned}
+use Rattle.payload.proofs.Evens.{even_size, lines_run}
 use borrow.Author.Rules.{rules}
 use Rattle.payload.proofs.narrow.lay.Statement.{statement}
 use Rattle.payload.proofs.narrow.lay.Tie as tie
@@ -24,7 +24,7 @@ add-by-bytes c = search rules
 by-bytes-requires : tie.Need-by-bytes-requires
 by-bytes-requires c κs =
     let a = c.before.before.before.before.args in
-    let z = even-size a.x a.w c.before.before.before.before.requires.0 in
+    let z = even_size a.x a.w c.before.before.before.before.requires.0 in
     (omega arith, omega (arith, z.1))
 
 same_length : tie.Need-same-length
@@ -35,10 +35,10 @@ returns c =
     let at_copy = c.before.before in
     let at-lines = at_copy.before.before.before in
     let a = c.before.before.before.before.before.before.before.args in
-    let z = even-size a.x a.w c.before.before.before.before.before.before.before.requires.0 in
+    let z = even_size a.x a.w c.before.before.before.before.before.before.before.requires.0 in
     let pos : 0 < a.x = omega arith in
-    block-turned a.x a.w a.x a.place a.j 0 a.q at-lines.lines_of.result a.out.now _ at-lines.lines_of.ensures
-    (lines-run a.x a.place a.j a.w 128 at-lines.lines_of.result a.out.now _ pos (sym z.1) at_copy.by_bytes.ensures)
+    block_turned a.x a.w a.x a.place a.j 0 a.q at-lines.lines_of.result a.out.now _ at-lines.lines_of.ensures
+    (lines_run a.x a.place a.j a.w 128 at-lines.lines_of.result a.out.now _ pos (sym z.1) at_copy.by_bytes.ensures)
 
 pub lay-spec : {M : Type 1} → statement M
 lay-spec =

@@ -3,8 +3,8 @@
 use mathlib.Core.Path.{ap, ◌∙◌}
 use Prim.Native.Nat.{ℕ, ◌*◌}
 use native.Mathlib.Omega.{arith}
-use Rattle.payload.proofs.Blocks.{block-turned}
-use Rattle.payload.proofs.Evens.{even-two, even-four, even-eight, rows_as}
+use Rattle.payload.proofs.Blocks.{block_turned}
+use Rattle.payload.proofs.Evens.{even_two, even_four, even_eight, rows_as}
 use borrow.Author.Rules.{rules}
 use Rattle.payload.proofs.narrow.lay_rows.Statement.{statement}
 use Rattle.payload.proofs.narrow.lay_rows.Tie as tie
@@ -20,7 +20,7 @@ write-requires c κs =
     let a = c.before.before.before.before.before.args in
     let q = c.before.before.before.before.before.requires in
     let e = c.before.before.before.if1.true in
-    let f = even-two a.x a.h q.0 e in
+    let f = even_two a.x a.h q.0 e in
     let g = q.2 ∙ ap (λ (k : ℕ). k * a.p) e in
     (omega arith, omega (arith, q.1, f), omega arith, omega (arith, g))
 
@@ -35,7 +35,7 @@ write-requires-2 c κs =
     let a = c.before.before.before.before.before.before.args in
     let q = c.before.before.before.before.before.before.requires in
     let e = c.before.before.before.if2.true in
-    let f = even-four a.x a.h q.0 e in
+    let f = even_four a.x a.h q.0 e in
     let g = q.2 ∙ ap (λ (k : ℕ). k * a.p) e in
     (omega arith, omega (arith, q.1, f), omega arith, omega (arith, g))
 
@@ -49,7 +49,7 @@ write-requires-3 : tie.Need-write-requires-3
 write-requires-3 c κs =
     let a = c.before.before.before.before.before.before.args in
     let q = c.before.before.before.before.before.before.requires in
-    let g = even-eight a.x a.h q.0 c.before.before.before.before.if1.false c.before.before.before.if2.false in
+    let g = even_eight a.x a.h q.0 c.before.before.before.before.if1.false c.before.before.before.if2.false in
     let e = g.0 in
     let f = g.1 in
     let g = q.2 ∙ ap (λ (k : ℕ). k * a.p) e in
@@ -65,9 +65,9 @@ returns c =
     let a = c.before.before.before.before.before.before.before.before.args in
     let q = c.before.before.before.before.before.before.before.before.requires in
     let e = c.before.before.before.before.before.before.if1.true in
-    let f = even-two a.x a.h q.0 e in
+    let f = even_two a.x a.h q.0 e in
     rows_as a.x a.h 2 64 a.p a.r a.q a.members.now _ e f
-    (block-turned 64 2 a.p 0 0 a.r a.q at_rows.most-rows.result a.members.now _ at_rows.most-rows.ensures at-write.write.ensures)
+    (block_turned 64 2 a.p 0 0 a.r a.q at_rows.most-rows.result a.members.now _ at_rows.most-rows.ensures at-write.write.ensures)
 
 same-length-2 : tie.Need-same-length-2
 same-length-2 c = search rules
@@ -79,9 +79,9 @@ returns-2 c =
     let a = c.before.before.before.before.before.before.before.before.before.args in
     let q = c.before.before.before.before.before.before.before.before.before.requires in
     let e = c.before.before.before.before.before.before.if2.true in
-    let f = even-four a.x a.h q.0 e in
+    let f = even_four a.x a.h q.0 e in
     rows_as a.x a.h 4 32 a.p a.r a.q a.members.now _ e f
-    (block-turned 32 4 a.p 0 0 a.r a.q at_rows.many-rows.result a.members.now _ at_rows.many-rows.ensures at-write.write2.ensures)
+    (block_turned 32 4 a.p 0 0 a.r a.q at_rows.many-rows.result a.members.now _ at_rows.many-rows.ensures at-write.write2.ensures)
 
 same-length-3 : tie.Need-same-length-3
 same-length-3 c = search rules
@@ -92,11 +92,11 @@ returns-3 c =
     let at_rows = at-write.before.before.before in
     let a = c.before.before.before.before.before.before.before.before.before.args in
     let q = c.before.before.before.before.before.before.before.before.before.requires in
-    let g = even-eight a.x a.h q.0 c.before.before.before.before.before.before.before.if1.false c.before.before.before.before.before.before.if2.false in
+    let g = even_eight a.x a.h q.0 c.before.before.before.before.before.before.before.if1.false c.before.before.before.before.before.before.if2.false in
     let e = g.0 in
     let f = g.1 in
     rows_as a.x a.h 8 16 a.p a.r a.q a.members.now _ e f
-    (block-turned 16 8 a.p 0 0 a.r a.q at_rows.sixteen-rows.result a.members.now _ at_rows.sixteen-rows.ensures at-write.write3.ensures)
+    (block_turned 16 8 a.p 0 0 a.r a.q at_rows.sixteen-rows.result a.members.now _ at_rows.sixteen-rows.ensures at-write.write3.ensures)
 
 pub lay-rows-spec : {M : Type 1} → statement M
 lay-rows-spec =

@@ -4,18 +4,18 @@ use mathlib.Core.Path.{◌≡◌, ◌∙◌}
 use Prim.Native.Nat.{ℕ, ◌≤◌, ◌-◌, ◌+◌, min}
 use native.Mathlib.Nat.{mul_comm}
 use native.Mathlib.Omega.{arith}
-use Rattle.ground.specs.Drawn.{Drawing, drawing-none}
+use Rattle.ground.specs.Drawn.{Drawing, drawing_none}
 use Rattle.payload.specs.Inner.Area.{area}
-use Rattle.payload.specs.Joining.{rankedByte}
-use Rattle.payload.specs.Order.{groupByte}
-use Rattle.payload.proofs.Areas.{area-no-column}
-use Rattle.payload.proofs.Blocks.{block_in, some_is, columns-more}
+use Rattle.payload.specs.Joining.{ranked_byte}
+use Rattle.payload.specs.Order.{group_byte}
+use Rattle.payload.proofs.Areas.{area_no_column}
+use Rattle.payload.proofs.Blocks.{block_in, some_is, columns_more}
 use borrow.Author.Rules.{rules}
 use Rattle.payload.proofs.over.columns.Statement.{statement}
 use Rattle.payload.proofs.over.columns.Tie as tie
 
 abbrev invariant-loop : tie.invariant-loop
-invariant-loop x p n frame members₀ c₀ members c = (c ≤ n + 16) × Drawing (area p 0 0 x 0 (min c n)) (λ k. groupByte p (rankedByte x frame) (k - 0)) members₀ members
+invariant-loop x p n frame members₀ c₀ members c = (c ≤ n + 16) × Drawing (area p 0 0 x 0 (min c n)) (λ k. group_byte p (ranked_byte x frame) (k - 0)) members₀ members
 
 abbrev decreases-loop : tie.decreases-loop
 decreases-loop x p n frame members₀ c₀ members c = n - c
@@ -23,7 +23,7 @@ decreases-loop x p n frame members₀ c₀ members c = n - c
 loop-holds : tie.Need-loop-init invariant-loop decreases-loop
 loop-holds c =
     let e : min 0 c.before.before.args.n ≡ 0 = omega arith in
-    (omega arith, rw e (drawing-none _ _ _ (area-no-column _ _ 0 _ 0)))
+    (omega arith, rw e (drawing_none _ _ _ (area_no_column _ _ 0 _ 0)))
 
 start-requires : tie.Need-start-requires invariant-loop decreases-loop
 start-requires c κs = c.before.before.before.before.requires.2
@@ -59,16 +59,16 @@ loop-again : tie.Need-loop-preserved invariant-loop decreases-loop
 loop-again c =
     let at-lay = c.before.before in
     let at_read = at-lay.before.before.before in
-    let at-start = at_read.before.before in
-    let at-loop = at-start.before.before in
+    let at_start_lem = at_read.before.before in
+    let at-loop = at_start_lem.before.before in
     let a = c.before.before.before.before.before.before.before.before.before.before.before.before.args in
     let h = c.before.before.before.before.before.before.before.before.before.before.before.before.requires in
-    let m : ℕ → ℕ → ℕ = rankedByte a.x a.frame.now in
-    let r = at-start.start.result in
+    let m : ℕ → ℕ → ℕ = ranked_byte a.x a.frame.now in
+    let r = at_start_lem.start.result in
     let i = at-loop.loop.c in
-    let e = at-start.start.ensures in (
+    let e = at_start_lem.start.ensures in (
       omega arith,
-      columns-more a.p 0 m 0 a.x (min i a.n) r 16 (min (i + 16) a.n) _ (omega arith) (omega arith) (omega (arith, h.2)) at-loop.loop.invariant.1
+      columns_more a.p 0 m 0 a.x (min i a.n) r 16 (min (i + 16) a.n) _ (omega arith) (omega arith) (omega (arith, h.2)) at-loop.loop.invariant.1
           (some_is a.p 0 m a.x 16 8 0 r _ _ at-loop.loop.members _ h.1 at_read.read.ensures at-lay.lay-rows.ensures),
     )
 

@@ -3,8 +3,8 @@ use Prim.Native.Nat.{◌<◌, ◌≤◌, ◌*◌}
 use native.Mathlib.Nat.{mul-le-mul_right}
 use native.Mathlib.Omega.{arith}
 use lib.ListN.{length}
-use Rattle.payload.proofs.Frames.{member-in}
-use Rattle.payload.proofs.Fronts.{starts-at, joined-started}
+use Rattle.payload.proofs.Frames.{member_in}
+use Rattle.payload.proofs.Fronts.{starts_at, joined_started}
 use borrow.Author.Rules.{rules}
 use Rattle.payload.proofs.over.join.Statement.{statement}
 use Rattle.payload.proofs.over.join.Tie as tie
@@ -34,7 +34,7 @@ join-from-requires : tie.Need-join-from-requires
 join-from-requires c κs =
     let a = c.before.before.before.before.args in
     let h = c.before.before.before.before.requires in
-    (h.0, omega (arith, h.1), h.2, h.1, λ r b. omega (arith, starts-at a.p r (omega (arith, b, h.1)), member-in a.x a.p r b, h.3), omega (arith, h.4))
+    (h.0, omega (arith, h.1), h.2, h.1, λ r b. omega (arith, starts_at a.p r (omega (arith, b, h.1)), member_in a.x a.p r b, h.3), omega (arith, h.4))
 
 same_length : tie.Need-same-length
 same_length c = search rules
@@ -44,7 +44,7 @@ returns c =
     let a = c.before.before.before.before.before.before.before.args in
     let h = c.before.before.before.before.before.before.before.requires in
     let pos : 0 < a.x = omega (arith, h.0) in
-    joined-started a.x a.p a.members.now a.frame.now _ pos h.1 h.4 c.before.before.join-from.ensures
+    joined_started a.x a.p a.members.now a.frame.now _ pos h.1 h.4 c.before.before.join-from.ensures
 
 pub join-spec : {M : Type 1} → statement M
 join-spec =

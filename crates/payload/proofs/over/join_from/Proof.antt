@@ -2,10 +2,10 @@
 use Prim.Native.Nat.{ℕ, ◌<◌, ◌≤◌, ◌-◌}
 use native.Mathlib.Omega.{arith}
 use lib.ListN.{length}
-use Rattle.payload.specs.Joining.{startedByte}
-use Rattle.payload.specs.Laws.Shifts.{length_rest, storeFrom}
+use Rattle.payload.specs.Joining.{started_byte}
+use Rattle.payload.specs.Laws.Shifts.{length_rest, store_from}
 use Rattle.payload.proofs.Blocks.{BlockIn, block_in}
-use Rattle.payload.proofs.Fronts.{over-all, started-rest}
+use Rattle.payload.proofs.Fronts.{over_all, started_rest}
 use borrow.Author.Rules.{rules}
 use Rattle.payload.proofs.over.join_from.Statement.{statement}
 use Rattle.payload.proofs.over.join_from.Tie as tie
@@ -55,8 +55,8 @@ returns c =
     let h = c.before.before.before.before.before.before.before.before.before.before.before.before.requires in
     let n : ℕ = a.p - 2 in
     let pos : 0 < a.x = omega (arith, h.0) in
-    over-all a.x n a.p (startedByte a.starts.now a.store.now) (startedByte a.starts.now (storeFrom n a.store.now)) _ (omega (arith, h.2)) pos h.5
-    c.before.before.before.before.before.before.before.most-lines.ensures c.before.before.join-from.ensures (λ r i. started-rest n a.store.now a.starts.now r i)
+    over_all a.x n a.p (started_byte a.starts.now a.store.now) (started_byte a.starts.now (store_from n a.store.now)) _ (omega (arith, h.2)) pos h.5
+    c.before.before.before.before.before.before.before.most-lines.ensures c.before.before.join-from.ensures (λ r i. started_rest n a.store.now a.starts.now r i)
 
 pub join-from-spec : {M : Type 1} → statement M
 join-from-spec =

@@ -1,6 +1,6 @@
 use Prim.Native.Nat.{◌<◌}
 use native.Mathlib.Omega.{arith}
-use Rattle.payload.proofs.Fronts.{over-turned}
+use Rattle.payload.proofs.Fronts.{over_turned}
 use borrow.Author.Rules.{rules}
 use Rattle.payload.proofs.over.lay.Statement.{statement}
 use Rattle.payload.proofs.over.lay.Tie as tie
@@ -22,7 +22,7 @@ returns c =
     let a = c.before.before.before.before.before.before.before.args in
     let h = c.before.before.before.before.before.before.before.requires in
     let pos : 0 < a.x = omega (arith, h.0) in
-    over-turned a.x a.q c.before.before.before.before.before.eight-rows.result pos h.1 c.before.before.before.before.before.eight-rows.ensures c.before.before.write.ensures
+    over_turned a.x a.q c.before.before.before.before.before.eight-rows.result pos h.1 c.before.before.before.before.before.eight-rows.ensures c.before.before.write.ensures
 
 pub lay-spec : {M : Type 1} → statement M
 lay-spec =

@@ -1,4 +1,4 @@
-use Rattle.payload.proofs.Blocks.{some-turned}
+use Rattle.payload.proofs.Blocks.{some_turned}
 use borrow.Author.Rules.{rules}
 use Rattle.payload.proofs.over.lay_rows.Statement.{statement}
 use Rattle.payload.proofs.over.lay_rows.Tie as tie
@@ -20,7 +20,7 @@ returns c =
     let at-write = c.before.before in
     let at_rows = at-write.before.before.before in
     let a = at_rows.before.before.args in
-    some-turned a.x 16 8 a.p 0 0 a.r a.q at_rows.sixteen-rows.result a.members.now _ at_rows.before.before.requires.0 at_rows.sixteen-rows.ensures at-write.write.ensures
+    some_turned a.x 16 8 a.p 0 0 a.r a.q at_rows.sixteen-rows.result a.members.now _ at_rows.before.before.requires.0 at_rows.sixteen-rows.ensures at-write.write.ensures
 
 pub lay-rows-spec : {M : Type 1} → statement M
 lay-rows-spec =

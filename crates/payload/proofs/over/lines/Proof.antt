@@ -6,17 +6,17 @@ use native.Mathlib.Nat.{mul-le-mul_right}
 use native.Mathlib.Omega.{arith}
 use lib.ListN.{length}
 use Rattle.payload.specs.Inner.Front.{Front}
-use Rattle.payload.specs.Joining.{startedByte}
-use Rattle.payload.specs.Order.{groupByte}
+use Rattle.payload.specs.Joining.{started_byte}
+use Rattle.payload.specs.Order.{group_byte}
 use Rattle.payload.proofs.Blocks.{block_in}
-use Rattle.payload.proofs.Fronts.{front-none, over-lines}
-use Rattle.payload.proofs.Starts.{own-count, own_in, own-rows}
+use Rattle.payload.proofs.Fronts.{front_none, over_lines}
+use Rattle.payload.proofs.Starts.{own_count, own_in_lem, own_rows_lem}
 use borrow.Author.Rules.{rules}
 use Rattle.payload.proofs.over.lines.Statement.{statement}
 use Rattle.payload.proofs.over.lines.Tie as tie
 
 abbrev invariant-loop : tie.invariant-loop
-invariant-loop x p n starts store place out₀ own c₀ out c = (c ≤ n + 16) × Front place (min c n * x) (place + x * p) (groupByte x (startedByte starts store)) out₀ out
+invariant-loop x p n starts store place out₀ own c₀ out c = (c ≤ n + 16) × Front place (min c n * x) (place + x * p) (group_byte x (started_byte starts store)) out₀ out
 
 abbrev decreases-loop : tie.decreases-loop
 decreases-loop x p n starts store place out₀ own c₀ out c = n - c
@@ -39,7 +39,7 @@ loop-holds : tie.Need-loop-init invariant-loop decreases-loop
 loop-holds c =
     let e : min 0 c.before.before.before.before.args.n ≡ 0 = omega arith in
     let z : 0 * c.before.before.before.before.args.x ≡ 0 = omega arith in
-    (omega arith, rw (e, z) (front-none _ _ _ _))
+    (omega arith, rw (e, z) (front_none _ _ _ _))
 
 start-requires : tie.Need-start-requires invariant-loop decreases-loop
 start-requires c κs = c.before.before.before.before.before.before.requires.2
@@ -57,9 +57,9 @@ read-started-requires c κs =
     let pos : 0 < a.x = omega (arith, h.0) in
     let own = c.before.before.before.before.before.few-of in (
       omega arith,
-      omega (arith, own-count a.x a.starts.now own.result own.ensures),
+      omega (arith, own_count a.x a.starts.now own.result own.ensures),
       λ l b. let f : 0 + l ≡ l = omega arith in
-          rw f (omega (arith, c.before.before.start.ensures, h.2, h.3, own_in a.x a.starts.now own.result own.ensures a.p (length a.store.now) pos h.5 l b)),
+          rw f (omega (arith, c.before.before.start.ensures, h.2, h.3, own_in_lem a.x a.starts.now own.result own.ensures a.p (length a.store.now) pos h.5 l b)),
     )
 
 mul-lay : tie.Need-overflow-mul-lay invariant-loop decreases-loop
@@ -87,21 +87,21 @@ loop-again : tie.Need-loop-preserved invariant-loop decreases-loop
 loop-again c =
     let at-lay = c.before.before in
     let at_read = at-lay.before.before.before in
-    let at-start = at_read.before.before.before in
-    let at-loop = at-start.before.before in
+    let at_start_lem = at_read.before.before.before in
+    let at-loop = at_start_lem.before.before in
     let own = at-loop.before.few-of in
     let a = c.before.before.before.before.before.before.before.before.before.before.before.before.before.before.before.args in
     let h = c.before.before.before.before.before.before.before.before.before.before.before.before.before.before.before.requires in
-    let m : ℕ → ℕ → ℕ = startedByte a.starts.now a.store.now in
-    let j = at-start.start.result in
+    let m : ℕ → ℕ → ℕ = started_byte a.starts.now a.store.now in
+    let j = at_start_lem.start.result in
     let i = at-loop.loop.c in
-    let e = at-start.start.ensures in
+    let e = at_start_lem.start.ensures in
     let low : j ≤ min i a.n = omega arith in
     let pos : 0 < a.x = omega (arith, h.0) in
-    let rows = own-rows a.x a.starts.now own.result own.ensures 8 16 j a.store.now _ _ h.1 (omega arith) at_read.read-started.ensures in (
+    let rows = own_rows_lem a.x a.starts.now own.result own.ensures 8 16 j a.store.now _ _ h.1 (omega arith) at_read.read-started.ensures in (
       omega arith,
-      over-lines a.x j (min i a.n) (min (i + 16) a.n) (a.place + j * a.x + 15 * a.x + 8) m _ _ _ pos low (omega (arith, h.2)) rows at-loop.loop.invariant.1 at-lay.lay.ensures
-          (mul-le-mul_right a.x low) (inside at-start),
+      over_lines a.x j (min i a.n) (min (i + 16) a.n) (a.place + j * a.x + 15 * a.x + 8) m _ _ _ pos low (omega (arith, h.2)) rows at-loop.loop.invariant.1 at-lay.lay.ensures
+          (mul-le-mul_right a.x low) (inside at_start_lem),
     )
 
 same_length : tie.Need-same-length invariant-loop decreases-loop

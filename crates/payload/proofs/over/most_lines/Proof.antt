@@ -1,7 +1,7 @@
 use mathlib.Core.Path.{◌≡◌}
 use Prim.Native.Nat.{◌*◌}
 use native.Mathlib.Omega.{arith}
-use Rattle.payload.specs.Joining.{startedByte}
+use Rattle.payload.specs.Joining.{started_byte}
 use Rattle.payload.proofs.Fronts.{front_of}
 use Rattle.payload.proofs.over.most_lines.Statement.{statement}
 use Rattle.payload.proofs.over.most_lines.Tie as tie
@@ -23,7 +23,7 @@ same_length c = c.before.before.three.ensures.len
 returns : tie.Need-returns
 returns c =
     let a = c.before.before.before.before.before.before.before.before.args in
-    front_of a.x 3 a.n a.p a.place (startedByte a.starts.now a.store.now) c.before.before.before.before.if1.true c.before.before.three.ensures
+    front_of a.x 3 a.n a.p a.place (started_byte a.starts.now a.store.now) c.before.before.before.before.if1.true c.before.before.three.ensures
 
 same-length-2 : tie.Need-same-length-2
 same-length-2 c = c.before.before.lines.ensures.len

@@ -5,13 +5,13 @@ use native.Mathlib.Nat.{mul-le-mul_right}
 use native.Mathlib.Omega.{arith}
 use lib.ListN.{length, get_or}
 use Rattle.payload.specs.Inner.Block.{Rows}
-use Rattle.payload.specs.Joining.{rankedByte}
+use Rattle.payload.specs.Joining.{ranked_byte}
 use Rattle.payload.proofs.Blocks.{rows_none, row_more}
 use Rattle.payload.proofs.over.read.Statement.{statement}
 use Rattle.payload.proofs.over.read.Tie as tie
 
 abbrev invariant-loop : tie.invariant-loop
-invariant-loop frame x r q₀ from₀ l₀ q from l = (l ≤ 16) × (l % 2 ≡ 0) × (from ≡ (r + l) * x) × Rows l 8 (rankedByte x frame) r 0 q₀ q
+invariant-loop frame x r q₀ from₀ l₀ q from l = (l ≤ 16) × (l % 2 ≡ 0) × (from ≡ (r + l) * x) × Rows l 8 (ranked_byte x frame) r 0 q₀ q
 
 abbrev decreases-loop : tie.decreases-loop
 decreases-loop frame x r q₀ from₀ l₀ q from l = 16 - l
@@ -49,12 +49,12 @@ mul-by-bytes-2 c = omega arith
 
 -- one line of the two
 first : (c : tie.After-slice-known2 invariant-loop decreases-loop)
-    → Rows (c.before.before.before.before.before.loop.l + 1) 8 (rankedByte c.before.before.before.before.before.before.before.before.args.x c.before.before.before.before.before.before.before.before.args.frame.now) c.before.before.before.before.before.before.before.before.args.r 0 c.before.before.before.before.before.before.before.before.args.q.now c.before.before.by_bytes.new.1.1.1.1.0
+    → Rows (c.before.before.before.before.before.loop.l + 1) 8 (ranked_byte c.before.before.before.before.before.before.before.before.args.x c.before.before.before.before.before.before.before.before.args.frame.now) c.before.before.before.before.before.before.before.before.args.r 0 c.before.before.before.before.before.before.before.before.args.q.now c.before.before.by_bytes.new.1.1.1.1.0
 first c =
     let a = c.before.before.before.before.before.before.before.before.args in
     let l = c.before.before.before.before.before.loop.l in
     let e = c.before.before.before.before.before.loop.invariant.2 in
-    row_more l 8 a.r 0 (rankedByte a.x a.frame.now) (λ i. get_or a.frame.now (c.before.before.before.before.before.loop.from + i) 0) _ (omega arith) c.before.before.before.before.before.loop.invariant.3 c.before.before.by_bytes.ensures
+    row_more l 8 a.r 0 (ranked_byte a.x a.frame.now) (λ i. get_or a.frame.now (c.before.before.before.before.before.loop.from + i) 0) _ (omega arith) c.before.before.before.before.before.loop.invariant.3 c.before.before.by_bytes.ensures
     (λ i b. let s : c.before.before.before.before.before.loop.from + i ≡ (a.r + l) * a.x + (0 + i) = omega (arith, e) in ap (λ (k : ℕ). get_or a.frame.now k 0) s)
 
 by-bytes-requires-2 : tie.Need-by-bytes-requires-2 invariant-loop decreases-loop
@@ -82,7 +82,7 @@ loop-again c =
       omega (arith, at-loop.loop.invariant.1),
       omega (arith, at-loop.loop.invariant.1),
       omega (arith, e),
-      rw two at (row_more (l + 1) 8 a.r 0 (rankedByte a.x a.frame.now) (λ i. get_or a.frame.now (at-loop.loop.from + a.x + i) 0) _ (omega (arith, at-loop.loop.invariant.1)) (first c.before.before.before.before) c.before.before.by-bytes2.ensures
+      rw two at (row_more (l + 1) 8 a.r 0 (ranked_byte a.x a.frame.now) (λ i. get_or a.frame.now (at-loop.loop.from + a.x + i) 0) _ (omega (arith, at-loop.loop.invariant.1)) (first c.before.before.before.before) c.before.before.by-bytes2.ensures
           (λ i b. let s : at-loop.loop.from + a.x + i ≡ (a.r + (l + 1)) * a.x + (0 + i) = omega (arith, e) in ap (λ (k : ℕ). get_or a.frame.now k 0) s)),
     )
 

@@ -4,11 +4,11 @@ use Prim.Native.Nat.{ℕ, ◌+◌, ◌-◌, ◌*◌, ◌≤◌, ◌<◌}
 use native.Mathlib.Nat.{mul_comm}
 use native.Mathlib.Omega.{arith}
 use lib.ListN.{length, get_or}
-use Rattle.ground.specs.Drawn.{drawing, fillAt-all}
+use Rattle.ground.specs.Drawn.{drawing, fill_at_all}
 use Rattle.payload.specs.Inner.Area.{area}
-use Rattle.payload.specs.Joining.{rankedByte}
-use Rattle.payload.specs.Order.{groupByte}
-use Rattle.payload.proofs.Frames.{member-in, rank-more, ranks-all, spread-by-lines}
+use Rattle.payload.specs.Joining.{ranked_byte}
+use Rattle.payload.specs.Order.{group_byte}
+use Rattle.payload.proofs.Frames.{member_in, rank_more, ranks_all, spread_by_lines}
 use borrow.Author.Rules.{rules}
 use Rattle.payload.proofs.over.spread.Statement.{statement}
 use Rattle.payload.proofs.over.spread.Tie as tie
@@ -18,7 +18,7 @@ sub-n c = omega (arith, c.before.before.requires.2)
 
 -- one of the last two lines
 line : (c : tie.Start) (i : ℕ) → i < 2 → (c.args.p - 2 + i) * c.args.x + c.args.x ≤ length c.args.frame.now
-line c i b = omega (arith, member-in c.args.p c.args.x (c.args.p - 2 + i) (omega (arith, c.requires.2)), c.requires.3, mul_comm c.args.x c.args.p)
+line c i b = omega (arith, member_in c.args.p c.args.x (c.args.p - 2 + i) (omega (arith, c.requires.2)), c.requires.3, mul_comm c.args.x c.args.p)
 
 columns-requires : tie.Need-columns-requires
 columns-requires c κs =
@@ -61,13 +61,13 @@ returns c =
     let a = at_entry_lem.args in
     let h = at_entry_lem.requires in
     let n : ℕ = a.p - 2 in
-    let m : ℕ → ℕ → ℕ = rankedByte a.x a.frame.now in
-    let most = drawing (area a.p 0 0 a.x 0 n) (λ k. groupByte a.p m (k - 0)) a.members.now _ at-columns.columns.ensures in
-    let one = rank-more a.p a.x 0 m n (λ j. get_or a.frame.now (n * a.x + j) 0) _ most at_first.column.ensures (λ j. refl) in
-    let two = rank-more a.p a.x 0 m (n + 1) (λ j. get_or a.frame.now ((n + 1) * a.x + j) 0) _ one at_last.column2.ensures (λ j. refl) in
+    let m : ℕ → ℕ → ℕ = ranked_byte a.x a.frame.now in
+    let most = drawing (area a.p 0 0 a.x 0 n) (λ k. group_byte a.p m (k - 0)) a.members.now _ at-columns.columns.ensures in
+    let one = rank_more a.p a.x 0 m n (λ j. get_or a.frame.now (n * a.x + j) 0) _ most at_first.column.ensures (λ j. refl) in
+    let two = rank_more a.p a.x 0 m (n + 1) (λ j. get_or a.frame.now ((n + 1) * a.x + j) 0) _ one at_last.column2.ensures (λ j. refl) in
     let e : n + 1 + 1 ≡ a.p = omega (arith, h.2) in
-    spread-by-lines a.x a.p a.frame.now _
-    (ranks-all a.p a.x 0 m (rw e at two) ∙ fillAt-all (a.p * a.x) (groupByte a.p m) a.members.now (h.4 ∙ mul_comm a.x a.p))
+    spread_by_lines a.x a.p a.frame.now _
+    (ranks_all a.p a.x 0 m (rw e at two) ∙ fill_at_all (a.p * a.x) (group_byte a.p m) a.members.now (h.4 ∙ mul_comm a.x a.p))
 
 pub spread-spec : {M : Type 1} → statement M
 spread-spec =

@@ -4,15 +4,15 @@ use mathlib.Core.Path.{◌≡◌}
 use Prim.Native.Nat.{ℕ, ◌≤◌, ◌-◌, ◌+◌, ◌*◌, min}
 use native.Mathlib.Omega.{arith}
 use Rattle.payload.specs.Inner.Front.{Front}
-use Rattle.payload.specs.Joining.{startedByte}
-use Rattle.payload.specs.Order.{groupByte}
-use Rattle.payload.proofs.Fronts.{front-none, over-three}
+use Rattle.payload.specs.Joining.{started_byte}
+use Rattle.payload.specs.Order.{group_byte}
+use Rattle.payload.proofs.Fronts.{front_none, over_three}
 use borrow.Author.Rules.{rules}
 use Rattle.payload.proofs.over.three.Statement.{statement}
 use Rattle.payload.proofs.over.three.Tie as tie
 
 abbrev invariant-loop : tie.invariant-loop
-invariant-loop p n starts store place out₀ c₀ out c = (c ≤ n + 32) × Front place (min c n * 3) (place + 3 * p) (groupByte 3 (startedByte starts store)) out₀ out
+invariant-loop p n starts store place out₀ c₀ out c = (c ≤ n + 32) × Front place (min c n * 3) (place + 3 * p) (group_byte 3 (started_byte starts store)) out₀ out
 
 abbrev decreases-loop : tie.decreases-loop
 decreases-loop p n starts store place out₀ c₀ out c = n - c
@@ -20,7 +20,7 @@ decreases-loop p n starts store place out₀ c₀ out c = n - c
 loop-holds : tie.Need-loop-init invariant-loop decreases-loop
 loop-holds c =
     let e : min 0 c.before.before.before.args.n * 3 ≡ 0 = omega arith in
-    (omega arith, rw e (front-none _ _ _ _))
+    (omega arith, rw e (front_none _ _ _ _))
 
 start-requires : tie.Need-start-requires invariant-loop decreases-loop
 start-requires c κs = c.before.before.before.before.before.requires.0
@@ -55,16 +55,16 @@ loop-less c = omega arith
 
 loop-again : tie.Need-loop-preserved invariant-loop decreases-loop
 loop-again c =
-    let at-start = c.before.before.before.before.before.before.before.before in
+    let at_start_lem = c.before.before.before.before.before.before.before.before in
     let at-loop = c.before.before.before.before.before.before.before.before.before.before in
     let a = c.before.before.before.before.before.before.before.before.before.before.before.before.before.before.args in
     let h = c.before.before.before.before.before.before.before.before.before.before.before.before.before.before.requires in
-    let m : ℕ → ℕ → ℕ = startedByte a.starts.now a.store.now in
-    let j = at-start.start.result in
+    let m : ℕ → ℕ → ℕ = started_byte a.starts.now a.store.now in
+    let j = at_start_lem.start.result in
     let i = at-loop.loop.c in
-    let e = at-start.start.ensures in (
+    let e = at_start_lem.start.ensures in (
       omega arith,
-      over-three j (min i a.n) (min (i + 32) a.n) (a.place + j * 3 + 15 * 6 + 8) m _ _ _ _ (omega arith) (omega (arith, h.0)) c.before.before.before.before.before.before.read-started.ensures c.before.before.before.before.dealt.ensures at-loop.loop.invariant.1
+      over_three j (min i a.n) (min (i + 32) a.n) (a.place + j * 3 + 15 * 6 + 8) m _ _ _ _ (omega arith) (omega (arith, h.0)) c.before.before.before.before.before.before.read-started.ensures c.before.before.before.before.dealt.ensures at-loop.loop.invariant.1
           c.before.before.lay.ensures (omega (arith, e, h.0, h.1)),
     )
 

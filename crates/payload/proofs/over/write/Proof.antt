@@ -5,7 +5,7 @@ use native.Mathlib.Nat.{mul-le-mul_right}
 use native.Mathlib.Omega.{arith}
 use lib.ListN.{get_or}
 use Rattle.payload.specs.Inner.Front.{Front}
-use Rattle.payload.proofs.Fronts.{front-none, over-more}
+use Rattle.payload.proofs.Fronts.{front_none, over_more}
 use Rattle.payload.proofs.over.write.Statement.{statement}
 use Rattle.payload.proofs.over.write.Tie as tie
 
@@ -21,7 +21,7 @@ inside c =
     omega (arith, mul-le-mul_right c.before.before.before.before.args.x b, c.before.loop.invariant.1)
 
 loop-holds : tie.Need-loop-init invariant-loop decreases-loop
-loop-holds c = let z : 0 * c.before.before.args.x ≡ 0 = omega arith in (omega arith, omega arith, rw z (front-none _ _ _ _))
+loop-holds c = let z : 0 * c.before.before.args.x ≡ 0 = omega arith in (omega arith, omega arith, rw z (front_none _ _ _ _))
 
 mul-by-bytes : tie.Need-overflow-mul-by-bytes invariant-loop decreases-loop
 mul-by-bytes c = omega arith
@@ -48,7 +48,7 @@ loop-again c =
     let e = at-loop.loop.invariant.1 in (
       omega arith,
       omega (arith, e),
-      over-more a.x l at-loop.loop.to a.q.now _ h.1 e s (omega (arith, s, h.3)) at-loop.loop.invariant.2 c.before.before.by_bytes.ensures,
+      over_more a.x l at-loop.loop.to a.q.now _ h.1 e s (omega (arith, s, h.3)) at-loop.loop.invariant.2 c.before.before.by_bytes.ensures,
     )
 
 same_length : tie.Need-same-length invariant-loop decreases-loop

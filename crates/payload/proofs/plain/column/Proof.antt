@@ -3,9 +3,9 @@ use Prim.Native.Nat.{◌≤◌, ◌<◌, ◌-◌, ◌+◌, ◌*◌, ◌/◌}
 use mathlib.Core.Path.{◌≡◌}
 use native.Mathlib.Omega.{arith}
 use lib.ListN.{get_or}
-use Rattle.ground.specs.Drawn.{Drawing, drawing-none, drawing-put}
+use Rattle.ground.specs.Drawn.{Drawing, drawing_none, drawing_put}
 use Rattle.payload.specs.Inner.Area.{area}
-use Rattle.payload.proofs.Areas.{in_frame, area-no-line, line_of, column-more}
+use Rattle.payload.proofs.Areas.{in_frame, area_no_line, line_of, column_more}
 use Rattle.payload.proofs.plain.column.Statement.{statement}
 use Rattle.payload.proofs.plain.column.Tie as tie
 
@@ -20,7 +20,7 @@ inside : (c : tie.In-loop invariant-loop decreases-loop)
 inside c = in_frame _ _ c.before.loop.j _ (omega arith) (omega arith)
 
 loop-holds : tie.Need-loop-init invariant-loop decreases-loop
-loop-holds c = (omega arith, drawing-none _ _ _ (area-no-line _ _ 0 _ 1))
+loop-holds c = (omega arith, drawing_none _ _ _ (area_no_line _ _ 0 _ 1))
 
 add-out : tie.Need-overflow-add-out invariant-loop decreases-loop
 add-out c = omega arith
@@ -52,8 +52,8 @@ loop-again c =
     let j = c.before.before.loop.j in
     let h : a.r < a.x = omega arith in (
       omega arith,
-      drawing-put (area a.x a.place 0 (j + 1) a.r 1) _ _ c.before.before.loop.invariant.1 (rw (line_of a.x a.place j a.r h))
-          (λ k. column-more a.x a.place j a.r k h),
+      drawing_put (area a.x a.place 0 (j + 1) a.r 1) _ _ c.before.before.loop.invariant.1 (rw (line_of a.x a.place j a.r h))
+          (λ k. column_more a.x a.place j a.r k h),
     )
 
 same_length : tie.Need-same-length invariant-loop decreases-loop

@@ -3,7 +3,7 @@ use Prim.Native.Nat.{◌≤◌, ◌<◌, ◌-◌, ◌+◌, ◌*◌}
 use mathlib.Core.Path.{◌≡◌}
 use native.Mathlib.Omega.{arith}
 use lib.ListN.{get_or}
-use Rattle.ground.specs.Drawn.{Filling, filling-none, filling-more}
+use Rattle.ground.specs.Drawn.{Filling, filling_none, filling_more}
 use Rattle.payload.proofs.Areas.{in_frame}
 use Rattle.payload.proofs.plain.member.Statement.{statement}
 use Rattle.payload.proofs.plain.member.Tie as tie
@@ -19,7 +19,7 @@ inside : (c : tie.In-loop invariant-loop decreases-loop)
 inside c = in_frame _ _ c.before.loop.j _ (omega arith) (omega arith)
 
 loop-holds : tie.Need-loop-init invariant-loop decreases-loop
-loop-holds c = (omega arith, filling-none _ _ _)
+loop-holds c = (omega arith, filling_none _ _ _)
 
 mul-to : tie.Need-overflow-mul-to invariant-loop decreases-loop
 mul-to c = omega (arith, inside c)
@@ -43,7 +43,7 @@ loop-less : tie.Need-loop-smaller invariant-loop decreases-loop
 loop-less c = omega arith
 
 loop-again : tie.Need-loop-preserved invariant-loop decreases-loop
-loop-again c = (omega arith, filling-more c.before.before.loop.invariant.1)
+loop-again c = (omega arith, filling_more c.before.before.loop.invariant.1)
 
 same_length : tie.Need-same-length invariant-loop decreases-loop
 same_length c = c.before.loop.invariant.1.len

@@ -1,6 +1,6 @@
 use lib.ListN.{length}
 use native.Mathlib.Omega.{arith}
-use Rattle.payload.proofs.Frames.{one-ranked, one-rankless}
+use Rattle.payload.proofs.Frames.{one_ranked, one_rankless}
 use Rattle.payload.proofs.plain.spread_one.Statement.{statement}
 use Rattle.payload.proofs.plain.spread_one.Tie as tie
 
@@ -16,7 +16,7 @@ same_length c = omega arith
 returns : tie.Need-returns
 returns c =
     let a = c.before.before.before.before.before.before.before.args in
-    one-ranked a.x a.p a.r a.frame.now a.to.now _ c.before.before.before.before.if1.true c.before.before.before.before.before.before.before.requires.1 c.before.before.member.ensures
+    one_ranked a.x a.p a.r a.frame.now a.to.now _ c.before.before.before.before.if1.true c.before.before.before.before.before.before.before.requires.1 c.before.before.member.ensures
 
 same-length-2 : tie.Need-same-length-2
 same-length-2 c = omega arith
@@ -24,7 +24,7 @@ same-length-2 c = omega arith
 returns-2 : tie.Need-returns-2
 returns-2 c =
     let a = c.before.before.before.before.before.before.before.args in
-    one-rankless a.x a.p a.r (length a.to.now) a.frame.now _ c.before.before.before.before.if1.false c.before.before.before.before.before.before.before.requires.1 c.before.before.clear.ensures
+    one_rankless a.x a.p a.r (length a.to.now) a.frame.now _ c.before.before.before.before.if1.false c.before.before.before.before.before.before.before.requires.1 c.before.before.clear.ensures
 
 pub spread-one-spec : {M : Type 1} → statement M
 spread-one-spec =

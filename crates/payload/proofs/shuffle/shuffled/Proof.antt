@@ -4,8 +4,8 @@ use Prim.Native.Nat.{◌≤◌, ◌+◌, ◌-◌, ◌*◌, ◌/◌, ◌%◌}
 use native.Mathlib.Omega.{arith}
 use lib.ListN.{length, get_or}
 use borrow.Author.Rules.{rules}
-use Rattle.ground.specs.Drawn.{Filling, filling-none, filling-all}
-use Rattle.payload.proofs.Shuffles.{two-more}
+use Rattle.ground.specs.Drawn.{Filling, filling_none, filling_all}
+use Rattle.payload.proofs.Shuffles.{two_more}
 use Rattle.payload.proofs.shuffle.shuffled.Statement.{statement}
 use Rattle.payload.proofs.shuffle.shuffled.Tie as tie
 
@@ -16,7 +16,7 @@ abbrev decreases-loop : tie.decreases-loop
 decreases-loop q s₀ i₀ s i = 64 - i
 
 loop-holds : tie.Need-loop-init invariant-loop decreases-loop
-loop-holds c = (refl, omega arith, filling-none _ _ _)
+loop-holds c = (refl, omega arith, filling_none _ _ _)
 
 array-read-s : tie.Need-array-read-s invariant-loop decreases-loop
 array-read-s c = search rules
@@ -49,12 +49,12 @@ loop-less : tie.Need-loop-smaller invariant-loop decreases-loop
 loop-less c = search rules
 
 loop-again : tie.Need-loop-preserved invariant-loop decreases-loop
-loop-again c = (c.before.loop.invariant.0, omega arith, two-more 64 c.before.before.args.t1 _ c.before.loop.invariant.2)
+loop-again c = (c.before.loop.invariant.0, omega arith, two_more 64 c.before.before.args.t1 _ c.before.loop.invariant.2)
 
 returns : tie.Need-returns invariant-loop decreases-loop
 returns c =
     let e : c.before.loop.i ≡ 64 = omega arith in
-    filling-all (rw e at c.before.loop.invariant.2) c.before.loop.invariant.0
+    filling_all (rw e at c.before.loop.invariant.2) c.before.loop.invariant.0
 
 pub shuffled-spec : {M : Type 1} → statement M
 shuffled-spec =

@@ -4,7 +4,7 @@ use Prim.Native.Nat.{◌≤◌, ◌-◌, ◌*◌}
 use native.Mathlib.Nat.{mul-le-mul, zero-add}
 use native.Mathlib.Omega.{arith}
 use lib.ListN.{length}
-use Rattle.ground.specs.Drawn.{Filling, filling-none, filling-more, filling-all}
+use Rattle.ground.specs.Drawn.{Filling, filling_none, filling_more, filling_all}
 use borrow.Author.Rules.{rules}
 use Rattle.payload.proofs.work.all_starts.Statement.{statement}
 use Rattle.payload.proofs.work.all_starts.Tie as tie
@@ -16,7 +16,7 @@ abbrev decreases-loop : tie.decreases-loop
 decreases-loop p starts₀ r₀ starts r = 64 - r
 
 loop-holds : tie.Need-loop-init invariant-loop decreases-loop
-loop-holds c = (refl, omega arith, filling-none _ _ _)
+loop-holds c = (refl, omega arith, filling_none _ _ _)
 
 mul-starts : tie.Need-overflow-mul-starts invariant-loop decreases-loop
 mul-starts c =
@@ -36,12 +36,12 @@ loop-less : tie.Need-loop-smaller invariant-loop decreases-loop
 loop-less c = search rules
 
 loop-again : tie.Need-loop-preserved invariant-loop decreases-loop
-loop-again c = (c.before.loop.invariant.0, omega arith, rw zero-add at (filling-more c.before.loop.invariant.2))
+loop-again c = (c.before.loop.invariant.0, omega arith, rw zero-add at (filling_more c.before.loop.invariant.2))
 
 returns : tie.Need-returns invariant-loop decreases-loop
 returns c =
     let e : c.before.loop.r ≡ 64 = omega arith in
-    filling-all (rw e at c.before.loop.invariant.2) c.before.loop.invariant.0
+    filling_all (rw e at c.before.loop.invariant.2) c.before.loop.invariant.0
 
 pub all-starts-spec : {M : Type 1} → statement M
 all-starts-spec =

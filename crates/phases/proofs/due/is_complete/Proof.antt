@@ -4,16 +4,16 @@ use mathlib.Core.Path.{◌≡◌, refl, sym, ◌∙◌}
 use mathlib.Core.Bool.{Bool, true, false}
 use native.Mathlib.Omega.{arith}
 use borrow.Author.Tests.{not-true, not-false}
-use Rattle.ground.specs.Counting.Laws.Tests.{every-fails, every-on}
+use Rattle.ground.specs.Counting.Laws.Tests.{every_fails, every_on}
 use Rattle.ground.specs.Counting.Words.{every}
-use Rattle.rows.specs.Step.{stepAt}
-use Rattle.rows.specs.Packets.{marksAt}
-use Rattle.phases.specs.Due.{brought, owesNothing}
+use Rattle.rows.specs.Step.{step_at}
+use Rattle.rows.specs.Packets.{marks_at}
+use Rattle.phases.specs.Due.{brought, owes_nothing}
 use Rattle.phases.proofs.due.is_complete.Statement.{statement}
 use Rattle.phases.proofs.due.is_complete.Tie as tie
 
 abbrev invariant-loop : tie.invariant-loop
-invariant-loop group state ports i₀ i = (i ≤ ports) × (every i (λ k. owesNothing group (stepAt state k) (marksAt state k)) ≡ true)
+invariant-loop group state ports i₀ i = (i ≤ ports) × (every i (λ k. owes_nothing group (step_at state k) (marks_at state k)) ≡ true)
 
 abbrev decreases-loop : tie.decreases-loop
 decreases-loop group state ports i₀ i = ports - i
@@ -28,9 +28,9 @@ returns : tie.Need-returns invariant-loop decreases-loop
 unfolding brought
 returns c =
     let a = c.before.before.before.before.args in
-    let f : ℕ → Bool = λ k. owesNothing a.group (stepAt a.state.now k) (marksAt a.state.now k) in
+    let f : ℕ → Bool = λ k. owes_nothing a.group (step_at a.state.now k) (marks_at a.state.now k) in
     let e : f c.before.before.before.loop.i ≡ false = sym c.before.port-owes-nothing.ensures ∙ not-true _ c.if1.true in
-    sym (every-fails a.ports f c.before.before.before.loop.i c.before.before.loop-test.true e)
+    sym (every_fails a.ports f c.before.before.before.loop.i c.before.before.loop-test.true e)
 
 add-i : tie.Need-overflow-add-i invariant-loop decreases-loop
 add-i c = omega arith
@@ -41,9 +41,9 @@ loop-less c = omega arith
 loop-again : tie.Need-loop-preserved invariant-loop decreases-loop
 loop-again c =
     let a = c.before.before.before.before.args in
-    let f : ℕ → Bool = λ k. owesNothing a.group (stepAt a.state.now k) (marksAt a.state.now k) in
+    let f : ℕ → Bool = λ k. owes_nothing a.group (step_at a.state.now k) (marks_at a.state.now k) in
     let e : f c.before.before.before.loop.i ≡ true = sym c.before.port-owes-nothing.ensures ∙ not-false _ c.if1.false in
-    (omega arith, every-on f _ c.before.before.before.loop.invariant.1 e)
+    (omega arith, every_on f _ c.before.before.before.loop.invariant.1 e)
 
 returns-2 : tie.Need-returns-2 invariant-loop decreases-loop
 unfolding brought

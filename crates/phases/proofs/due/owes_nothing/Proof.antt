@@ -1,5 +1,5 @@
 use mathlib.Core.Path.{refl}
-use Rattle.phases.specs.Due.{owesNothing}
+use Rattle.phases.specs.Due.{owes_nothing}
 use native.Mathlib.Omega.{arith}
 use Rattle.phases.proofs.due.owes_nothing.Statement.{statement}
 use Rattle.phases.proofs.due.owes_nothing.Tie as tie
@@ -17,7 +17,7 @@ is-set-requires-2 : tie.Need-is-set-requires-2
 is-set-requires-2 c κs = omega arith
 
 returns : tie.Need-returns
-unfolding owesNothing
+unfolding owes_nothing
 returns c = rw (c.is-set2.ensures, c.before.is_set.ensures, c.before.before.first.ensures, c.before.before.before.is-readable.ensures) refl
 
 pub owes-nothing-spec : {M : Type 1} → statement M

@@ -1,5 +1,5 @@
 use mathlib.Core.Path.{refl}
-use Rattle.phases.specs.Passing.{notedBy}
+use Rattle.phases.specs.Passing.{noted_by}
 use native.Mathlib.Omega.{arith}
 use Rattle.phases.proofs.passing.noted_by.Statement.{statement}
 use Rattle.phases.proofs.passing.noted_by.Tie as tie
@@ -11,7 +11,7 @@ good-byte-requires-2 : tie.Need-good-byte-requires-2
 good-byte-requires-2 c κs = omega arith
 
 returns : tie.Need-returns
-unfolding notedBy
+unfolding noted_by
 returns c = rw (c.good-byte2.ensures, c.before.good-byte.ensures) refl
 
 pub noted-by-spec : {M : Type 1} → statement M

@@ -5,19 +5,19 @@ use mathlib.Core.Path.{◌≡◌, refl, ap, ◌∙◌}
 use native.Mathlib.Numerals.{add-one}
 use native.Mathlib.Omega.{arith}
 use borrow.Author.Rules.{rules}
-use Rattle.phases.specs.ByTable.{passedPortsWith}
-use Rattle.phases.specs.Theorems.ByTable.{length-passed-ports-with}
+use Rattle.phases.specs.ByTable.{passed_ports_with}
+use Rattle.phases.specs.Theorems.ByTable.{length_passed_ports_with}
 use Rattle.phases.proofs.passing.pass_ports.Statement.{statement}
 use Rattle.phases.proofs.passing.pass_ports.Tie as tie
 
 abbrev invariant-loop : tie.invariant-loop
-invariant-loop table group store ports state₀ i₀ state i = (i ≤ ports) × (state ≡ passedPortsWith table group store i state₀)
+invariant-loop table group store ports state₀ i₀ state i = (i ≤ ports) × (state ≡ passed_ports_with table group store i state₀)
 
 abbrev decreases-loop : tie.decreases-loop
 decreases-loop table group store ports state₀ i₀ state i = ports - i
 
 loop-holds : tie.Need-loop-init invariant-loop decreases-loop
-unfolding passedPortsWith
+unfolding passed_ports_with
 loop-holds c = (omega arith, refl)
 
 pass-port-requires : tie.Need-pass-port-requires invariant-loop decreases-loop
@@ -30,11 +30,11 @@ loop-less : tie.Need-loop-smaller invariant-loop decreases-loop
 loop-less c = omega arith
 
 loop-again : tie.Need-loop-preserved invariant-loop decreases-loop
-unfolding passedPortsWith
+unfolding passed_ports_with
 loop-again c = (omega arith, rw (add-one, ← c.before.before.before.before.loop.invariant.1) c.before.pass-port.ensures)
 
 same_length : tie.Need-same-length invariant-loop decreases-loop
-same_length c = ap length c.before.loop.invariant.1 ∙ length-passed-ports-with _ _ _ _ _
+same_length c = ap length c.before.loop.invariant.1 ∙ length_passed_ports_with _ _ _ _ _
 
 returns : tie.Need-returns invariant-loop decreases-loop
 returns c = let e : c.before.loop.i ≡ c.before.before.before.args.ports = omega arith in rw e at c.before.loop.invariant.1

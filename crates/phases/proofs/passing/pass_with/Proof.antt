@@ -1,5 +1,5 @@
 use mathlib.Core.Path.{refl}
-use Rattle.phases.specs.ByTable.{passedWith}
+use Rattle.phases.specs.ByTable.{passed_with}
 use native.Mathlib.Omega.{arith}
 use Rattle.phases.proofs.passing.pass_with.Statement.{statement}
 use Rattle.phases.proofs.passing.pass_with.Tie as tie
@@ -17,7 +17,7 @@ same_length : tie.Need-same-length
 same_length c = omega arith
 
 returns : tie.Need-returns
-unfolding passedWith
+unfolding passed_with
 returns c = rw (c.before.put.ensures, c.before.before.before.before.pass-ports.ensures, c.before.before.before.before.before.before.passed-group.ensures) refl
 
 pub pass-with-spec : {M : Type 1} → statement M

@@ -1,5 +1,5 @@
 use mathlib.Core.Path.{refl}
-use Rattle.phases.specs.Passing.{passedGroup}
+use Rattle.phases.specs.Passing.{passed_group}
 use native.Mathlib.Omega.{arith}
 use Rattle.phases.proofs.passing.passed_group.Statement.{statement}
 use Rattle.phases.proofs.passing.passed_group.Tie as tie
@@ -17,7 +17,7 @@ group-to-requires : tie.Need-group-to-requires
 group-to-requires c κs = omega arith
 
 returns : tie.Need-returns
-unfolding passedGroup
+unfolding passed_group
 returns c = rw (c.group-to.ensures, c.before.moved.ensures, c.before.before.epoch-frames.ensures, c.before.before.before.next-epoch.ensures) refl
 
 pub passed-group-spec : {M : Type 1} → statement M

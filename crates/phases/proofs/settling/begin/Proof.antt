@@ -1,6 +1,6 @@
 -- `begin` meets its contract: ports cleared as at a beginning, and the group with the epoch after the foremost tag as its oldest. The calls follow the definition.
 use mathlib.Core.Path.{refl}
-use Rattle.phases.specs.Settling.{begunOf}
+use Rattle.phases.specs.Settling.{begun_of}
 use native.Mathlib.Omega.{arith}
 use Rattle.phases.proofs.settling.begin.Statement.{statement}
 use Rattle.phases.proofs.settling.begin.Tie as tie
@@ -27,7 +27,7 @@ same_length : tie.Need-same-length
 same_length c = omega arith
 
 returns : tie.Need-returns
-unfolding begunOf
+unfolding begun_of
 returns c =
     let at-clear-ports = c.before.before.before.before in
     let at-group-to = at-clear-ports.before.before in

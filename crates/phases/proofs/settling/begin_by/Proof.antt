@@ -1,6 +1,6 @@
 -- `begin_by` meets its contract: each exit is the definition at the tests that the code took.
 use mathlib.Core.Path.{refl}
-use Rattle.phases.specs.Settling.{beginBy}
+use Rattle.phases.specs.Settling.{begin_by}
 use native.Mathlib.Omega.{arith}
 use Rattle.phases.proofs.settling.begin_by.Statement.{statement}
 use Rattle.phases.proofs.settling.begin_by.Tie as tie
@@ -18,7 +18,7 @@ same_length : tie.Need-same-length
 same_length c = omega arith
 
 returns : tie.Need-returns
-unfolding beginBy
+unfolding begin_by
 returns c =
     let at-if2 = c.before.before.before in
     let at-is-begun-by = at-if2.before in
@@ -30,11 +30,11 @@ same-length-2 : tie.Need-same-length-2
 same-length-2 c = omega arith
 
 returns-2 : tie.Need-returns-2
-unfolding beginBy
+unfolding begin_by
 returns-2 c = rw (← c.before.before.before.before.is_set.ensures, c.before.before.before.if1.true, ← c.before.is-begun-by.ensures, c.if2.false) refl
 
 returns-3 : tie.Need-returns-3
-unfolding beginBy
+unfolding begin_by
 returns-3 c = rw (← c.before.is_set.ensures, c.if1.false) refl
 
 pub begin-by-spec : {M : Type 1} → statement M

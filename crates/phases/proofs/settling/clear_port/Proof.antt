@@ -1,5 +1,5 @@
 -- `clear_port` meets its contract: the port's step cleared, then its marks (`cleared-is`).
-use Rattle.phases.proofs.Cleared.{cleared-is}
+use Rattle.phases.proofs.Cleared.{cleared_is}
 use native.Mathlib.Omega.{arith}
 use Rattle.phases.proofs.settling.clear_port.Statement.{statement}
 use Rattle.phases.proofs.settling.clear_port.Tie as tie
@@ -28,7 +28,7 @@ returns c =
     let at-cleared-step = at-put.before.before in
     let at-in-step = at-cleared-step.before in
     let at-get = at-in-step.before in
-    cleared-is _ _ _ _ _ _ _ _ _ at-get.get.ensures at-in-step.in_step.ensures at-cleared-step.cleared-step.ensures at-put.put.ensures c.before.put-marks.ensures
+    cleared_is _ _ _ _ _ _ _ _ _ at-get.get.ensures at-in-step.in_step.ensures at-cleared-step.cleared-step.ensures at-put.put.ensures c.before.put-marks.ensures
 
 pub clear-port-spec : {M : Type 1} → statement M
 clear-port-spec =

@@ -4,19 +4,19 @@ use Prim.Native.Nat.{◌≤◌, ◌-◌}
 use mathlib.Core.Path.{◌≡◌, refl, ap, ◌∙◌}
 use native.Mathlib.Numerals.{add-one}
 use native.Mathlib.Omega.{arith}
-use Rattle.phases.specs.Settling.{clearedPorts}
-use Rattle.phases.specs.Laws.Lengths.{length-cleared}
+use Rattle.phases.specs.Settling.{cleared_ports}
+use Rattle.phases.specs.Laws.Lengths.{length_cleared}
 use Rattle.phases.proofs.settling.clear_ports.Statement.{statement}
 use Rattle.phases.proofs.settling.clear_ports.Tie as tie
 
 abbrev invariant-loop : tie.invariant-loop
-invariant-loop group beginning ports state₀ i₀ state i = (i ≤ ports) × (state ≡ clearedPorts group beginning i state₀)
+invariant-loop group beginning ports state₀ i₀ state i = (i ≤ ports) × (state ≡ cleared_ports group beginning i state₀)
 
 abbrev decreases-loop : tie.decreases-loop
 decreases-loop group beginning ports state₀ i₀ state i = ports - i
 
 loop-holds : tie.Need-loop-init invariant-loop decreases-loop
-unfolding clearedPorts
+unfolding cleared_ports
 loop-holds c = (omega arith, refl)
 
 clear-port-requires : tie.Need-clear-port-requires invariant-loop decreases-loop
@@ -29,11 +29,11 @@ loop-less : tie.Need-loop-smaller invariant-loop decreases-loop
 loop-less c = omega arith
 
 loop-again : tie.Need-loop-preserved invariant-loop decreases-loop
-unfolding clearedPorts
+unfolding cleared_ports
 loop-again c = (omega arith, rw (add-one, ← c.before.before.before.before.loop.invariant.1) c.before.clear-port.ensures)
 
 same_length : tie.Need-same-length invariant-loop decreases-loop
-same_length c = ap length c.before.loop.invariant.1 ∙ length-cleared _ _ _ _
+same_length c = ap length c.before.loop.invariant.1 ∙ length_cleared _ _ _ _
 
 returns : tie.Need-returns invariant-loop decreases-loop
 returns c = let e : c.before.loop.i ≡ c.before.before.args.ports = omega arith in rw e at c.before.loop.invariant.1

@@ -1,6 +1,6 @@
 -- `stop` meets its contract: ports cleared, and the group stopped. The calls follow the definition.
 use mathlib.Core.Path.{refl}
-use Rattle.phases.specs.Settling.{stoppedOf}
+use Rattle.phases.specs.Settling.{stopped_of}
 use native.Mathlib.Omega.{arith}
 use Rattle.phases.proofs.settling.stop.Statement.{statement}
 use Rattle.phases.proofs.settling.stop.Tie as tie
@@ -18,7 +18,7 @@ same_length : tie.Need-same-length
 same_length c = omega arith
 
 returns : tie.Need-returns
-unfolding stoppedOf
+unfolding stopped_of
 returns c =
     let at-clear-ports = c.before.before.before.before in
     let at-group-to = at-clear-ports.before.before in

@@ -3,19 +3,19 @@ use mathlib.Core.Bool.{Bool, true, false, cond, ◌||◌}
 use Prim.Native.Nat.{ℕ}
 use lib.Dec.{eqb}
 use native.Mathlib.Omega.{arith}
-use Rattle.packet.specs.Kinds.{fixedKind, vc12Kind}
-use Rattle.packet.specs.Laws.Clock.{by_kind, h4-numbers}
-use Rattle.packet.specs.Laws.Known.{known-else, vc12-known}
-use Rattle.phases.specs.Sizes.{sized, sizedAs}
+use Rattle.packet.specs.Kinds.{fixed_kind, vc12_kind}
+use Rattle.packet.specs.Laws.Clock.{by_kind, h4_numbers}
+use Rattle.packet.specs.Laws.Known.{known_else, vc12_known}
+use Rattle.phases.specs.Sizes.{sized, sized_as}
 use Rattle.phases.proofs.sizes.is_sized.Statement.{statement}
 use Rattle.phases.proofs.sizes.is_sized.Tie as tie
 
 -- H4's numbers are those of every known kind but VC-12
-sized-by : (kind count P W : ℕ) → cond (sizedAs (eqb kind 0 || eqb kind fixedKind) 0 count P W) true (sizedAs (eqb kind vc12Kind) vc12Kind count P W) ≡ sized kind count P W
+sized-by : (kind count P W : ℕ) → cond (sized_as (eqb kind 0 || eqb kind fixed_kind) 0 count P W) true (sized_as (eqb kind vc12_kind) vc12_kind count P W) ≡ sized kind count P W
 unfolding sized
 sized-by kind count P W =
-    by_kind (λ k. cond (sizedAs (eqb k 0 || eqb k fixedKind) 0 count P W) true (sizedAs (eqb k vc12Kind) vc12Kind count P W) ≡ sized k count P W) (rw vc12-known refl)
-    (λ k h4. let same = h4-numbers k h4 in rw (h4, known-else k h4, same.0, same.1) (kept (sizedAs (eqb k 0 || eqb k fixedKind) 0 count P W))) kind
+    by_kind (λ k. cond (sized_as (eqb k 0 || eqb k fixed_kind) 0 count P W) true (sized_as (eqb k vc12_kind) vc12_kind count P W) ≡ sized k count P W) (rw vc12_known refl)
+    (λ k h4. let same = h4_numbers k h4 in rw (h4, known_else k h4, same.0, same.1) (kept (sized_as (eqb k 0 || eqb k fixed_kind) 0 count P W))) kind
   where
     kept : (b : Bool) → cond b true false ≡ b
     kept true = refl

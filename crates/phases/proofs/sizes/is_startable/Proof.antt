@@ -1,6 +1,6 @@
 use mathlib.Core.Path.{refl}
 use borrow.Author.Rules.{rules}
-use Rattle.phases.specs.Sizes.{startSized}
+use Rattle.phases.specs.Sizes.{start_sized}
 use Rattle.phases.proofs.sizes.is_startable.Statement.{statement}
 use Rattle.phases.proofs.sizes.is_startable.Tie as tie
 
@@ -11,7 +11,7 @@ is-payload-requires : tie.Need-is-payload-requires
 is-payload-requires c κs = search rules
 
 returns : tie.Need-returns
-unfolding startSized
+unfolding start_sized
 returns c = rw (c.before.is-sized.ensures, c.is-payload.ensures) refl
 
 pub is-startable-spec : {M : Type 1} → statement M

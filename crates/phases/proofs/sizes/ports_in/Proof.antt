@@ -1,5 +1,5 @@
 use mathlib.Core.Path.{refl}
-use Rattle.phases.specs.Sizes.{portsIn}
+use Rattle.phases.specs.Sizes.{ports_in}
 use native.Mathlib.Omega.{arith}
 use Rattle.phases.proofs.sizes.ports_in.Statement.{statement}
 use Rattle.phases.proofs.sizes.ports_in.Tie as tie
@@ -17,11 +17,11 @@ is-sized-requires : tie.Need-is-sized-requires
 is-sized-requires c κs = omega arith
 
 returns : tie.Need-returns
-unfolding portsIn
+unfolding ports_in
 returns c = rw (← c.before.is-sized.ensures, c.if1.true) refl
 
 returns-2 : tie.Need-returns-2
-unfolding portsIn
+unfolding ports_in
 returns-2 c = rw (← c.before.is-sized.ensures, c.if1.false) refl
 
 pub ports-in-spec : {M : Type 1} → statement M

@@ -3,7 +3,7 @@ use native.Mathlib.Nat.{mul-le-mul}
 use native.Mathlib.Omega.{arith}
 use Prim.Native.Nat.{◌≤◌, ◌+◌}
 use mathlib.Core.Path.{refl}
-use Rattle.phases.specs.Sizes.{storeFor}
+use Rattle.phases.specs.Sizes.{store_for}
 use Rattle.phases.proofs.sizes.store_for.Statement.{statement}
 use Rattle.phases.proofs.sizes.store_for.Tie as tie
 
@@ -32,7 +32,7 @@ mul-result-2 c =
     omega (arith, mul-le-mul (mul-le-mul hp hw) hq)
 
 returns : tie.Need-returns
-unfolding storeFor
+unfolding store_for
 returns c = refl
 
 pub store-for-spec : {M : Type 1} → statement M

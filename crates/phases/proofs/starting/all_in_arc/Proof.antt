@@ -4,15 +4,15 @@ use mathlib.Core.Path.{◌≡◌, refl, sym, ap, ◌∙◌}
 use mathlib.Core.Bool.{Bool, true, false}
 use native.Mathlib.Omega.{arith}
 use borrow.Author.Tests.{not-true, not-false}
-use Rattle.ground.specs.Counting.Laws.Tests.{every-fails, every-on}
+use Rattle.ground.specs.Counting.Laws.Tests.{every_fails, every_on}
 use Rattle.ground.specs.Counting.Words.{every}
-use Rattle.rows.specs.Step.{stepAt}
-use Rattle.phases.specs.Beginning.{inArc}
+use Rattle.rows.specs.Step.{step_at}
+use Rattle.phases.specs.Beginning.{in_arc}
 use Rattle.phases.proofs.starting.all_in_arc.Statement.{statement}
 use Rattle.phases.proofs.starting.all_in_arc.Tie as tie
 
 abbrev invariant-loop : tie.invariant-loop
-invariant-loop group fore state ports i₀ i = (i ≤ ports) × (every i (λ k. inArc group fore (stepAt state k)) ≡ true)
+invariant-loop group fore state ports i₀ i = (i ≤ ports) × (every i (λ k. in_arc group fore (step_at state k)) ≡ true)
 
 abbrev decreases-loop : tie.decreases-loop
 decreases-loop group fore state ports i₀ i = ports - i
@@ -29,9 +29,9 @@ is-in-arc-requires c κs = omega arith
 returns : tie.Need-returns invariant-loop decreases-loop
 returns c =
     let a = c.before.before.before.before.before.args in
-    let f : ℕ → Bool = λ k. inArc a.group a.fore (stepAt a.state.now k) in
-    let e : f c.before.before.before.before.loop.i ≡ false = ap (inArc a.group a.fore) (sym c.before.before.get.ensures) ∙ sym c.before.is-in-arc.ensures ∙ not-true _ c.if1.true in
-    sym (every-fails a.ports f c.before.before.before.before.loop.i c.before.before.before.loop-test.true e)
+    let f : ℕ → Bool = λ k. in_arc a.group a.fore (step_at a.state.now k) in
+    let e : f c.before.before.before.before.loop.i ≡ false = ap (in_arc a.group a.fore) (sym c.before.before.get.ensures) ∙ sym c.before.is-in-arc.ensures ∙ not-true _ c.if1.true in
+    sym (every_fails a.ports f c.before.before.before.before.loop.i c.before.before.before.loop-test.true e)
 
 add-i : tie.Need-overflow-add-i invariant-loop decreases-loop
 add-i c = omega arith
@@ -42,9 +42,9 @@ loop-less c = omega arith
 loop-again : tie.Need-loop-preserved invariant-loop decreases-loop
 loop-again c =
     let a = c.before.before.before.before.before.args in
-    let f : ℕ → Bool = λ k. inArc a.group a.fore (stepAt a.state.now k) in
-    let e : f c.before.before.before.before.loop.i ≡ true = ap (inArc a.group a.fore) (sym c.before.before.get.ensures) ∙ sym c.before.is-in-arc.ensures ∙ not-false _ c.if1.false in
-    (omega arith, every-on f _ c.before.before.before.before.loop.invariant.1 e)
+    let f : ℕ → Bool = λ k. in_arc a.group a.fore (step_at a.state.now k) in
+    let e : f c.before.before.before.before.loop.i ≡ true = ap (in_arc a.group a.fore) (sym c.before.before.get.ensures) ∙ sym c.before.is-in-arc.ensures ∙ not-false _ c.if1.false in
+    (omega arith, every_on f _ c.before.before.before.before.loop.invariant.1 e)
 
 returns-2 : tie.Need-returns-2 invariant-loop decreases-loop
 returns-2 c = let e : c.before.loop.i ≡ c.before.before.args.ports = omega arith in sym (rw e at c.before.loop.invariant.1)

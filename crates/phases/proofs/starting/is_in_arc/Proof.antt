@@ -1,6 +1,6 @@
 -- `is_in_arc` meets its contract: the tests and the sum of the definition, which fit their types.
 use mathlib.Core.Path.{refl}
-use Rattle.phases.specs.Beginning.{inArc}
+use Rattle.phases.specs.Beginning.{in_arc}
 use native.Mathlib.Omega.{arith}
 use Rattle.phases.proofs.starting.is_in_arc.Statement.{statement}
 use Rattle.phases.proofs.starting.is_in_arc.Tie as tie
@@ -30,7 +30,7 @@ cast-result-3 : tie.Need-overflow-cast-result-3
 cast-result-3 c = omega arith
 
 returns : tie.Need-returns
-unfolding inArc
+unfolding in_arc
 returns c = rw (c.before.epoch-frames.ensures, c.before.before.distance.ensures, c.before.before.before.latest.ensures, c.before.before.before.before.in_step.ensures) refl
 
 pub is-in-arc-spec : {M : Type 1} → statement M

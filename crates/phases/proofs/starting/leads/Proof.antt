@@ -1,4 +1,4 @@
-use Rattle.phases.specs.Beginning.{noTag}
+use Rattle.phases.specs.Beginning.{no_tag}
 use mathlib.Core.Path.{refl}
 use native.Mathlib.Omega.{arith}
 use Rattle.phases.proofs.starting.leads.Statement.{statement}
@@ -17,7 +17,7 @@ distance-requires : tie.Need-distance-requires
 distance-requires c κs = omega arith
 
 returns : tie.Need-returns
-unfolding noTag
+unfolding no_tag
 returns c = rw (c.distance.ensures, c.before.no-tag.ensures, c.before.before.latest.ensures, c.before.before.before.in_step.ensures) refl
 
 pub leads-spec : {M : Type 1} → statement M

@@ -1,4 +1,4 @@
-use Rattle.phases.specs.Beginning.{noTag}
+use Rattle.phases.specs.Beginning.{no_tag}
 use native.Mathlib.Omega.{arith}
 use Rattle.phases.proofs.starting.no_tag.Statement.{statement}
 use Rattle.phases.proofs.starting.no_tag.Tie as tie
@@ -7,7 +7,7 @@ tag-count-requires : tie.Need-tag-count-requires
 tag-count-requires c κs = omega arith
 
 returns : tie.Need-returns
-unfolding noTag
+unfolding no_tag
 returns c = c.tag-count.ensures
 
 pub no-tag-spec : {M : Type 1} → statement M

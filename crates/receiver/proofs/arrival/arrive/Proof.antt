@@ -3,7 +3,7 @@
 use mathlib.Core.Path.{sym, ◌∙◌}
 use borrow.Author.Rules.{rules}
 use borrow.Author.Tests.{ne_eqb}
-use Rattle.receiver.proofs.Arriving.{arrive-steady}
+use Rattle.receiver.proofs.Arriving.{arrive_steady}
 use Rattle.receiver.proofs.arrival.arrive.Statement.{statement}
 use Rattle.receiver.proofs.arrival.arrive.Tie as tie
 
@@ -50,11 +50,11 @@ returns-2 c =
     let get = c.before.before.before.before.before.before.before.before.before.before.before.before.get in
     let is-steady = c.before.before.before.before.before.before.before.before.before.before.before.is-steady in
     let test1 = c.before.before.before.before.before.before.before.before.before.before.if2 in
-    let distance-in = c.before.before.before.before.before.before.before.before.before.distance-in in
+    let distance_in_lem = c.before.before.before.before.before.before.before.before.before.distance-in in
     let is-mid-epoch = c.before.before.before.before.before.before.before.before.is-mid-epoch in
     let test2 = c.before.before.before.before.before.before.before.if3 in
     let go_on = c.before.before.before.before.before.go_on in
-    arrive-steady _ _ _ _ _ _ _ start.requires _ _ _ _ (ne_eqb _ 1 test.false) get.ensures (sym is-steady.ensures ∙ test1.true) distance-in.ensures (sym is-mid-epoch.ensures ∙ test2.true) go_on.ensures c.before.before.keep.ensures
+    arrive_steady _ _ _ _ _ _ _ start.requires _ _ _ _ (ne_eqb _ 1 test.false) get.ensures (sym is-steady.ensures ∙ test1.true) distance_in_lem.ensures (sym is-mid-epoch.ensures ∙ test2.true) go_on.ensures c.before.before.keep.ensures
 
 decided-requires-2 : tie.Need-decided-requires-2
 decided-requires-2 c κs = search rules

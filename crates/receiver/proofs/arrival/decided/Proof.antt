@@ -1,7 +1,7 @@
 -- The answer, the rows and the store are those of the decision made on what stands in the rows.
 -- Each value read is the definition's, so that the decision is the definition's too, and `take` does what it says (`decided-by`).
 use mathlib.Core.Path.{refl}
-use Rattle.receiver.proofs.Arriving.{decided-by}
+use Rattle.receiver.proofs.Arriving.{decided_by}
 use borrow.Author.Rules.{rules}
 use Rattle.receiver.proofs.arrival.decided.Statement.{statement}
 use Rattle.receiver.proofs.arrival.decided.Tie as tie
@@ -41,7 +41,7 @@ returns c =
     let is_odd = c.before.before.before.before.before.before.before.is_odd in
     let decide = c.before.before.before.before.before.before.decide in
     let take = c.before.before.before.take in
-    decided-by _ _ _ _ _ _ _ _ get.ensures get2.ensures _ _ _ _ _ _ refl get3.ensures is_odd.ensures decide.ensures take.ensures.0 take.ensures.1
+    decided_by _ _ _ _ _ _ _ _ get.ensures get2.ensures _ _ _ _ _ _ refl get3.ensures is_odd.ensures decide.ensures take.ensures.0 take.ensures.1
 
 pub decided-spec : {M : Type 1} → statement M
 decided-spec =

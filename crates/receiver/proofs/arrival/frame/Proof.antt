@@ -2,7 +2,7 @@
 -- Only behind the refusal is the port below the group's count, and so a byte (`refused-below`).
 use mathlib.Core.Path.{sym, ◌∙◌}
 use native.Mathlib.Omega.{arith}
-use Rattle.receiver.proofs.Arriving.{refused-below, frame_refused, frame-decided}
+use Rattle.receiver.proofs.Arriving.{refused_below, frame_refused, frame_decided}
 use borrow.Author.Rules.{rules}
 use Rattle.receiver.proofs.arrival.frame.Statement.{statement}
 use Rattle.receiver.proofs.arrival.frame.Tie as tie
@@ -23,7 +23,7 @@ returns : tie.Need-returns
 returns c = frame_refused _ _ _ _ _ _ _ _ _ c.before.before.before.get.ensures c.before.before.ports-in.ensures c.before.refusal.ensures c.if1.true
 
 cast-at : tie.Need-overflow-cast-at
-cast-at c = let w = refused-below _ _ _ _ _ _ (sym c.before.refusal.ensures ∙ c.if1.false) in omega arith
+cast-at c = let w = refused_below _ _ _ _ _ _ (sym c.before.refusal.ensures ∙ c.if1.false) in omega arith
 
 arrive-requires : tie.Need-arrive-requires
 arrive-requires c κs = search rules
@@ -41,7 +41,7 @@ returns-2 c =
     let refusal = c.before.before.before.before.before.before.before.refusal in
     let test1 = c.before.before.before.before.before.before.if1 in
     let arrive = c.before.before.before.arrive in
-    frame-decided _ _ _ _ _ _ _ _ _ _ _ _ get.ensures ports-in.ensures refusal.ensures test1.false arrive.ensures.0 arrive.ensures.1 arrive.ensures.2
+    frame_decided _ _ _ _ _ _ _ _ _ _ _ _ get.ensures ports-in.ensures refusal.ensures test1.false arrive.ensures.0 arrive.ensures.1 arrive.ensures.2
 
 pub frame-spec : {M : Type 1} → statement M
 frame-spec =

@@ -1,4 +1,4 @@
-use Rattle.receiver.proofs.Arriving.{gather-counted, gather_none}
+use Rattle.receiver.proofs.Arriving.{gather_counted, gather_none}
 use borrow.Author.Rules.{rules}
 use Rattle.receiver.proofs.arrival.gather.Statement.{statement}
 use Rattle.receiver.proofs.arrival.gather.Tie as tie
@@ -10,7 +10,7 @@ same_length : tie.Need-same-length
 same_length c = search rules
 
 returns : tie.Need-returns
-returns c = gather-counted _ _ _ _ _ _ _ c.before.before.before.if1.true c.before.put-symbol.ensures
+returns c = gather_counted _ _ _ _ _ _ _ c.before.before.before.if1.true c.before.put-symbol.ensures
 
 returns-2 : tie.Need-returns-2
 returns-2 c = gather_none _ _ _ _ _ _ c.if1.false

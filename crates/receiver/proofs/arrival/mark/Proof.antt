@@ -1,7 +1,7 @@
 -- A port's marks after a frame are the definition's, though they are written only where they change.
 -- Where nothing is written, the definition leaves the marks as they are (`mark-none`).
 use mathlib.Core.Path.{refl, ◌∙◌}
-use Rattle.receiver.proofs.Arriving.{mark-none}
+use Rattle.receiver.proofs.Arriving.{mark_none}
 use borrow.Author.Rules.{rules}
 use Rattle.receiver.proofs.arrival.mark.Statement.{statement}
 use Rattle.receiver.proofs.arrival.mark.Tie as tie
@@ -25,7 +25,7 @@ returns : tie.Need-returns
 returns c = c.before.put-marks.ensures ∙ rw (c.before.before.before.marks-by.ensures, c.before.before.before.before.marks.ensures) refl
 
 returns-2 : tie.Need-returns-2
-returns-2 c = mark-none _ _ _ _ _ c.before.before.before.ends-epoch.ensures c.if1.false
+returns-2 c = mark_none _ _ _ _ _ c.before.before.before.ends-epoch.ensures c.if1.false
 
 pub mark_spec : {M : Type 1} → statement M
 mark_spec =

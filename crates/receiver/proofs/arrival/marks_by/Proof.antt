@@ -1,6 +1,6 @@
 -- The four ways through the tests are the cases of the definition: cut on joining, marked at an epoch's last frame, else as they were.
 use mathlib.Core.Path.{refl}
-use Rattle.receiver.specs.Frame.{marksBy}
+use Rattle.receiver.specs.Frame.{marks_by}
 use borrow.Author.Rules.{rules}
 use Rattle.receiver.proofs.arrival.marks_by.Statement.{statement}
 use Rattle.receiver.proofs.arrival.marks_by.Tie as tie
@@ -9,7 +9,7 @@ cut-requires : tie.Need-cut-requires
 cut-requires c κs = search rules
 
 returns : tie.Need-returns
-unfolding marksBy
+unfolding marks_by
 returns c = rw c.before.before.if1.true c.cut.ensures
 
 ends-epoch-requires : tie.Need-ends-epoch-requires
@@ -22,15 +22,15 @@ mark-requires : tie.Need-mark-requires
 mark-requires c κs = search rules
 
 returns-2 : tie.Need-returns-2
-unfolding marksBy
+unfolding marks_by
 returns-2 c = rw (c.before.before.before.before.before.if1.false, c.before.before.before.before.if2.true, ← c.before.before.before.ends-epoch.ensures, c.before.before.if3.true, ← c.before.epochs-in.ensures) c.mark.ensures
 
 returns-3 : tie.Need-returns-3
-unfolding marksBy
+unfolding marks_by
 returns-3 c = rw (c.before.before.before.if1.false, c.before.before.if2.true, ← c.before.ends-epoch.ensures, c.if3.false) refl
 
 returns-4 : tie.Need-returns-4
-unfolding marksBy
+unfolding marks_by
 returns-4 c = rw (c.before.if1.false, c.if2.false) refl
 
 pub marks-by-spec : {M : Type 1} → statement M

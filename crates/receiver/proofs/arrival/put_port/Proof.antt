@@ -1,4 +1,4 @@
-use Rattle.receiver.proofs.Arriving.{port-rows}
+use Rattle.receiver.proofs.Arriving.{port_rows_lem}
 use borrow.Author.Rules.{rules}
 use Rattle.receiver.proofs.arrival.put_port.Statement.{statement}
 use Rattle.receiver.proofs.arrival.put_port.Tie as tie
@@ -23,7 +23,7 @@ returns c =
     let previous-tag = c.before.before.before.before.before.before.before.before.before.previous-tag in
     let put = c.before.before.before.before.before.before.before.put in
     let gather = c.before.before.before.before.gather in
-    port-rows _ _ _ _ _ _ _ _ _ previous-tag.ensures put.ensures gather.ensures c.before.mark.ensures
+    port_rows_lem _ _ _ _ _ _ _ _ _ previous-tag.ensures put.ensures gather.ensures c.before.mark.ensures
 
 pub put-port-spec : {M : Type 1} → statement M
 put-port-spec = tie.close (tie.spec previous-tag-requires put-requires gather-requires mark-requires same_length returns)

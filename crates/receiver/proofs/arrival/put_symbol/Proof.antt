@@ -1,5 +1,5 @@
 -- The definition's packet with the frame's symbol differs from the old one in one entry alone, and that is the one written (`symbol-put`).
-use Rattle.receiver.proofs.Arriving.{symbol-put}
+use Rattle.receiver.proofs.Arriving.{symbol_put}
 use borrow.Author.Rules.{rules}
 use Rattle.receiver.proofs.arrival.put_symbol.Statement.{statement}
 use Rattle.receiver.proofs.arrival.put_symbol.Tie as tie
@@ -24,7 +24,7 @@ same_length c = search rules
 
 returns : tie.Need-returns
 returns c =
-    symbol-put _ _ _ _ _ _ _ _ _ _ c.before.before.before.before.before.before.before.place-of.ensures c.before.before.before.before.before.before.entry_at.ensures
+    symbol_put _ _ _ _ _ _ _ _ _ _ c.before.before.before.before.before.before.before.place-of.ensures c.before.before.before.before.before.before.entry_at.ensures
     c.before.before.before.before.entry.ensures c.before.before.before.entry-with.ensures c.before.put-entry.ensures
 
 pub put-symbol-spec : {M : Type 1} → statement M

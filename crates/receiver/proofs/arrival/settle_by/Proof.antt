@@ -1,5 +1,5 @@
 use mathlib.Core.Path.{refl}
-use Rattle.receiver.specs.Frame.{settledBy}
+use Rattle.receiver.specs.Frame.{settled_by}
 use borrow.Author.Rules.{rules}
 use Rattle.receiver.proofs.arrival.settle_by.Statement.{statement}
 use Rattle.receiver.proofs.arrival.settle_by.Tie as tie
@@ -14,11 +14,11 @@ same_length : tie.Need-same-length
 same_length c = search rules
 
 returns : tie.Need-returns
-unfolding settledBy
+unfolding settled_by
 returns c = rw (c.before.before.before.before.if1.true, ← c.before.before.before.ports-in.ensures) c.before.settle.ensures
 
 returns-2 : tie.Need-returns-2
-unfolding settledBy
+unfolding settled_by
 returns-2 c = rw c.if1.false refl
 
 pub settle-by-spec : {M : Type 1} → statement M

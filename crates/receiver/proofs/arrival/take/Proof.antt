@@ -2,8 +2,8 @@
 -- Under 11 both stay as given.
 use mathlib.Core.Path.{refl}
 use borrow.Author.Tests.{eq-eqb}
-use Rattle.receiver.specs.Frame.{takenFrame}
-use Rattle.receiver.proofs.Arriving.{taken-frame}
+use Rattle.receiver.specs.Frame.{taken_frame}
+use Rattle.receiver.proofs.Arriving.{taken_frame_lem}
 use borrow.Author.Rules.{rules}
 use Rattle.receiver.proofs.arrival.take.Statement.{statement}
 use Rattle.receiver.proofs.arrival.take.Tie as tie
@@ -27,11 +27,11 @@ returns : tie.Need-returns
 returns c =
     let test1 = c.before.before.before.before.before.before.before.before.before.before.before.if1 in
     let put-port = c.before.before.before.before.before.before.before.before.before.put-port in
-    let put-frame = c.before.before.before.before.before.before.put-frame in
-    taken-frame _ _ _ _ _ _ _ _ _ _ _ test1.true put-port.ensures put-frame.ensures c.before.settle-by.ensures
+    let put_frame = c.before.before.before.before.before.before.put-frame in
+    taken_frame_lem _ _ _ _ _ _ _ _ _ _ _ test1.true put-port.ensures put_frame.ensures c.before.settle-by.ensures
 
 returns-2 : tie.Need-returns-2
-unfolding takenFrame
+unfolding taken_frame
 returns-2 c = rw (eq-eqb _ 11 c.if1.false) (refl, refl)
 
 pub take_spec : {M : Type 1} → statement M

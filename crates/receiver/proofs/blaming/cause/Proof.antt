@@ -1,6 +1,6 @@
 use mathlib.Core.Path.{sym, ◌∙◌}
 use borrow.Author.Tests.{not-true, not-false}
-use Rattle.receiver.proofs.Reading.{cause-length, cause-put, cause-unfit}
+use Rattle.receiver.proofs.Reading.{cause_length, cause_put, cause_unfit}
 use borrow.Author.Rules.{rules}
 use Rattle.receiver.proofs.blaming.cause.Statement.{statement}
 use Rattle.receiver.proofs.blaming.cause.Tie as tie
@@ -15,16 +15,16 @@ is-fit-requires : tie.Need-is-fit-requires
 is-fit-requires c κs = search rules
 
 returns : tie.Need-returns
-returns c = cause-unfit _ _ _ _ c.before.before.before.get.ensures c.before.before.ports-in.ensures _ c.before.is-fit.ensures (not-true _ c.if1.true)
+returns c = cause_unfit _ _ _ _ c.before.before.before.get.ensures c.before.before.ports-in.ensures _ c.before.is-fit.ensures (not-true _ c.if1.true)
 
 put-cause-requires : tie.Need-put-cause-requires
-put-cause-requires c κs = cause-length _ _ _ (sym c.before.before.is-fit.ensures ∙ not-false _ c.before.if1.false)
+put-cause-requires c κs = cause_length _ _ _ (sym c.before.before.is-fit.ensures ∙ not-false _ c.before.if1.false)
 
 same_length : tie.Need-same-length
 same_length c = search rules
 
 returns-2 : tie.Need-returns-2
-returns-2 c = cause-put _ _ _ _ c.before.before.before.before.before.before.before.get.ensures c.before.before.before.before.before.before.ports-in.ensures _ c.before.before.before.before.before.is-fit.ensures _ (not-false _ c.before.before.before.before.if1.false) c.before.before.put-cause.ensures
+returns-2 c = cause_put _ _ _ _ c.before.before.before.before.before.before.before.get.ensures c.before.before.before.before.before.before.ports-in.ensures _ c.before.before.before.before.before.is-fit.ensures _ (not-false _ c.before.before.before.before.if1.false) c.before.before.put-cause.ensures
 
 pub cause-spec : {M : Type 1} → statement M
 cause-spec = tie.close (tie.spec get-requires ports-in-requires is-fit-requires returns put-cause-requires same_length returns-2)

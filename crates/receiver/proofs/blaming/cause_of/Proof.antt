@@ -1,6 +1,6 @@
 use mathlib.Core.Path.{refl}
-use Rattle.judge.specs.Cause.{blamedOf}
-use Rattle.receiver.specs.Cause.{causeIn}
+use Rattle.judge.specs.Cause.{blamed_of}
+use Rattle.receiver.specs.Cause.{cause_in}
 use borrow.Author.Rules.{rules}
 use Rattle.receiver.proofs.blaming.cause_of.Statement.{statement}
 use Rattle.receiver.proofs.blaming.cause_of.Tie as tie
@@ -18,7 +18,7 @@ blamed-requires : tie.Need-blamed-requires
 blamed-requires c κs = search rules
 
 returns : tie.Need-returns
-unfolding causeIn blamedOf
+unfolding cause_in blamed_of
 returns c = rw (c.blamed.ensures, c.before.cause.ensures, c.before.before.seen_all.ensures) refl
 
 pub cause-of-spec : {M : Type 1} → statement M

@@ -1,6 +1,6 @@
 use mathlib.Core.Path.{sym, ap, ◌∙◌}
 use lib.ListN.{length}
-use Rattle.receiver.specs.Cause.{causeIn}
+use Rattle.receiver.specs.Cause.{cause_in}
 use Rattle.receiver.proofs.Lists.{copied}
 use borrow.Author.Rules.{rules}
 use Rattle.receiver.proofs.blaming.put_cause.Statement.{statement}
@@ -19,7 +19,7 @@ same_length : tie.Need-same-length
 same_length c = search rules
 
 returns : tie.Need-returns
-unfolding causeIn
+unfolding cause_in
 returns c =
     let of = c.before.before.before.before.before.cause-of in
     let start = c.before.before.before.before.before.before.before in

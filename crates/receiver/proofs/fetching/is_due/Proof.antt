@@ -1,5 +1,5 @@
 use mathlib.Core.Path.{refl}
-use Rattle.receiver.specs.Fetch.{dueIn}
+use Rattle.receiver.specs.Fetch.{due_in}
 use borrow.Author.Rules.{rules}
 use Rattle.receiver.proofs.fetching.is_due.Statement.{statement}
 use Rattle.receiver.proofs.fetching.is_due.Tie as tie
@@ -14,11 +14,11 @@ is-complete-requires : tie.Need-is-complete-requires
 is-complete-requires c κs = search rules
 
 returns : tie.Need-returns
-unfolding dueIn
+unfolding due_in
 returns c = rw (← c.before.before.before.is_set.ensures, ← c.before.before.is-set2.ensures, c.before.if1.true) c.is-complete.ensures
 
 returns-2 : tie.Need-returns-2
-unfolding dueIn
+unfolding due_in
 returns-2 c = rw (← c.before.before.is_set.ensures, ← c.before.is-set2.ensures, c.if1.false) refl
 
 pub is-due-spec : {M : Type 1} → statement M

@@ -1,5 +1,5 @@
 use mathlib.Core.Path.{refl}
-use Rattle.receiver.specs.Fetch.{recordOf}
+use Rattle.receiver.specs.Fetch.{record_of}
 use borrow.Author.Rules.{rules}
 use Rattle.receiver.proofs.fetching.record_of.Statement.{statement}
 use Rattle.receiver.proofs.fetching.record_of.Tie as tie
@@ -17,7 +17,7 @@ cast-t12 : tie.Need-overflow-cast-t12
 cast-t12 c = search rules
 
 returns : tie.Need-returns
-unfolding recordOf
+unfolding record_of
 returns c = refl
 
 pub record-of-spec : {M : Type 1} → statement M

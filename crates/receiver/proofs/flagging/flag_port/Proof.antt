@@ -1,5 +1,5 @@
 -- `flag_port` meets its contract: the step is put, and what follows for all ports where something does (`flagged-by`).
-use Rattle.receiver.proofs.Reading.{flagged-by, settled-none, settled-some}
+use Rattle.receiver.proofs.Reading.{flagged_by, settled_none, settled_some}
 use borrow.Author.Rules.{rules}
 use Rattle.receiver.proofs.flagging.flag_port.Statement.{statement}
 use Rattle.receiver.proofs.flagging.flag_port.Tie as tie
@@ -32,8 +32,8 @@ returns c =
     let at-decide = at-put.before.before.before in
     let get2 = at-decide.before.get2 in
     let get = at-decide.before.before.before.get in
-    flagged-by _ _ _ _ _ _ _ _ get.ensures get2.ensures at-decide.decide.ensures at-put.put.ensures
-    (settled-some _ _ _ _ _ _ at-if.if1.true c.before.before.before.ports-in.ensures c.before.settle.ensures)
+    flagged_by _ _ _ _ _ _ _ _ get.ensures get2.ensures at-decide.decide.ensures at-put.put.ensures
+    (settled_some _ _ _ _ _ _ at-if.if1.true c.before.before.before.ports-in.ensures c.before.settle.ensures)
 
 same-length-2 : tie.Need-same-length-2
 same-length-2 c = search rules
@@ -44,7 +44,7 @@ returns-2 c =
     let at-decide = at-put.before.before.before in
     let get2 = at-decide.before.get2 in
     let get = at-decide.before.before.before.get in
-    flagged-by _ _ _ _ _ _ _ _ get.ensures get2.ensures at-decide.decide.ensures at-put.put.ensures (settled-none _ _ _ _ c.if1.false)
+    flagged_by _ _ _ _ _ _ _ _ get.ensures get2.ensures at-decide.decide.ensures at-put.put.ensures (settled_none _ _ _ _ c.if1.false)
 
 pub flag-port-spec : {M : Type 1} → statement M
 flag-port-spec =

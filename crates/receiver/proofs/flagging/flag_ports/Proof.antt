@@ -5,18 +5,18 @@ use native.Mathlib.Numerals.{add-one}
 use native.Mathlib.Omega.{arith}
 use lib.ListN.{length}
 use borrow.Author.Rules.{rules}
-use Rattle.receiver.specs.Laws.Anew.{flaggedPorts, length-flagged-ports}
+use Rattle.receiver.specs.Laws.Anew.{flagged_ports, length_flagged_ports}
 use Rattle.receiver.proofs.flagging.flag_ports.Statement.{statement}
 use Rattle.receiver.proofs.flagging.flag_ports.Tie as tie
 
 abbrev invariant-loop : tie.invariant-loop
-invariant-loop ports store state₀ i₀ state i = (i ≤ ports) × (state ≡ flaggedPorts store i state₀)
+invariant-loop ports store state₀ i₀ state i = (i ≤ ports) × (state ≡ flagged_ports store i state₀)
 
 abbrev decreases-loop : tie.decreases-loop
 decreases-loop ports store state₀ i₀ state i = ports - i
 
 loop-holds : tie.Need-loop-init invariant-loop decreases-loop
-unfolding flaggedPorts
+unfolding flagged_ports
 loop-holds c = (omega arith, refl)
 
 flag-port-requires : tie.Need-flag-port-requires invariant-loop decreases-loop
@@ -29,11 +29,11 @@ loop-less : tie.Need-loop-smaller invariant-loop decreases-loop
 loop-less c = search rules
 
 loop-again : tie.Need-loop-preserved invariant-loop decreases-loop
-unfolding flaggedPorts
+unfolding flagged_ports
 loop-again c = (omega arith, rw (add-one, ← c.before.before.before.before.loop.invariant.1) c.before.flag-port.ensures)
 
 same_length : tie.Need-same-length invariant-loop decreases-loop
-same_length c = ap length c.before.loop.invariant.1 ∙ length-flagged-ports _ _ _
+same_length c = ap length c.before.loop.invariant.1 ∙ length_flagged_ports _ _ _
 
 returns : tie.Need-returns invariant-loop decreases-loop
 returns c = let e : c.before.loop.i ≡ c.before.before.before.args.ports = omega arith in rw e at c.before.loop.invariant.1

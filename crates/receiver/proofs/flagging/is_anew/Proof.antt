@@ -1,5 +1,5 @@
 use mathlib.Core.Path.{refl}
-use Rattle.receiver.specs.Anew.{anewFits}
+use Rattle.receiver.specs.Anew.{anew_fits}
 use borrow.Author.Rules.{rules}
 use Rattle.receiver.proofs.flagging.is_anew.Statement.{statement}
 use Rattle.receiver.proofs.flagging.is_anew.Tie as tie
@@ -11,7 +11,7 @@ store-for-requires : tie.Need-store-for-requires
 store-for-requires c κs = search rules
 
 returns : tie.Need-returns
-unfolding anewFits
+unfolding anew_fits
 returns c = rw (c.store-for.ensures, c.before.is-rows.ensures) refl
 
 pub is-anew-spec : {M : Type 1} → statement M

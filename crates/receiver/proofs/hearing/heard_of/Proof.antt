@@ -5,15 +5,15 @@ use mathlib.Core.Path.{◌≡◌, refl, sym, ◌∙◌}
 use mathlib.Core.Bool.{true, false}
 use native.Mathlib.Omega.{arith}
 use Rattle.ground.specs.Counting.Words.{some}
-use Rattle.receiver.specs.Heard.{goodAt}
-use Rattle.receiver.specs.Laws.Heard.{heard-first, heard-none}
-use Rattle.receiver.proofs.Reading.{good-is, none_more}
+use Rattle.receiver.specs.Heard.{good_at}
+use Rattle.receiver.specs.Laws.Heard.{heard_first, heard_none}
+use Rattle.receiver.proofs.Reading.{good_is, none_more}
 use borrow.Author.Rules.{rules}
 use Rattle.receiver.proofs.hearing.heard_of.Statement.{statement}
 use Rattle.receiver.proofs.hearing.heard_of.Tie as tie
 
 abbrev invariant-loop : tie.invariant-loop
-invariant-loop table group state ports i₀ i = (i ≤ ports) × (some i (goodAt group state) ≡ false)
+invariant-loop table group state ports i₀ i = (i ≤ ports) × (some i (good_at group state) ≡ false)
 
 abbrev decreases-loop : tie.decreases-loop
 decreases-loop table group state ports i₀ i = ports - i
@@ -31,10 +31,10 @@ returns : tie.Need-returns invariant-loop decreases-loop
 returns c =
     let a = c.before.before.before.before.before.before.args in
     let i : ℕ = c.before.before.before.before.before.loop.i in
-    let good : goodAt a.group a.state.now c.before.before.before.before.before.loop.i ≡ true =
-    sym (good-is a.group a.state.now c.before.before.before.before.before.loop.i _ c.before.before.before.seen_of.ensures) ∙ c.before.if1.true in
+    let good : good_at a.group a.state.now c.before.before.before.before.before.loop.i ≡ true =
+    sym (good_is a.group a.state.now c.before.before.before.before.before.loop.i _ c.before.before.before.seen_of.ensures) ∙ c.before.if1.true in
     c.Said-at.ensures
-    ∙ sym (heard-first a.group a.state.now a.ports i c.before.before.before.before.loop-test.true c.before.before.before.before.before.loop.invariant.1 good)
+    ∙ sym (heard_first a.group a.state.now a.ports i c.before.before.before.before.loop-test.true c.before.before.before.before.before.loop.invariant.1 good)
 
 add-i : tie.Need-overflow-add-i invariant-loop decreases-loop
 add-i c = search rules
@@ -45,15 +45,15 @@ loop-less c = search rules
 loop-again : tie.Need-loop-preserved invariant-loop decreases-loop
 loop-again c =
     let a = c.before.before.before.before.before.args in
-    let e : goodAt a.group a.state.now c.before.before.before.before.loop.i ≡ false =
-    sym (good-is a.group a.state.now c.before.before.before.before.loop.i _ c.before.before.seen_of.ensures) ∙ c.if1.false in
-    (omega arith, none_more (goodAt a.group a.state.now) c.before.before.before.before.loop.i c.before.before.before.before.loop.invariant.1 e)
+    let e : good_at a.group a.state.now c.before.before.before.before.loop.i ≡ false =
+    sym (good_is a.group a.state.now c.before.before.before.before.loop.i _ c.before.before.seen_of.ensures) ∙ c.if1.false in
+    (omega arith, none_more (good_at a.group a.state.now) c.before.before.before.before.loop.i c.before.before.before.before.loop.invariant.1 e)
 
 returns-2 : tie.Need-returns-2 invariant-loop decreases-loop
 returns-2 c =
     let a = c.before.before.args in
     let e : c.before.loop.i ≡ a.ports = omega arith in
-    sym (heard-none a.group a.state.now a.ports (rw e at c.before.loop.invariant.1))
+    sym (heard_none a.group a.state.now a.ports (rw e at c.before.loop.invariant.1))
 
 pub heard-of-spec : {M : Type 1} → statement M
 heard-of-spec = tie.close (tie.spec invariant-loop decreases-loop loop-holds seen-of-requires said-at-requires returns add-i loop-less loop-again returns-2)

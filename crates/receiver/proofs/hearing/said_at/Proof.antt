@@ -1,5 +1,5 @@
 use mathlib.Core.Path.{refl}
-use Rattle.receiver.specs.Heard.{saidAt}
+use Rattle.receiver.specs.Heard.{said_at}
 use borrow.Author.Rules.{rules}
 use Rattle.receiver.proofs.hearing.said_at.Statement.{statement}
 use Rattle.receiver.proofs.hearing.said_at.Tie as tie
@@ -8,7 +8,7 @@ carried-at-requires : tie.Need-carried-at-requires
 carried-at-requires c κs = search rules
 
 returns : tie.Need-returns
-unfolding saidAt
+unfolding said_at
 returns c = rw c.carried-at.ensures refl
 
 pub said-at-spec : {M : Type 1} → statement M

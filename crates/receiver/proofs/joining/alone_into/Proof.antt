@@ -10,8 +10,8 @@ use borrow.Author.Tests.{leb-true}
 use Rattle.ground.specs.Truth.{and_right}
 use Rattle.payload.specs.Answers.{PAYLOAD-MOST}
 use Rattle.store.specs.Frames.{place_in}
-use Rattle.store.specs.Laws.Places.{place-fits}
-use Rattle.receiver.proofs.Alone.{alone-run, alone-short}
+use Rattle.store.specs.Laws.Places.{place_fits}
+use Rattle.receiver.proofs.Alone.{alone_run, alone_short}
 use Rattle.receiver.proofs.Numbers.{pair_fits}
 use borrow.Author.Rules.{rules}
 use Rattle.receiver.proofs.joining.alone_into.Statement.{statement}
@@ -20,7 +20,7 @@ use Rattle.receiver.proofs.joining.alone_into.Tie as tie
 start_fits : (c : tie.After-struct-known) → c.before.place.result + c.before.before.before.before.args.group.payload ≤ 1103789883855
 start_fits c =
     let a = c.before.before.before.before.args in
-    let b = place-fits a.group a.port a.k (omega arith) (omega arith) (omega arith) (omega arith) (omega arith) in
+    let b = place_fits a.group a.port a.k (omega arith) (omega arith) (omega arith) (omega arith) (omega arith) in
     omega (arith, c.before.place.ensures)
 
 place-requires : tie.Need-place-requires
@@ -64,7 +64,7 @@ returns c =
     let place = c.before.before.before.before.before.before.before.place in
     let n : ℕ = place.result + a.group.payload - place.result in
     let all : n ≡ a.group.payload = omega arith in
-    alone-run a.group a.order a.k a.store.now a.out.now from.requires.0 place.result (place.ensures ∙ ap (λ (p : ℕ). place_in a.group p a.k) from.requires.1) n _ all
+    alone_run a.group a.order a.k a.store.now a.out.now from.requires.0 place.result (place.ensures ∙ ap (λ (p : ℕ). place_in a.group p a.k) from.requires.1) n _ all
     c.before.before.before.before.before.if1.true c.before.before.lay.ensures
 
 returns-2 : tie.Need-returns-2
@@ -72,7 +72,7 @@ returns-2 c =
     let from = c.before.before.before.before.before in
     let a = from.args in
     let place = c.before.before.place in
-    alone-short a.group a.order a.k a.store.now a.out.now from.requires.0 place.result (place.ensures ∙ ap (λ (p : ℕ). place_in a.group p a.k) from.requires.1) c.if1.false
+    alone_short a.group a.order a.k a.store.now a.out.now from.requires.0 place.result (place.ensures ∙ ap (λ (p : ℕ). place_in a.group p a.k) from.requires.1) c.if1.false
 
 pub alone-into-spec : {M : Type 1} → statement M
 alone-into-spec =

@@ -1,5 +1,5 @@
 use mathlib.Core.Path.{refl}
-use Rattle.receiver.specs.Report.{reportBy}
+use Rattle.receiver.specs.Report.{report_by}
 use borrow.Author.Rules.{rules}
 use Rattle.receiver.proofs.joining.report_by.Statement.{statement}
 use Rattle.receiver.proofs.joining.report_by.Tie as tie
@@ -14,7 +14,7 @@ byte-count-requires : tie.Need-byte-count-requires
 byte-count-requires c κs = search rules
 
 returns : tie.Need-returns
-unfolding reportBy
+unfolding report_by
 returns c = rw (c.byte-count.ensures, c.before.epoch-frames.ensures, c.before.before.joined-members.ensures) refl
 
 pub report-by-spec : {M : Type 1} → statement M

@@ -1,7 +1,7 @@
 -- Port times window times P + 1 is the definition's start as it stands; what is shown is that both products fit (`pair_fits`, `product-fits`).
 use Prim.Native.Nat.{◌+◌}
 use native.Mathlib.Omega.{arith}
-use Rattle.receiver.proofs.Numbers.{pair_fits, product-fits}
+use Rattle.receiver.proofs.Numbers.{pair_fits, product_fits}
 use borrow.Author.Rules.{rules}
 use Rattle.receiver.proofs.joining.ring_at.Statement.{statement}
 use Rattle.receiver.proofs.joining.ring_at.Tie as tie
@@ -21,7 +21,7 @@ add-result c = search rules
 mul-result-2 : tie.Need-overflow-mul-result-2
 mul-result-2 c =
     let a = c.before.before.args in
-    omega (arith, product-fits a.port a.group.window (a.group.payload + 1) (omega arith) (omega arith) (omega arith))
+    omega (arith, product_fits a.port a.group.window (a.group.payload + 1) (omega arith) (omega arith) (omega arith))
 
 returns : tie.Need-returns
 returns c = search rules

@@ -5,8 +5,8 @@ use native.Mathlib.Omega.{arith}
 use lib.ListN.{length, get_or}
 use borrow.Author.Rules.{rules}
 use Rattle.ground.specs.Counting.Each.{Done, done_none, done_more, done_all}
-use Rattle.judge.specs.Laws.Sizes.{size-le}
-use Rattle.receiver.specs.Laws.Rings.{ringsOf}
+use Rattle.judge.specs.Laws.Sizes.{size_le}
+use Rattle.receiver.specs.Laws.Rings.{rings_of}
 use Rattle.receiver.proofs.joining.rings_of.Statement.{statement}
 use Rattle.receiver.proofs.joining.rings_of.Tie as tie
 
@@ -20,7 +20,7 @@ size-byte-requires : tie.Need-size-byte-requires invariant-loop decreases-loop
 size-byte-requires c κs = search rules
 
 loop-holds : tie.Need-loop-init invariant-loop decreases-loop
-loop-holds c = (refl, omega arith, rw c.size-byte.ensures (size-le c.before.args.x), omega arith, done_none _ _)
+loop-holds c = (refl, omega arith, rw c.size-byte.ensures (size_le c.before.args.x), omega arith, done_none _ _)
 
 cast-port : tie.Need-overflow-cast-port invariant-loop decreases-loop
 cast-port c = search rules
@@ -50,7 +50,7 @@ loop-again : tie.Need-loop-preserved invariant-loop decreases-loop
 loop-again c = (c.before.before.loop.invariant.0, c.before.before.loop.invariant.1, c.before.before.loop.invariant.2, omega arith, done_more _ c.before.before.loop.invariant.4 c.ring-at.ensures)
 
 returns : tie.Need-returns invariant-loop decreases-loop
-unfolding ringsOf
+unfolding rings_of
 returns c = rw (← c.before.before.size-byte.ensures) (done_all {n = c.before.before.size-byte.result} c.before.loop.invariant.4 (omega arith))
 
 pub rings-of-spec : {M : Type 1} → statement M

@@ -1,6 +1,6 @@
 use mathlib.Core.Path.{refl}
 use borrow.Author.Rules.{rules}
-use Rattle.receiver.specs.Behind.{behindBy}
+use Rattle.receiver.specs.Behind.{behind_by}
 use Rattle.receiver.proofs.lagging.behind_by.Statement.{statement}
 use Rattle.receiver.proofs.lagging.behind_by.Tie as tie
 
@@ -17,11 +17,11 @@ cast-result : tie.Need-overflow-cast-result
 cast-result c = search rules
 
 returns : tie.Need-returns
-unfolding behindBy
+unfolding behind_by
 returns c = rw (← c.before.before.before.in_step.ensures, c.before.before.if1.true, ← c.before.latest.ensures) c.distance.ensures
 
 returns-2 : tie.Need-returns-2
-unfolding behindBy
+unfolding behind_by
 returns-2 c = rw (← c.before.in_step.ensures, c.if1.false) refl
 
 pub behind-by-spec : {M : Type 1} → statement M

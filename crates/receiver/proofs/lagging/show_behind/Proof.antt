@@ -4,13 +4,13 @@ use native.Mathlib.Omega.{arith}
 use lib.ListN.{length}
 use borrow.Author.Rules.{rules}
 use Rattle.ground.specs.Counting.Each.{Done, done_none, done_more, done_all}
-use Rattle.receiver.specs.Behind.{behindBy}
-use Rattle.rows.specs.Step.{stepAt}
+use Rattle.receiver.specs.Behind.{behind_by}
+use Rattle.rows.specs.Step.{step_at}
 use Rattle.receiver.proofs.lagging.show_behind.Statement.{statement}
 use Rattle.receiver.proofs.lagging.show_behind.Tie as tie
 
 abbrev invariant-loop : tie.invariant-loop
-invariant-loop group fore count state out₀ i₀ out i = (count ≤ length out₀) × (i ≤ count) × Done i (λ k. behindBy group fore (stepAt state k)) out₀ out
+invariant-loop group fore count state out₀ i₀ out i = (count ≤ length out₀) × (i ≤ count) × Done i (λ k. behind_by group fore (step_at state k)) out₀ out
 
 abbrev decreases-loop : tie.decreases-loop
 decreases-loop group fore count state out₀ i₀ out i = count - i

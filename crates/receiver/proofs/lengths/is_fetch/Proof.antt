@@ -1,5 +1,5 @@
 use mathlib.Core.Path.{refl}
-use Rattle.receiver.specs.Lengths.{fetchFits}
+use Rattle.receiver.specs.Lengths.{fetch_fits}
 use borrow.Author.Rules.{rules}
 use Rattle.receiver.proofs.lengths.is_fetch.Statement.{statement}
 use Rattle.receiver.proofs.lengths.is_fetch.Tie as tie
@@ -14,7 +14,7 @@ output-for-requires : tie.Need-output-for-requires
 output-for-requires c κs = search rules
 
 returns : tie.Need-returns
-unfolding fetchFits
+unfolding fetch_fits
 returns c = rw (c.before.before.is-rows.ensures, c.before.store-for.ensures, c.output-for.ensures) refl
 
 pub is-fetch-spec : {M : Type 1} → statement M

@@ -1,5 +1,5 @@
 use mathlib.Core.Path.{refl}
-use Rattle.receiver.specs.Lengths.{frameFits}
+use Rattle.receiver.specs.Lengths.{frame_fits}
 use borrow.Author.Rules.{rules}
 use Rattle.receiver.proofs.lengths.is_frame.Statement.{statement}
 use Rattle.receiver.proofs.lengths.is_frame.Tie as tie
@@ -14,7 +14,7 @@ cast-result : tie.Need-overflow-cast-result
 cast-result c = search rules
 
 returns : tie.Need-returns
-unfolding frameFits
+unfolding frame_fits
 returns c = rw (c.before.before.is-rows.ensures, c.before.store-for.ensures) refl
 
 pub is-frame-spec : {M : Type 1} → statement M

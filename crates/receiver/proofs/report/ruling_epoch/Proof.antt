@@ -1,5 +1,5 @@
 use mathlib.Core.Path.{refl}
-use Rattle.receiver.specs.Report.{rulingEpoch}
+use Rattle.receiver.specs.Report.{ruling_epoch}
 use borrow.Author.Rules.{rules}
 use Rattle.receiver.proofs.report.ruling_epoch.Statement.{statement}
 use Rattle.receiver.proofs.report.ruling_epoch.Tie as tie
@@ -14,7 +14,7 @@ epoch-of-requires : tie.Need-epoch-of-requires
 epoch-of-requires c κs = search rules
 
 returns : tie.Need-returns
-unfolding rulingEpoch
+unfolding ruling_epoch
 returns c = rw (c.epoch-of.ensures, c.before.previous-tag.ensures, c.before.before.first-tag.ensures) refl
 
 pub ruling-epoch-spec : {M : Type 1} → statement M

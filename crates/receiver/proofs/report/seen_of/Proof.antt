@@ -1,6 +1,6 @@
 -- Each field of what is seen of a port is read by a function that gives the definition's value; word, number and GID are the ruling packet's.
 use mathlib.Core.Path.{refl}
-use Rattle.receiver.specs.Report.{seenOf}
+use Rattle.receiver.specs.Report.{seen_of}
 use borrow.Author.Rules.{rules}
 use Rattle.receiver.proofs.report.seen_of.Statement.{statement}
 use Rattle.receiver.proofs.report.seen_of.Tie as tie
@@ -30,7 +30,7 @@ first-requires : tie.Need-first-requires
 first-requires c κs = search rules
 
 returns : tie.Need-returns
-unfolding seenOf
+unfolding seen_of
 returns c = rw (c.first.ensures, c.before.is_set.ensures, c.before.before.ruling-of.ensures, c.before.before.before.before.ruling-epoch.ensures, c.before.before.before.before.before.marks.ensures, c.before.before.before.before.before.before.get2.ensures, c.before.before.before.before.before.before.before.get.ensures) refl
 
 pub seen-of-spec : {M : Type 1} → statement M

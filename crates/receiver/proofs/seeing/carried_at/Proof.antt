@@ -1,5 +1,5 @@
 use mathlib.Core.Path.{refl}
-use Rattle.receiver.specs.Seen.{carriedAt}
+use Rattle.receiver.specs.Seen.{carried_at}
 use borrow.Author.Rules.{rules}
 use Rattle.receiver.proofs.seeing.carried_at.Statement.{statement}
 use Rattle.receiver.proofs.seeing.carried_at.Tie as tie
@@ -17,7 +17,7 @@ carried-by-requires : tie.Need-carried-by-requires
 carried-by-requires c κs = search rules
 
 returns : tie.Need-returns
-unfolding carriedAt
+unfolding carried_at
 returns c = rw (c.carried-by.ensures, c.before.reading-of.ensures, c.before.before.before.get.ensures) refl
 
 pub carried-at-spec : {M : Type 1} → statement M

@@ -1,5 +1,5 @@
 use mathlib.Core.Path.{refl}
-use Rattle.receiver.specs.Seen.{seenIn}
+use Rattle.receiver.specs.Seen.{seen_in}
 use borrow.Author.Rules.{rules}
 use Rattle.receiver.proofs.seeing.seen_in.Statement.{statement}
 use Rattle.receiver.proofs.seeing.seen_in.Tie as tie
@@ -26,7 +26,7 @@ seen-row-requires : tie.Need-seen-row-requires
 seen-row-requires c κs = search rules
 
 returns : tie.Need-returns
-unfolding seenIn
+unfolding seen_in
 returns c = rw (c.seen-row.ensures, c.before.first.ensures, c.before.before.is_set.ensures, c.before.before.before.is-other-at.ensures, c.before.before.before.before.carried-at.ensures, c.before.before.before.before.before.marks.ensures, c.before.before.before.before.before.before.get.ensures) refl
 
 pub seen-in-spec : {M : Type 1} → statement M

@@ -4,12 +4,12 @@ use native.Mathlib.Omega.{arith}
 use lib.ListN.{length}
 use borrow.Author.Rules.{rules}
 use Rattle.ground.specs.Counting.Each.{Done, done_none, done_more, done_all}
-use Rattle.receiver.specs.Seen.{seenIn}
+use Rattle.receiver.specs.Seen.{seen_in}
 use Rattle.receiver.proofs.seeing.show_seen.Statement.{statement}
 use Rattle.receiver.proofs.seeing.show_seen.Tie as tie
 
 abbrev invariant-loop : tie.invariant-loop
-invariant-loop group count state out₀ i₀ out i = (count ≤ length out₀) × (i ≤ count) × Done i (seenIn group state) out₀ out
+invariant-loop group count state out₀ i₀ out i = (count ≤ length out₀) × (i ≤ count) × Done i (seen_in group state) out₀ out
 
 abbrev decreases-loop : tie.decreases-loop
 decreases-loop group count state out₀ i₀ out i = count - i

@@ -1,5 +1,5 @@
 use mathlib.Core.Path.{refl}
-use Rattle.receiver.specs.Settings.{settingsFit}
+use Rattle.receiver.specs.Settings.{settings_fit}
 use borrow.Author.Rules.{rules}
 use Rattle.receiver.proofs.setting.is_fit.Statement.{statement}
 use Rattle.receiver.proofs.setting.is_fit.Tie as tie
@@ -8,7 +8,7 @@ is-rows-requires : tie.Need-is-rows-requires
 is-rows-requires c κs = search rules
 
 returns : tie.Need-returns
-unfolding settingsFit
+unfolding settings_fit
 returns c = rw c.is-rows.ensures refl
 
 pub is-fit-spec : {M : Type 1} → statement M

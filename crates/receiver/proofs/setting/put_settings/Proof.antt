@@ -1,6 +1,6 @@
 -- Four zeros for an empty group, else kind, ports, P and W: the two cases of the definition (`settings-none`, `settings-some`).
 use borrow.Author.Rules.{rules}
-use Rattle.receiver.proofs.Reading.{settings-none, settings-some}
+use Rattle.receiver.proofs.Reading.{settings_none, settings_some}
 use Rattle.receiver.proofs.setting.put_settings.Statement.{statement}
 use Rattle.receiver.proofs.setting.put_settings.Tie as tie
 
@@ -23,13 +23,13 @@ same_length : tie.Need-same-length
 same_length c = search rules
 
 returns : tie.Need-returns
-returns c = settings-none _ _ _ c.before.before.before.before.if1.true c.before.before.put_four.ensures
+returns c = settings_none _ _ _ c.before.before.before.before.if1.true c.before.before.put_four.ensures
 
 same-length-2 : tie.Need-same-length-2
 same-length-2 c = search rules
 
 returns-2 : tie.Need-returns-2
-returns-2 c = settings-some _ _ _ c.before.before.before.before.before.before.before.if1.false c.before.before.put-four2.ensures
+returns-2 c = settings_some _ _ _ c.before.before.before.before.before.before.before.if1.false c.before.before.put-four2.ensures
 
 pub put-settings-spec : {M : Type 1} → statement M
 put-settings-spec =

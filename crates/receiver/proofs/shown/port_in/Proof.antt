@@ -1,5 +1,5 @@
 use mathlib.Core.Path.{refl}
-use Rattle.receiver.specs.Shown.{portIn}
+use Rattle.receiver.specs.Shown.{port_in}
 use borrow.Author.Rules.{rules}
 use Rattle.receiver.proofs.shown.port_in.Statement.{statement}
 use Rattle.receiver.proofs.shown.port_in.Tie as tie
@@ -14,7 +14,7 @@ port-shown-requires : tie.Need-port-shown-requires
 port-shown-requires c κs = search rules
 
 returns : tie.Need-returns
-unfolding portIn
+unfolding port_in
 returns c = rw (c.port-shown.ensures, c.before.get2.ensures, c.before.before.get.ensures) refl
 
 pub port-in-spec : {M : Type 1} → statement M

@@ -3,8 +3,8 @@
 use mathlib.Core.Path.{sym, ◌∙◌}
 use native.Mathlib.Omega.{arith}
 use borrow.Author.Tests.{not-true, not-false}
-use Rattle.receiver.proofs.Showing.{ports-unfit, ports-shown}
-use Rattle.receiver.proofs.Sizes.{shown-length}
+use Rattle.receiver.proofs.Showing.{ports_unfit, ports_shown}
+use Rattle.receiver.proofs.Sizes.{shown_length_lem}
 use borrow.Author.Rules.{rules}
 use Rattle.receiver.proofs.shown.ports.Statement.{statement}
 use Rattle.receiver.proofs.shown.ports.Tie as tie
@@ -19,16 +19,16 @@ is-shown-requires : tie.Need-is-shown-requires
 is-shown-requires c κs = search rules
 
 returns : tie.Need-returns
-returns c = ports-unfit _ _ _ _ c.before.before.before.get.ensures c.before.before.ports-in.ensures _ c.before.is-shown.ensures (not-true _ c.if1.true)
+returns c = ports_unfit _ _ _ _ c.before.before.before.get.ensures c.before.before.ports-in.ensures _ c.before.is-shown.ensures (not-true _ c.if1.true)
 
 show-ports-requires : tie.Need-show-ports-requires
-show-ports-requires c κs = let e = shown-length _ _ _ (sym c.before.before.is-shown.ensures ∙ not-false _ c.before.if1.false) in omega arith
+show-ports-requires c κs = let e = shown_length_lem _ _ _ (sym c.before.before.is-shown.ensures ∙ not-false _ c.before.if1.false) in omega arith
 
 same_length : tie.Need-same-length
 same_length c = search rules
 
 returns-2 : tie.Need-returns-2
-returns-2 c = ports-shown _ _ _ _ c.before.before.before.before.before.before.get.ensures c.before.before.before.before.before.ports-in.ensures _ c.before.before.before.before.is-shown.ensures _ (not-false _ c.before.before.before.if1.false) c.before.show-ports.ensures
+returns-2 c = ports_shown _ _ _ _ c.before.before.before.before.before.before.get.ensures c.before.before.before.before.before.ports-in.ensures _ c.before.before.before.before.is-shown.ensures _ (not-false _ c.before.before.before.if1.false) c.before.show-ports.ensures
 
 pub ports-spec : {M : Type 1} → statement M
 ports-spec =

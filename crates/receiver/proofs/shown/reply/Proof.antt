@@ -2,8 +2,8 @@
 -- The output has its two bytes because its length was found right (`reply-length`).
 use mathlib.Core.Path.{sym, ◌∙◌}
 use borrow.Author.Tests.{not-true, not-false}
-use Rattle.receiver.proofs.Showing.{reply-unfit, reply-shown}
-use Rattle.receiver.proofs.Sizes.{reply-length}
+use Rattle.receiver.proofs.Showing.{reply_unfit, reply_shown}
+use Rattle.receiver.proofs.Sizes.{reply_length}
 use borrow.Author.Rules.{rules}
 use Rattle.receiver.proofs.shown.reply.Statement.{statement}
 use Rattle.receiver.proofs.shown.reply.Tie as tie
@@ -18,7 +18,7 @@ is-reply-requires : tie.Need-is-reply-requires
 is-reply-requires c κs = search rules
 
 returns : tie.Need-returns
-returns c = reply-unfit _ _ _ _ c.before.before.before.get.ensures c.before.before.ports-in.ensures _ _ c.before.is-reply.ensures (not-true _ c.if1.true)
+returns c = reply_unfit _ _ _ _ c.before.before.before.get.ensures c.before.before.ports-in.ensures _ _ c.before.is-reply.ensures (not-true _ c.if1.true)
 
 reply-ports-requires : tie.Need-reply-ports-requires
 reply-ports-requires c κs = search rules
@@ -42,7 +42,7 @@ put-reply-requires : tie.Need-put-reply-requires
 put-reply-requires c κs =
     let is-reply = c.before.before.before.before.before.before.before.before.is-reply in
     let test1 = c.before.before.before.before.before.before.before.if1 in
-    reply-length _ _ _ (sym is-reply.ensures ∙ not-false _ test1.false)
+    reply_length _ _ _ (sym is-reply.ensures ∙ not-false _ test1.false)
 
 same_length : tie.Need-same-length
 same_length c = search rules
@@ -57,9 +57,9 @@ returns-2 c =
     let mst = c.before.before.before.before.before.before.before.before.mst in
     let is_set = c.before.before.before.before.before.before.before.is_set in
     let one-if = c.before.before.before.before.before.before.one-if in
-    let reply-byte = c.before.before.before.before.before.reply-byte in
+    let reply_byte_lem = c.before.before.before.before.before.reply-byte in
     let reply-byte2 = c.before.before.before.before.reply-byte2 in
-    reply-shown _ _ _ _ get.ensures ports-in.ensures _ _ is-reply.ensures _ _ _ _ _ _ _ (not-false _ test1.false) reply-ports.ensures mst.ensures is_set.ensures one-if.ensures reply-byte.ensures reply-byte2.ensures c.before.before.put-reply.ensures
+    reply_shown _ _ _ _ get.ensures ports-in.ensures _ _ is-reply.ensures _ _ _ _ _ _ _ (not-false _ test1.false) reply-ports.ensures mst.ensures is_set.ensures one-if.ensures reply_byte_lem.ensures reply-byte2.ensures c.before.before.put-reply.ensures
 
 pub reply-spec : {M : Type 1} → statement M
 reply-spec =

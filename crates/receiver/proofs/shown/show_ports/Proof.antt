@@ -4,12 +4,12 @@ use native.Mathlib.Omega.{arith}
 use lib.ListN.{length}
 use borrow.Author.Rules.{rules}
 use Rattle.ground.specs.Counting.Each.{Done, done_none, done_more, done_all}
-use Rattle.receiver.specs.Shown.{portIn}
+use Rattle.receiver.specs.Shown.{port_in}
 use Rattle.receiver.proofs.shown.show_ports.Statement.{statement}
 use Rattle.receiver.proofs.shown.show_ports.Tie as tie
 
 abbrev invariant-loop : tie.invariant-loop
-invariant-loop group count state out₀ i₀ out i = (count ≤ length out₀) × (i ≤ count) × Done i (portIn group state) out₀ out
+invariant-loop group count state out₀ i₀ out i = (count ≤ length out₀) × (i ≤ count) × Done i (port_in group state) out₀ out
 
 abbrev decreases-loop : tie.decreases-loop
 decreases-loop group count state out₀ i₀ out i = count - i

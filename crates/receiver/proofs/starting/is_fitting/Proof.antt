@@ -1,8 +1,8 @@
 use mathlib.Core.Path.{refl}
 use Prim.Native.Nat.{◌+◌}
 use native.Mathlib.Omega.{arith}
-use Rattle.receiver.specs.Starting.{startFits}
-use Rattle.receiver.proofs.Numbers.{product-fits, pair_fits}
+use Rattle.receiver.specs.Starting.{start_fits}
+use Rattle.receiver.proofs.Numbers.{product_fits, pair_fits}
 use borrow.Author.Rules.{rules}
 use Rattle.receiver.proofs.starting.is_fitting.Statement.{statement}
 use Rattle.receiver.proofs.starting.is_fitting.Tie as tie
@@ -17,10 +17,10 @@ add-whole : tie.Need-overflow-add-whole
 add-whole c = search rules
 
 mul-whole-2 : tie.Need-overflow-mul-whole-2
-mul-whole-2 c = omega (arith, product-fits c.before.args.count c.before.args.window (c.before.args.payload + 1) (omega arith) (omega arith) (omega arith))
+mul-whole-2 c = omega (arith, product_fits c.before.args.count c.before.args.window (c.before.args.payload + 1) (omega arith) (omega arith) (omega arith))
 
 returns : tie.Need-returns
-unfolding startFits
+unfolding start_fits
 returns c = rw c.rows-for.ensures refl
 
 pub is-fitting-spec : {M : Type 1} → statement M

@@ -1,5 +1,5 @@
 use mathlib.Core.Path.{refl}
-use Rattle.receiver.specs.Starting.{startRight}
+use Rattle.receiver.specs.Starting.{start_right}
 use borrow.Author.Rules.{rules}
 use Rattle.receiver.proofs.starting.is_right.Statement.{statement}
 use Rattle.receiver.proofs.starting.is_right.Tie as tie
@@ -14,7 +14,7 @@ is-startable-requires : tie.Need-is-startable-requires
 is-startable-requires c κs = search rules
 
 returns : tie.Need-returns
-unfolding startRight
+unfolding start_right
 returns c = rw (c.before.before.times-within.ensures, c.before.times-within2.ensures, c.is-startable.ensures) refl
 
 pub is-right-spec : {M : Type 1} → statement M

@@ -1,6 +1,6 @@
 -- A fresh port: step, member, packets and marks are put one after the other, in the definition's order, each with the definition's fresh value.
 use mathlib.Core.Path.{refl}
-use Rattle.receiver.specs.Starting.{freshPort}
+use Rattle.receiver.specs.Starting.{fresh_port}
 use borrow.Author.Rules.{rules}
 use Rattle.receiver.proofs.starting.put_port.Statement.{statement}
 use Rattle.receiver.proofs.starting.put_port.Tie as tie
@@ -33,7 +33,7 @@ same_length : tie.Need-same-length
 same_length c = search rules
 
 returns : tie.Need-returns
-unfolding freshPort
+unfolding fresh_port
 returns c =
     let fresh_step = c.before.before.before.before.before.before.before.before.before.before.before.before.before.before.before.fresh_step in
     let time-of = c.before.before.before.before.before.before.before.before.before.before.before.before.before.before.time-of in

@@ -5,19 +5,19 @@ use native.Mathlib.Numerals.{add-one}
 use native.Mathlib.Omega.{arith}
 use lib.ListN.{length}
 use borrow.Author.Rules.{rules}
-use Rattle.receiver.specs.Starting.{freshPorts}
-use Rattle.receiver.specs.Laws.Lengths.{length-fresh-ports}
+use Rattle.receiver.specs.Starting.{fresh_ports}
+use Rattle.receiver.specs.Laws.Lengths.{length_fresh_ports}
 use Rattle.receiver.proofs.starting.put_ports.Statement.{statement}
 use Rattle.receiver.proofs.starting.put_ports.Tie as tie
 
 abbrev invariant-loop : tie.invariant-loop
-invariant-loop kind hold restore ports state₀ i₀ state i = (i ≤ ports) × (state ≡ freshPorts kind hold restore i state₀)
+invariant-loop kind hold restore ports state₀ i₀ state i = (i ≤ ports) × (state ≡ fresh_ports kind hold restore i state₀)
 
 abbrev decreases-loop : tie.decreases-loop
 decreases-loop kind hold restore ports state₀ i₀ state i = ports - i
 
 loop-holds : tie.Need-loop-init invariant-loop decreases-loop
-unfolding freshPorts
+unfolding fresh_ports
 loop-holds c = (omega arith, refl)
 
 put-port-requires : tie.Need-put-port-requires invariant-loop decreases-loop
@@ -30,11 +30,11 @@ loop-less : tie.Need-loop-smaller invariant-loop decreases-loop
 loop-less c = search rules
 
 loop-again : tie.Need-loop-preserved invariant-loop decreases-loop
-unfolding freshPorts
+unfolding fresh_ports
 loop-again c = (omega arith, rw (add-one, ← c.before.before.before.before.loop.invariant.1) c.before.put-port.ensures)
 
 same_length : tie.Need-same-length invariant-loop decreases-loop
-same_length c = ap length c.before.loop.invariant.1 ∙ length-fresh-ports _ _ _ _ _
+same_length c = ap length c.before.loop.invariant.1 ∙ length_fresh_ports _ _ _ _ _
 
 returns : tie.Need-returns invariant-loop decreases-loop
 returns c = let e : c.before.loop.i ≡ c.before.before.before.before.args.ports = omega arith in rw e at c.before.loop.invariant.1

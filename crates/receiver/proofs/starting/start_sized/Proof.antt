@@ -2,7 +2,7 @@
 use mathlib.Core.Path.{refl, ◌∙◌}
 use borrow.Author.Tests.{not-true, not-false}
 use borrow.Author.Rules.{rules}
-use Rattle.receiver.proofs.Started.{sized-done, sized-unfit}
+use Rattle.receiver.proofs.Started.{sized_done, sized_unfit}
 use Rattle.receiver.proofs.starting.start_sized.Statement.{statement}
 use Rattle.receiver.proofs.starting.start_sized.Tie as tie
 
@@ -18,7 +18,7 @@ is-fitting-requires c κs = search rules
 returns : tie.Need-returns
 returns c =
     let a = c.before.before.before.before.before.before.args in
-    sized-unfit a.kind a.count a.payload a.window a.store a.hold-off.now a.restore.now a.state.now _ _ _
+    sized_unfit a.kind a.count a.payload a.window a.store a.hold-off.now a.restore.now a.state.now _ _ _
     c.before.before.before.is-list.ensures c.before.before.is-list2.ensures c.before.is-fitting.ensures (not-true _ c.if1.true)
 
 group-with-requires : tie.Need-group-with-requires
@@ -43,7 +43,7 @@ returns-2 c =
     let group-with = c.before.before.before.before.before.before.group-with in
     let put-ports = c.before.before.before.before.put-ports in
     let a = start.args in
-    sized-done a.kind a.count a.payload a.window a.store a.hold-off.now a.restore.now a.state.now _ _ _
+    sized_done a.kind a.count a.payload a.window a.store a.hold-off.now a.restore.now a.state.now _ _ _
     is-list.ensures is-list2.ensures is-fitting.ensures _
     (not-false _ test1.false)
     (c.before.put.ensures ∙ rw (put-ports.ensures, group-with.ensures) refl)

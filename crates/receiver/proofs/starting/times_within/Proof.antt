@@ -6,7 +6,7 @@ use native.Mathlib.Omega.{arith}
 use lib.Dec.{leb}
 use lib.ListN.{get_or, length}
 use Rattle.ground.specs.Counting.Words.{every}
-use Rattle.receiver.specs.Starting.{timesWithin}
+use Rattle.receiver.specs.Starting.{times_within}
 use borrow.Author.Rules.{rules}
 use Rattle.receiver.proofs.starting.times_within.Statement.{statement}
 use Rattle.receiver.proofs.starting.times_within.Tie as tie
@@ -36,7 +36,7 @@ loop-again : tie.Need-loop-preserved invariant-loop decreases-loop
 loop-again c = (omega arith, rw (c.before.before.loop.invariant.1, add-one))
 
 returns : tie.Need-returns invariant-loop decreases-loop
-unfolding timesWithin
+unfolding times_within
 returns c = let e : c.before.loop.i ≡ length c.before.before.args.counts.now = omega arith in rw e at c.before.loop.invariant.1
 
 pub times-within-spec : {M : Type 1} → statement M

@@ -1,6 +1,6 @@
 use mathlib.Core.Path.{refl, ◌∙◌}
-use Rattle.phases.specs.Theorems.ByTable.{passed-with}
-use Rattle.receiver.specs.Report.{reportedOf}
+use Rattle.phases.specs.Theorems.ByTable.{passed_with_lem}
+use Rattle.receiver.specs.Report.{reported_of}
 use borrow.Author.Rules.{rules}
 use Rattle.receiver.proofs.states.pass.Statement.{statement}
 use Rattle.receiver.proofs.states.pass.Tie as tie
@@ -18,8 +18,8 @@ same_length : tie.Need-same-length
 same_length c = search rules
 
 returns : tie.Need-returns
-unfolding reportedOf
-returns c = c.before.work-out-states.ensures ∙ rw (c.before.before.before.get.ensures, c.before.before.before.before.before.before.pass-with.ensures, passed-with c.before.before.before.before.before.before.before.before.before.requires _ _ _ _) refl
+unfolding reported_of
+returns c = c.before.work-out-states.ensures ∙ rw (c.before.before.before.get.ensures, c.before.before.before.before.before.before.pass-with.ensures, passed_with_lem c.before.before.before.before.before.before.before.before.before.requires _ _ _ _) refl
 
 pub pass_spec : {M : Type 1} → statement M
 pass_spec = tie.close (tie.spec pass-with-requires get-requires work-out-states-requires same_length returns)

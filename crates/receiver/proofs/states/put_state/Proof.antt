@@ -1,5 +1,5 @@
 use mathlib.Core.Path.{refl, ◌∙◌}
-use Rattle.receiver.specs.Report.{statePut}
+use Rattle.receiver.specs.Report.{state_put}
 use borrow.Author.Rules.{rules}
 use Rattle.receiver.proofs.states.put_state.Statement.{statement}
 use Rattle.receiver.proofs.states.put_state.Tie as tie
@@ -14,7 +14,7 @@ same_length : tie.Need-same-length
 same_length c = search rules
 
 returns : tie.Need-returns
-unfolding statePut
+unfolding state_put
 returns c = c.before.put-standing.ensures ∙ rw c.before.before.before.standing-at.ensures refl
 
 pub put-state-spec : {M : Type 1} → statement M

@@ -5,19 +5,19 @@ use native.Mathlib.Numerals.{add-one}
 use native.Mathlib.Omega.{arith}
 use lib.ListN.{length}
 use borrow.Author.Rules.{rules}
-use Rattle.receiver.specs.Report.{statesPut}
-use Rattle.receiver.specs.Laws.Lengths.{length-told-ports}
+use Rattle.receiver.specs.Report.{states_put}
+use Rattle.receiver.specs.Laws.Lengths.{length_told_ports}
 use Rattle.receiver.proofs.states.put_states.Statement.{statement}
 use Rattle.receiver.proofs.states.put_states.Tie as tie
 
 abbrev invariant-loop : tie.invariant-loop
-invariant-loop states ports state₀ i₀ state i = (i ≤ ports) × (state ≡ statesPut states i state₀)
+invariant-loop states ports state₀ i₀ state i = (i ≤ ports) × (state ≡ states_put states i state₀)
 
 abbrev decreases-loop : tie.decreases-loop
 decreases-loop states ports state₀ i₀ state i = ports - i
 
 loop-holds : tie.Need-loop-init invariant-loop decreases-loop
-unfolding statesPut
+unfolding states_put
 loop-holds c = (omega arith, refl)
 
 put-state-requires : tie.Need-put-state-requires invariant-loop decreases-loop
@@ -30,11 +30,11 @@ loop-less : tie.Need-loop-smaller invariant-loop decreases-loop
 loop-less c = search rules
 
 loop-again : tie.Need-loop-preserved invariant-loop decreases-loop
-unfolding statesPut
+unfolding states_put
 loop-again c = (omega arith, rw (add-one, ← c.before.before.before.before.loop.invariant.1) c.before.put-state.ensures)
 
 same_length : tie.Need-same-length invariant-loop decreases-loop
-same_length c = ap length c.before.loop.invariant.1 ∙ length-told-ports _ _ _
+same_length c = ap length c.before.loop.invariant.1 ∙ length_told_ports _ _ _
 
 returns : tie.Need-returns invariant-loop decreases-loop
 returns c = let e : c.before.loop.i ≡ c.before.before.args.ports = omega arith in rw e at c.before.loop.invariant.1

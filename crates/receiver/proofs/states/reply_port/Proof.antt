@@ -1,5 +1,5 @@
 use mathlib.Core.Path.{refl}
-use Rattle.receiver.specs.Report.{replyPort}
+use Rattle.receiver.specs.Report.{reply_port}
 use borrow.Author.Rules.{rules}
 use Rattle.receiver.proofs.states.reply_port.Statement.{statement}
 use Rattle.receiver.proofs.states.reply_port.Tie as tie
@@ -14,7 +14,7 @@ is-readable-requires : tie.Need-is-readable-requires
 is-readable-requires c κs = search rules
 
 returns : tie.Need-returns
-unfolding replyPort
+unfolding reply_port
 returns c = rw (c.is-readable.ensures, c.before.get2.ensures, c.before.before.get.ensures) refl
 
 pub reply-port-spec : {M : Type 1} → statement M

@@ -1,6 +1,6 @@
 -- States and RS-Ack are worked out of the ports before either is put, as in the definition; then the states are put, and the group last.
 use mathlib.Core.Path.{refl}
-use Rattle.receiver.specs.Report.{statesWorkedOut}
+use Rattle.receiver.specs.Report.{states_worked_out}
 use borrow.Author.Rules.{rules}
 use Rattle.receiver.proofs.states.work_out_all.Statement.{statement}
 use Rattle.receiver.proofs.states.work_out_all.Tie as tie
@@ -27,14 +27,14 @@ same_length : tie.Need-same-length
 same_length c = search rules
 
 returns : tie.Need-returns
-unfolding statesWorkedOut
+unfolding states_worked_out
 returns c =
     let reply-ports = c.before.before.before.before.before.before.before.before.before.reply-ports in
     let standings = c.before.before.before.before.before.before.before.before.standings in
     let ack = c.before.before.before.before.before.before.before.ack in
-    let with-ack = c.before.before.before.before.before.before.with-ack in
+    let with_ack_lem = c.before.before.before.before.before.before.with-ack in
     let put-states = c.before.before.before.before.put-states in
-    rw (c.before.put.ensures, put-states.ensures, with-ack.ensures, ack.ensures, standings.ensures, reply-ports.ensures) refl
+    rw (c.before.put.ensures, put-states.ensures, with_ack_lem.ensures, ack.ensures, standings.ensures, reply-ports.ensures) refl
 
 pub work-out-all-spec : {M : Type 1} → statement M
 work-out-all-spec =

@@ -1,5 +1,5 @@
 -- With one port the state and RS-Ack worked out of it alone are those the tables of 64 would give (`states-alone`).
-use Rattle.receiver.proofs.Alone.{states-alone}
+use Rattle.receiver.proofs.Alone.{states_alone}
 use borrow.Author.Rules.{rules}
 use Rattle.receiver.proofs.states.work_out_alone.Statement.{statement}
 use Rattle.receiver.proofs.states.work_out_alone.Tie as tie
@@ -27,12 +27,12 @@ same_length c = search rules
 
 returns : tie.Need-returns
 returns c =
-    let reply-port = c.before.before.before.before.before.before.before.before.before.reply-port in
-    let standing-alone = c.before.before.before.before.before.before.before.before.standing-alone in
+    let reply_port_lem = c.before.before.before.before.before.before.before.before.before.reply-port in
+    let standing_alone = c.before.before.before.before.before.before.before.before.standing-alone in
     let ack-alone = c.before.before.before.before.before.before.before.ack-alone in
-    let with-ack = c.before.before.before.before.before.before.with-ack in
+    let with_ack_lem = c.before.before.before.before.before.before.with-ack in
     let put-standing = c.before.before.before.before.put-standing in
-    states-alone _ _ _ _ _ _ _ _ reply-port.ensures standing-alone.ensures ack-alone.ensures with-ack.ensures put-standing.ensures c.before.put.ensures
+    states_alone _ _ _ _ _ _ _ _ reply_port_lem.ensures standing_alone.ensures ack-alone.ensures with_ack_lem.ensures put-standing.ensures c.before.put.ensures
 
 pub work-out-alone-spec : {M : Type 1} → statement M
 work-out-alone-spec =

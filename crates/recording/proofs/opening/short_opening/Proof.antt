@@ -3,8 +3,8 @@ use mathlib.Core.Path.{ap, ◌∙◌}
 use Rattle.recording.specs.Opening.{handed}
 use Prim.Native.Nat.{◌+◌, ◌≤◌}
 use native.Mathlib.Omega.{arith}
-use Rattle.recording.specs.Laws.Parting.{opening-one, opening-three, opening-two}
-use Rattle.text.specs.Laws.Slices.{first-le}
+use Rattle.recording.specs.Laws.Parting.{opening_one, opening_three, opening_two}
+use Rattle.text.specs.Laws.Slices.{first_le}
 use Rattle.recording.proofs.opening.short_opening.Statement.{statement}
 use Rattle.recording.proofs.opening.short_opening.Tie as tie
 
@@ -15,7 +15,7 @@ none-requires : tie.Need-none-requires
 none-requires c κs = omega arith
 
 returns : tie.Need-returns
-returns c = c.none.ensures ∙ ap handed (opening-one c.before.before.before.before.args.text.now c.before.before.before.before.args.end c.before.before.before.before.args.next c.before.before.before.before.requires.1 c.before.before.before.before.args.at c.before.before.piece-end.result c.before.before.before.before.requires.0 c.before.before.piece-end.ensures c.before.if1.true)
+returns c = c.none.ensures ∙ ap handed (opening_one c.before.before.before.before.args.text.now c.before.before.before.before.args.end c.before.before.before.before.args.next c.before.before.before.before.requires.1 c.before.before.before.before.args.at c.before.before.piece-end.result c.before.before.before.before.requires.0 c.before.before.piece-end.ensures c.before.if1.true)
 
 add-piece-end : tie.Need-overflow-add-piece-end
 add-piece-end c = omega arith
@@ -27,7 +27,7 @@ none-requires-2 : tie.Need-none-requires-2
 none-requires-2 c κs = omega arith
 
 returns-2 : tie.Need-returns-2
-returns-2 c = c.none2.ensures ∙ ap handed (opening-two c.before.before.before.before.before.before.args.text.now c.before.before.before.before.before.before.args.end c.before.before.before.before.before.before.args.next c.before.before.before.before.before.before.requires.1 c.before.before.before.before.before.before.args.at c.before.before.before.before.piece-end.result c.before.before.before.before.before.before.requires.0 c.before.before.before.before.piece-end.ensures c.before.before.before.if1.false c.before.before.piece-end2.result c.before.before.piece-end2.ensures c.before.if2.true)
+returns-2 c = c.none2.ensures ∙ ap handed (opening_two c.before.before.before.before.before.before.args.text.now c.before.before.before.before.before.before.args.end c.before.before.before.before.before.before.args.next c.before.before.before.before.before.before.requires.1 c.before.before.before.before.before.before.args.at c.before.before.before.before.piece-end.result c.before.before.before.before.before.before.requires.0 c.before.before.before.before.piece-end.ensures c.before.before.before.if1.false c.before.before.piece-end2.result c.before.before.piece-end2.ensures c.before.if2.true)
 
 add-piece-end-2 : tie.Need-overflow-add-piece-end-2
 add-piece-end-2 c = omega arith
@@ -55,7 +55,7 @@ add-settings-by c =
     let start = c.before.before.before.before.before.before.before.before.before in
     let piece-end2 = c.before.before.before.before.before.piece-end2 in
     let piece-end3 = c.before.before.before.piece-end3 in
-    let h : piece-end2.result + 1 ≤ start.args.end = omega arith in let m = first-le start.args.text.now (piece-end2.result + 1) start.args.end piece-end3.result h start.requires.1 piece-end3.ensures in omega arith
+    let h : piece-end2.result + 1 ≤ start.args.end = omega arith in let m = first_le start.args.text.now (piece-end2.result + 1) start.args.end piece-end3.result h start.requires.1 piece-end3.ensures in omega arith
 
 settings-by-requires : tie.Need-settings-by-requires
 settings-by-requires c κs = omega arith
@@ -71,7 +71,7 @@ returns-3 c =
     let read_number = c.before.before.before.read_number in
     let read-number2 = c.before.before.read-number2 in
     let read-number3 = c.before.read-number3 in
-    c.settings-by.ensures ∙ ap handed (opening-three start.args.text.now start.args.end start.args.next start.requires.1 start.args.at piece-end.result start.requires.0 piece-end.ensures test1.false piece-end2.result piece-end2.ensures test2.false piece-end3.result piece-end3.ensures read_number.result read-number2.result read-number3.result read_number.ensures read-number2.ensures read-number3.ensures)
+    c.settings-by.ensures ∙ ap handed (opening_three start.args.text.now start.args.end start.args.next start.requires.1 start.args.at piece-end.result start.requires.0 piece-end.ensures test1.false piece-end2.result piece-end2.ensures test2.false piece-end3.result piece-end3.ensures read_number.result read-number2.result read-number3.result read_number.ensures read-number2.ensures read-number3.ensures)
 
 pub short-opening-spec : {M : Type 1} → statement M
 short-opening-spec =

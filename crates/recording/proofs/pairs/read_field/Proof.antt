@@ -2,7 +2,7 @@
 use mathlib.Core.Path.{refl, ap, ◌∙◌}
 use lib.Seq.{slice}
 use Rattle.recording.proofs.Reading.{field_is}
-use Rattle.recording.specs.Pairs.{timeRead}
+use Rattle.recording.specs.Pairs.{time_read}
 use Rattle.recording.specs.declared.pairs.Awaited.TheVariants.{Name, Kind, Time, Nothing}
 use Rattle.text.specs.declared.fields.Number.{Number}
 use native.Mathlib.Omega.{arith}
@@ -43,7 +43,7 @@ returns-3 : tie.Need-returns-3
 returns-3 c =
     let start = c.before.before.before.before.before.before in
     let given = c.before.before.before.awaited.given in
-    field_is start.args.pairs (Time given.0.0 given.0.1.0) given.1 (slice start.args.at start.args.limit start.args.text.now) c.read-time.result (c.read-time.ensures ∙ ap (λ (n : Number). timeRead start.args.pairs given.0.0 given.0.1.0 n) c.before.read_number.ensures)
+    field_is start.args.pairs (Time given.0.0 given.0.1.0) given.1 (slice start.args.at start.args.limit start.args.text.now) c.read-time.result (c.read-time.ensures ∙ ap (λ (n : Number). time_read start.args.pairs given.0.0 given.0.1.0 n) c.before.read_number.ensures)
 
 returns-4 : tie.Need-returns-4
 returns-4 c = field_is c.before.before.before.args.pairs Nothing c.enum-told3.given.1 (slice c.before.before.before.args.at c.before.before.before.args.limit c.before.before.before.args.text.now) c.before.before.before.args.pairs refl

@@ -1,5 +1,5 @@
 -- `read_time` meets its contract: what is no number leaves nothing awaited, a number is the port's time, and the next port's is awaited.
-use Rattle.recording.proofs.Reading.{time-none, time-value}
+use Rattle.recording.proofs.Reading.{time_none, time_value}
 use native.Mathlib.Omega.{arith}
 use Rattle.recording.proofs.pairs.read_time.Statement.{statement}
 use Rattle.recording.proofs.pairs.read_time.Tie as tie
@@ -14,7 +14,7 @@ awaits-requires : tie.Need-awaits-requires
 awaits-requires c κs = omega arith
 
 returns : tie.Need-returns
-returns c = time-none c.before.before.before.args.pairs c.before.before.before.args.timer c.before.before.before.args.i c.before.before.before.args.number c.before.enum_told.given.1 c.awaits.result c.awaits.ensures
+returns c = time_none c.before.before.before.args.pairs c.before.before.before.args.timer c.before.before.before.args.i c.before.before.before.args.number c.before.enum_told.given.1 c.awaits.result c.awaits.ensures
 
 with-time-requires : tie.Need-with-time-requires
 with-time-requires c κs = omega arith
@@ -29,7 +29,7 @@ with-settings-requires : tie.Need-with-settings-requires
 with-settings-requires c κs = omega arith
 
 returns-2 : tie.Need-returns-2
-returns-2 c = time-value c.before.before.before.before.before.before.before.args.pairs c.before.before.before.before.before.before.before.args.timer c.before.before.before.before.before.before.before.args.i c.before.before.before.before.before.before.before.args.number c.before.before.before.before.before.number.given.0.0 c.before.before.before.before.before.number.given.1 c.before.before.with-time.result c.before.time-from.result c.with-settings.result c.with-settings.ensures c.before.before.with-time.ensures c.before.time-from.ensures
+returns-2 c = time_value c.before.before.before.before.before.before.before.args.pairs c.before.before.before.before.before.before.before.args.timer c.before.before.before.before.before.before.before.args.i c.before.before.before.before.before.before.before.args.number c.before.before.before.before.before.number.given.0.0 c.before.before.before.before.before.number.given.1 c.before.before.with-time.result c.before.time-from.result c.with-settings.result c.with-settings.ensures c.before.before.with-time.ensures c.before.time-from.ensures
 
 pub read-time-spec : {M : Type 1} → statement M
 read-time-spec =

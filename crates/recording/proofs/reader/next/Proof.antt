@@ -42,7 +42,7 @@ use denote.Triple.Table.{entered, cited}
 use denote.Triple.Walked.{says, Stays, stay_none, walk_of, Goes-none, Walks, ends_at, walked, walk_Meets}
 use denote.Exit.{yes}
 use denote.Triple.Clauses.{ensured, lasts}
-use Rattle.recording.specs.Record.{recordIn}
+use Rattle.recording.specs.Record.{record_in}
 use Rattle.recording.specs.declared.reader.Reader.{Reader}
 use Rattle.recording.specs.declared.record.Record.{Record}
 use Rattle.recording.specs.contracts.reader.Reader as T
@@ -81,7 +81,7 @@ module _ {M : Type 1} {𝓤 : Ura M} (𝓛 : Logic 𝓤) (mem : Memory → SProp
   v = slice_val d.text.ref_ptr (length d.text.now)
 
   abbrev found : Record
-  found = recordIn n m d.at (behind d.at d.text.now)
+  found = record_in n m d.at (behind d.at d.text.now)
 
   abbrev at : Vals next.signature (κ, tt)
   at = (mach ∷ [], (vint w32 n ∷ [], (vint w32 m ∷ [], tt)))

@@ -38,8 +38,8 @@ use denote.Triple.Table.{entered, cited}
 use denote.Triple.Walked.{says, Stays, stay_none, stay_none_slice, walk_of, Goes-none, Goes-none_slice, Walks, ends_at, walked, walk_Meets}
 use denote.Exit.{yes}
 use denote.Triple.Clauses.{ensured, lasts}
-use Rattle.recording.specs.Reader.{readerAt}
-use Rattle.recording.specs.Record.{recordIn}
+use Rattle.recording.specs.Reader.{reader_at}
+use Rattle.recording.specs.Record.{record_in}
 use Rattle.recording.specs.declared.reader.Reader.{Reader}
 use Rattle.recording.specs.declared.record.Record.{Record}
 use Rattle.recording.specs.contracts.reader.Reader as T
@@ -89,7 +89,7 @@ module _ {M : Type 1} {𝓤 : Ura M} (𝓛 : Logic 𝓤) (mem : Memory → SProp
   v = slice_val s.ref_ptr (length s.now)
 
   abbrev found : Record
-  found = recordIn n m k (behind k s.now)
+  found = record_in n m k (behind k s.now)
 
   -- the struct's type as a local of a body has it
   abbrev αᵉ : NamedLft
@@ -119,8 +119,8 @@ module _ {M : Type 1} {𝓤 : Ura M} (𝓛 : Logic 𝓤) (mem : Memory → SProp
       -- [what s owns; what is kept; the token]
       move ! (2 ∷ 0 ∷ []) $ use2 𝓛 (raw ((On 𝓛 mem run).pre to-on)) (qed 𝓛 ((‵ (flft κ q) ⊛ ‵ ftrue) ∷ ‵ (owns (ShrSlice (named 0) κ u8 ∷ []) (s, tt) (v ∷ [], tt)) ∷ []) ∵ join ! $ frame ! $ done !) $ frame ! $ done !
 
-  on-said : (r : Reader) → ent 𝓤 (ensured 𝓛 on.ended (on.clauses 𝓛 mem run) (κ, tt) (s, tt) tt r) (fact 𝓤 (r ≡ readerAt s 0))
-  on-said r = ex_e 𝓤 _ (λ ws. snd∗ 𝓤 (sem 𝓛 (lasts on.ended (κ, tt) (s, tt) ws)) (fact 𝓤 (r ≡ readerAt s 0)))
+  on-said : (r : Reader) → ent 𝓤 (ensured 𝓛 on.ended (on.clauses 𝓛 mem run) (κ, tt) (s, tt) tt r) (fact 𝓤 (r ≡ reader_at s 0))
+  on-said r = ex_e 𝓤 _ (λ ws. snd∗ 𝓤 (sem 𝓛 (lasts on.ended (κ, tt) (s, tt) ws)) (fact 𝓤 (r ≡ reader_at s 0)))
 
   -- the call of `moved`, at the struct r with the machine value u
   abbrev to-moved : Reader → Val → (Moved 𝓛 mem run).Ghost
@@ -131,8 +131,8 @@ module _ {M : Type 1} {𝓤 : Ura M} (𝓛 : Logic 𝓤) (mem : Memory → SProp
       qed 𝓛 (‵ ((B (κ, tt)).own r (u ∷ [])) ∷ (‵ (flft κ q) ⊛ ‵ ftrue) ∷ []) ∵ nothing ! $ owned ! usize (Is usize) (uint_Makes 𝓛 w64) k _ (refl, okk) $ fjoin ! $
       move ! (1 ∷ 0 ∷ []) $ fjoin ! $ move ! (1 ∷ 0 ∷ []) $ join ! $ frame ! $ done !
 
-  moved-said : (r t : Reader) → ent 𝓤 (ensured 𝓛 moved.ended (moved.clauses 𝓛 mem run) (κ, tt) (r, (k, tt)) tt t) (fact 𝓤 (t ≡ readerAt r.text k))
-  moved-said r t = ex_e 𝓤 _ (λ ws. snd∗ 𝓤 (sem 𝓛 (lasts moved.ended (κ, tt) (r, (k, tt)) ws)) (fact 𝓤 (t ≡ readerAt r.text k)))
+  moved-said : (r t : Reader) → ent 𝓤 (ensured 𝓛 moved.ended (moved.clauses 𝓛 mem run) (κ, tt) (r, (k, tt)) tt t) (fact 𝓤 (t ≡ reader_at r.text k))
+  moved-said r t = ex_e 𝓤 _ (λ ws. snd∗ 𝓤 (sem 𝓛 (lasts moved.ended (κ, tt) (r, (k, tt)) ws)) (fact 𝓤 (t ≡ reader_at r.text k)))
 
   -- the call of `next`
   abbrev to-next : Reader → Val → (Next 𝓛 mem run).Ghost
@@ -143,8 +143,8 @@ module _ {M : Type 1} {𝓤 : Ura M} (𝓛 : Logic 𝓤) (mem : Memory → SProp
       qed 𝓛 (‵ ((B (κ, tt)).own r (u ∷ [])) ∷ (‵ (flft κ q) ⊛ ‵ ftrue) ∷ []) ∵ nothing ! $ owned ! u32 (Is u32) (uint_Makes 𝓛 w32) m _ (refl, okm) $ fjoin ! $ owned ! u32 (Is u32) (uint_Makes 𝓛 w32) n _ (refl, okn) $ fjoin ! $
       move ! (1 ∷ 0 ∷ []) $ fjoin ! $ move ! (1 ∷ 0 ∷ []) $ join ! $ frame ! $ done !
 
-  next-said : (r : Reader) (t : Record) → ent 𝓤 (ensured 𝓛 next.ended (next.clauses 𝓛 mem run) (κ, tt) (r, (n, (m, tt))) tt t) (fact 𝓤 (t ≡ recordIn n m r.at (behind r.at r.text.now)))
-  next-said r t = ex_e 𝓤 _ (λ ws. snd∗ 𝓤 (sem 𝓛 (lasts next.ended (κ, tt) (r, (n, (m, tt))) ws)) (fact 𝓤 (t ≡ recordIn n m r.at (behind r.at r.text.now))))
+  next-said : (r : Reader) (t : Record) → ent 𝓤 (ensured 𝓛 next.ended (next.clauses 𝓛 mem run) (κ, tt) (r, (n, (m, tt))) tt t) (fact 𝓤 (t ≡ record_in n m r.at (behind r.at r.text.now)))
+  next-said r t = ex_e 𝓤 _ (λ ws. snd∗ 𝓤 (sem 𝓛 (lasts next.ended (κ, tt) (r, (n, (m, tt))) ws)) (fact 𝓤 (t ≡ record_in n m r.at (behind r.at r.text.now))))
 
   exits : (t : Record) (u : Val) → t ≡ found → ent 𝓤 (⋆ 𝓛 (‵ ((S.the_row).own_val t (u ∷ [])) ∷ (‵ (flft κ q) ⊛ ‵ ftrue) ∷ ‵ Kept ∷ [])) (Post u)
   exits t u e =
@@ -153,8 +153,8 @@ module _ {M : Type 1} {𝓤 : Ura M} (𝓛 : Logic 𝓤) (mem : Memory → SProp
       move ! (1 ∷ []) $ frame ! $ move ! (1 ∷ []) $ frame ! $ done !
 
   -- the three calls' facts together
-  joined : (r t : Reader) (p : Record) → r ≡ readerAt s 0 → t ≡ readerAt r.text k → p ≡ recordIn n m t.at (behind t.at t.text.now) → p ≡ found
-  joined r t p e f g = g ∙ ap (λ (x : Reader). recordIn n m x.at (behind x.at x.text.now)) (f ∙ ap (λ (x : Reader). readerAt x.text k) e)
+  joined : (r t : Reader) (p : Record) → r ≡ reader_at s 0 → t ≡ reader_at r.text k → p ≡ record_in n m t.at (behind t.at t.text.now) → p ≡ found
+  joined r t p e f g = g ∙ ap (λ (x : Reader). record_in n m x.at (behind x.at x.text.now)) (f ∙ ap (λ (x : Reader). reader_at x.text k) e)
 
   module _ (C : Calls 𝓤 H) (Λ : Loops 𝓤 H) (fm : FmC 𝓤 H 𝓛.laws C) (known_on : Triple 𝓤 (C #reader-on) (On 𝓛 mem run)) (known-moved : Triple 𝓤 (C #moved) (Moved 𝓛 mem run)) (known_next : Triple 𝓤 (C #next) (Next 𝓛 mem run)) where
     walk : Is (ShrSlice (named 0) κ u8) s (v ∷ []) → ent 𝓤 (on_entry 𝓛 here.signature (κ, tt) (q, tt) (s, (k, (n, (m, tt)))) at) (WpFn 𝓤 H C Λ code.function (v ∷ vint w64 k ∷ vint w32 n ∷ vint w32 m ∷ []) Post)
@@ -165,21 +165,21 @@ module _ {M : Type 1} {𝓤 : Ura M} (𝓛 : Logic 𝓤) (mem : Memory → SProp
         move ! (14 ∷ []) $ use1 𝓛 (raw ((On 𝓛 mem run).pre to-on) ⊛ ‵ Kept) goes_on $ split ! $
         calls_at ! fm (On 𝓛 mem run) known_on to-on (and_then ! (load ! (from ! (stop !)) (look ! 12 refl)) (no_more !)) (λ u.
         use1 𝓛 (later (some (λ (r : Reader). ((‵ (flft κ q) ⊛ ‵ ftrue) ⊛ ‵ ((B (κ, tt)).own r (u ∷ []))) ⊛ raw (ensured 𝓛 on.ended (on.clauses 𝓛 mem run) (κ, tt) (s, tt) tt r)))) (id⊢ 𝓤 _) $ await ! tt $ pick ! (λ r.
-        split ! $ move ! (1 ∷ []) $ use1 𝓛 (raw (fact 𝓤 (r ≡ readerAt s 0))) (on-said r) $ heard ! (r ≡ readerAt s 0) (λ e. split ! $ move ! (1 ∷ []) $
+        split ! $ move ! (1 ∷ []) $ use1 𝓛 (raw (fact 𝓤 (r ≡ reader_at s 0))) (on-said r) $ heard ! (r ≡ reader_at s 0) (λ e. split ! $ move ! (1 ∷ []) $
         -- [what the struct owns; the token; what is kept; room for _6; …; room for _5; …; _4; …; _3; …; _2; …; _1; …; room for _0; …]
         peeks ! (B (κ, tt)) (Is (B (κ, tt))) (shows 𝓛 (B (κ, tt))) r (u ∷ []) (λ is.
         land ! (from ! (stop !)) (init ! 3 refl ((LL.lawful (T.the_type αᵉ) (T'.the_laws αᵉ) 𝓛).typed r _ is).0) $
         use2 𝓛 (raw ((Moved 𝓛 mem run).pre (to-moved r u))) (goes_moved r u) $
         calls_at ! fm (Moved 𝓛 mem run) known-moved (to-moved r u) (and_then ! (load ! (from ! (stop !)) (look ! 2 refl)) (and_then ! (load ! (from ! (stop !)) (look ! 10 refl)) (no_more !))) (λ u'.
         use1 𝓛 (later (some (λ (t : Reader). ((‵ (flft κ q) ⊛ ‵ ftrue) ⊛ ‵ ((B (κ, tt)).own t (u' ∷ []))) ⊛ raw (ensured 𝓛 moved.ended (moved.clauses 𝓛 mem run) (κ, tt) (r, (k, tt)) tt t)))) (id⊢ 𝓤 _) $ await ! tt $ pick ! (λ t.
-        split ! $ move ! (1 ∷ []) $ use1 𝓛 (raw (fact 𝓤 (t ≡ readerAt r.text k))) (moved-said r t) $ heard ! (t ≡ readerAt r.text k) (λ f. split ! $ move ! (1 ∷ []) $
+        split ! $ move ! (1 ∷ []) $ use1 𝓛 (raw (fact 𝓤 (t ≡ reader_at r.text k))) (moved-said r t) $ heard ! (t ≡ reader_at r.text k) (λ f. split ! $ move ! (1 ∷ []) $
         -- [what the struct owns; the token; what is kept; _6; …; room for _5; …; _4; …; _3; …; _2; …; _1; …; room for _0; …]
         peeks ! (B (κ, tt)) (Is (B (κ, tt))) (shows 𝓛 (B (κ, tt))) t (u' ∷ []) (λ is'.
         land ! (from ! (stop !)) (init ! 5 refl ((LL.lawful (T.the_type αᵉ) (T'.the_laws αᵉ) 𝓛).typed t _ is').0) $
         use2 𝓛 (raw ((Next 𝓛 mem run).pre (to-next t u'))) (goes-next t u') $
         calls_at ! fm (Next 𝓛 mem run) known_next (to-next t u') (and_then ! (load ! (from ! (stop !)) (look ! 4 refl)) (and_then ! (load ! (from ! (stop !)) (look ! 8 refl)) (and_then ! (load ! (from ! (stop !)) (look ! 6 refl)) (no_more !)))) (λ u''.
         use1 𝓛 (later (some (λ (x : Record). ((‵ (flft κ q) ⊛ ‵ ftrue) ⊛ ‵ ((S.the_row).own_val x (u'' ∷ []))) ⊛ raw (ensured 𝓛 next.ended (next.clauses 𝓛 mem run) (κ, tt) (t, (n, (m, tt))) tt x)))) (id⊢ 𝓤 _) $ await ! tt $ pick ! (λ x.
-        split ! $ move ! (1 ∷ []) $ use1 𝓛 (raw (fact 𝓤 (x ≡ recordIn n m t.at (behind t.at t.text.now)))) (next-said t x) $ heard ! (x ≡ recordIn n m t.at (behind t.at t.text.now)) (λ g. split ! $ move ! (1 ∷ []) $
+        split ! $ move ! (1 ∷ []) $ use1 𝓛 (raw (fact 𝓤 (x ≡ record_in n m t.at (behind t.at t.text.now)))) (next-said t x) $ heard ! (x ≡ record_in n m t.at (behind t.at t.text.now)) (λ g. split ! $ move ! (1 ∷ []) $
         -- [the result; the token; what is kept; _6; …; _5; …; _4; …; _3; …; _2; …; _1; …; room for _0; …]
         peeks ! S.the_row (Is S.the_row) (shows 𝓛 S.the_row) x (u'' ∷ []) (λ is''.
         land ! (from ! (stop !)) (init ! 15 refl ((EL.lawful S.the_type S'.the_laws 𝓛 tt).typed x _ is'').0) $

@@ -1,6 +1,6 @@
 -- `frame_behind` meets its contract: port, H4, flag and payload, each read where a frame's line has it; the calls follow the definition.
 use native.Mathlib.Omega.{arith}
-use Rattle.recording.specs.Laws.Here.{frameBehind}
+use Rattle.recording.specs.Laws.Here.{frame_behind}
 use Rattle.recording.proofs.record.frame_behind.Statement.{statement}
 use Rattle.recording.proofs.record.frame_behind.Tie as tie
 
@@ -44,7 +44,7 @@ frame-by-requires : tie.Need-frame-by-requires
 frame-by-requires c κs = omega arith
 
 returns : tie.Need-returns
-unfolding frameBehind
+unfolding frame_behind
 returns c =
     rw (← c.before.before.before.before.before.read_number.ensures, ← c.before.before.before.before.read-hex.ensures, ← c.before.before.before.flag-in.ensures, ← c.before.before.digits_of.ensures, ← c.before.is-hex.ensures)
     c.frame-by.ensures

@@ -6,8 +6,8 @@ use native.Mathlib.Omega.{arith}
 use Rattle.text.specs.Text.{TAB}
 use Rattle.recording.proofs.record.frame_here.Statement.{statement}
 use Rattle.recording.proofs.record.frame_here.Tie as tie
-use Rattle.recording.specs.Laws.Here.{here-is, piece-within}
-use Rattle.recording.specs.Record.{isFrame}
+use Rattle.recording.specs.Laws.Here.{here_is, piece_within}
+use Rattle.recording.specs.Record.{is_frame}
 
 returns : tie.Need-returns
 returns c = λ t. absurd (false≢true t)
@@ -20,7 +20,7 @@ piece-end-requires c κs = omega arith
 
 add-end : tie.Need-overflow-add-end
 add-end c =
-    let w = piece-within TAB c.before.before.before.args.text.now c.before.before.before.args.at (c.before.before.before.args.at + 10) (omega arith) in
+    let w = piece_within TAB c.before.before.before.args.text.now c.before.before.before.args.at (c.before.before.before.args.at + 10) (omega arith) in
     let e = c.piece-end.ensures in
     omega arith
 
@@ -29,7 +29,7 @@ digits-of-requires c κs = omega arith
 
 add-end-2 : tie.Need-overflow-add-end-2
 add-end-2 c =
-    let w = piece-within TAB c.before.before.before.before.args.text.now c.before.before.before.before.args.at (c.before.before.before.before.args.at + 10) (omega arith) in
+    let w = piece_within TAB c.before.before.before.before.args.text.now c.before.before.before.before.args.at (c.before.before.before.before.args.at + 10) (omega arith) in
     let e = c.before.piece-end.ensures in
     let d = c.digits_of.ensures in
     omega arith
@@ -58,7 +58,7 @@ returns-4 c =
     let e = c.frame-behind.ensures in
     let q = piece-end.ensures in
     let h : start.args.at ≤ piece-end.result = omega arith in
-    λ t. e ∙ here-is start.args.ports start.args.size start.args.text.now start.args.at piece-end.result (piece-end.result + 6 + digits_of.result) h (ap (λ (n : ℕ). piece-end.result + 6 + n) digits_of.ensures) test2.false c.before.before.before.if3.false (sym c.before.before.is-parted.ensures ∙ c.before.if4.true) (sym (ap isFrame e) ∙ t)
+    λ t. e ∙ here_is start.args.ports start.args.size start.args.text.now start.args.at piece-end.result (piece-end.result + 6 + digits_of.result) h (ap (λ (n : ℕ). piece-end.result + 6 + n) digits_of.ensures) test2.false c.before.before.before.if3.false (sym c.before.before.is-parted.ensures ∙ c.before.if4.true) (sym (ap is_frame e) ∙ t)
 
 returns-5 : tie.Need-returns-5
 returns-5 c = λ t. absurd (false≢true t)

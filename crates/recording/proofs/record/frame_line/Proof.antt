@@ -3,7 +3,7 @@ use mathlib.Core.Path.{ap, ◌∙◌}
 use Prim.Native.Nat.{ℕ, ◌+◌}
 use lib.Seq.{slice}
 use native.Mathlib.Omega.{arith}
-use Rattle.text.specs.Fields.{isHex}
+use Rattle.text.specs.Fields.{is_hex}
 use Rattle.recording.specs.Laws.Parting.{five, four}
 use Rattle.recording.proofs.record.frame_line.Statement.{statement}
 use Rattle.recording.proofs.record.frame_line.Tie as tie
@@ -56,7 +56,7 @@ returns-2 c =
     let flag-in = c.before.before.before.flag-in in
     let is-hex = c.before.is-hex in
     let s = c.before.before.before.before.before.before.before.before.before in
-    four s.args.ports s.args.size s.args.text.now s.args.end s.args.next s.requires.3 s.args.at s.args.first s.args.second s.args.third piece-end.result s.requires.2 piece-end.ensures test1.false read_number.result read-hex.result flag-in.result is-hex.result read_number.ensures read-hex.ensures flag-in.ensures (is-hex.ensures ∙ ap (λ (n : ℕ). isHex n (slice (s.args.third + 1) s.args.end s.args.text.now)) c.before.before.digits_of.ensures) c.frame-by.result c.frame-by.ensures
+    four s.args.ports s.args.size s.args.text.now s.args.end s.args.next s.requires.3 s.args.at s.args.first s.args.second s.args.third piece-end.result s.requires.2 piece-end.ensures test1.false read_number.result read-hex.result flag-in.result is-hex.result read_number.ensures read-hex.ensures flag-in.ensures (is-hex.ensures ∙ ap (λ (n : ℕ). is_hex n (slice (s.args.third + 1) s.args.end s.args.text.now)) c.before.before.digits_of.ensures) c.frame-by.result c.frame-by.ensures
 
 pub frame-line-spec : {M : Type 1} → statement M
 frame-line-spec = tie.close (tie.spec add-piece-end piece-end-requires returns read-number-requires add-read-hex read-hex-requires add-flag-in flag-in-requires digits-of-requires add-is-hex is-hex-requires add-frame-by frame-by-requires returns-2)

@@ -1,7 +1,7 @@
 -- The four bytes that part and end a record are read at their places: all lie in the text, since the end does and is six behind the first at least.
 use native.Mathlib.Omega.{arith}
 use borrow.Author.Rules.{rules}
-use Rattle.recording.specs.Laws.Here.{partedAt}
+use Rattle.recording.specs.Laws.Here.{parted_at}
 use Rattle.recording.proofs.record.is_parted.Statement.{statement}
 use Rattle.recording.proofs.record.is_parted.Tie as tie
 
@@ -24,7 +24,7 @@ shared-slice-read-result-4 : tie.Need-shared-slice-read-result-4
 shared-slice-read-result-4 c = omega arith
 
 returns : tie.Need-returns
-unfolding partedAt
+unfolding parted_at
 returns c = search rules
 
 pub is-parted-spec : {M : Type 1} → statement M

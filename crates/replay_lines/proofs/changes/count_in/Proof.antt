@@ -1,5 +1,5 @@
 use Rattle.std.proofs.Common.{arith}
-use Rattle.replay_lines.specs.Output.{countIn}
+use Rattle.replay_lines.specs.Output.{count_in}
 use Rattle.replay_lines.proofs.changes.count_in.Statement.{statement}
 use Rattle.replay_lines.proofs.changes.count_in.Tie as tie
 
@@ -19,7 +19,7 @@ count-of-requires : tie.Need-count-of-requires
 count-of-requires c κs = omega arith
 
 returns : tie.Need-returns
-unfolding countIn
+unfolding count_in
 returns c = c.count_of.ensures
 
 pub count-in-spec : {M : Type 1} → statement M

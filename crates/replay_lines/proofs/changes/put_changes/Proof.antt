@@ -1,18 +1,18 @@
 use Rattle.std.proofs.Common.{◌≡◌, ◌-◌, ◌≤◌, length, arith, rules}
 use Rattle.text.specs.Output.{Put}
-use Rattle.replay_lines.specs.Output.{changesText}
-use Rattle.replay_lines.proofs.Printing.{changes-none, one_more, room-for-one}
+use Rattle.replay_lines.specs.Output.{changes_text}
+use Rattle.replay_lines.proofs.Printing.{changes_none, one_more, room_for_one}
 use Rattle.replay_lines.proofs.changes.put_changes.Statement.{statement}
 use Rattle.replay_lines.proofs.changes.put_changes.Tie as tie
 
 abbrev invariant-loop : tie.invariant-loop
-invariant-loop ports said₀ start before after at₀ i₀ said at i = (length before ≡ 64) × (length after ≡ 64) × (i ≤ ports) × Put (changesText before after i) start said₀ at said
+invariant-loop ports said₀ start before after at₀ i₀ said at i = (length before ≡ 64) × (length after ≡ 64) × (i ≤ ports) × Put (changes_text before after i) start said₀ at said
 
 abbrev decreases-loop : tie.decreases-loop
 decreases-loop ports said₀ start before after at₀ i₀ said at i = ports - i
 
 loop-holds : tie.Need-loop-init invariant-loop decreases-loop
-loop-holds c = (search rules, search rules, omega arith, changes-none c.before.args.t1 c.before.args.t2 c.before.args.said.now c.before.args.start)
+loop-holds c = (search rules, search rules, omega arith, changes_none c.before.args.t1 c.before.args.t2 c.before.args.said.now c.before.args.start)
 
 cast-old : tie.Need-overflow-cast-old invariant-loop decreases-loop
 cast-old c = omega arith
@@ -33,7 +33,7 @@ array-read-new : tie.Need-array-read-new invariant-loop decreases-loop
 array-read-new c = omega arith
 
 put-change-requires : tie.Need-put-change-requires invariant-loop decreases-loop
-put-change-requires c κs = (omega (arith, c.before.before.before.before.requires.0), room-for-one c.before.before.before.before.args.t1 c.before.before.before.before.args.t2 c.before.before.loop.i c.before.before.loop.invariant.3 (omega (arith, c.before.before.before.before.requires.0)) c.before.before.before.before.requires.1)
+put-change-requires c κs = (omega (arith, c.before.before.before.before.requires.0), room_for_one c.before.before.before.before.args.t1 c.before.before.before.before.args.t2 c.before.before.loop.i c.before.before.loop.invariant.3 (omega (arith, c.before.before.before.before.requires.0)) c.before.before.before.before.requires.1)
 
 add-i : tie.Need-overflow-add-i invariant-loop decreases-loop
 add-i c = omega arith

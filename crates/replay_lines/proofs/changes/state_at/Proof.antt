@@ -1,5 +1,5 @@
 use Rattle.std.proofs.Common.{arith}
-use Rattle.replay_lines.specs.Output.{stateAt}
+use Rattle.replay_lines.specs.Output.{state_at}
 use Rattle.replay_lines.proofs.changes.state_at.Statement.{statement}
 use Rattle.replay_lines.proofs.changes.state_at.Tie as tie
 
@@ -22,7 +22,7 @@ add-result : tie.Need-overflow-add-result
 add-result c = omega (arith, c.wide2.ensures.1, c.before.wide.ensures.1)
 
 returns : tie.Need-returns
-unfolding stateAt
+unfolding state_at
 returns c = rw (c.before.wide.ensures.0, c.wide2.ensures.0, c.before.before.number-of.ensures, c.before.before.before.get.ensures)
 
 pub state-at-spec : {M : Type 1} → statement M

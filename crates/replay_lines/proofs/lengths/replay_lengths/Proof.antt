@@ -1,7 +1,7 @@
 use Rattle.std.proofs.Common.{true, arith}
-use Rattle.recording.specs.Opening.{openingIn}
-use Rattle.recording.specs.Theorems.Lines.{handed-end, handed-malformed, handed-set, handed-unfinished}
-use Rattle.replay_lines.specs.Lengths.{lengthsOf}
+use Rattle.recording.specs.Opening.{opening_in}
+use Rattle.recording.specs.Theorems.Lines.{handed_end, handed_malformed, handed_set, handed_unfinished}
+use Rattle.replay_lines.specs.Lengths.{lengths_of}
 use Rattle.replay_lines.proofs.lengths.replay_lengths.Statement.{statement}
 use Rattle.replay_lines.proofs.lengths.replay_lengths.Tie as tie
 
@@ -33,27 +33,27 @@ none-requires-3 : tie.Need-none-requires-3
 none-requires-3 c κs = omega arith
 
 returns : tie.Need-returns
-unfolding lengthsOf
+unfolding lengths_of
 returns c =
-    rw (handed-set (openingIn 0 true c.before.before.before.before.before.before.args.text.now) c.before.before.before.before.opening-at.result
+    rw (handed_set (opening_in 0 true c.before.before.before.before.before.before.args.text.now) c.before.before.before.before.opening-at.result
     c.before.before.before.before.opening-at.ensures c.before.before.enum_told.given.1) c.lengths-in.ensures
 
 returns-2 : tie.Need-returns-2
-unfolding lengthsOf
+unfolding lengths_of
 returns-2 c =
-    rw (handed-malformed (openingIn 0 true c.before.before.before.before.before.args.text.now) c.before.before.before.opening-at.result
+    rw (handed_malformed (opening_in 0 true c.before.before.before.before.before.args.text.now) c.before.before.before.opening-at.result
     c.before.before.before.opening-at.ensures c.before.enum-told2.given.1) c.none.ensures
 
 returns-3 : tie.Need-returns-3
-unfolding lengthsOf
+unfolding lengths_of
 returns-3 c =
-    rw (handed-unfinished (openingIn 0 true c.before.before.before.before.before.args.text.now) c.before.before.before.opening-at.result
+    rw (handed_unfinished (opening_in 0 true c.before.before.before.before.before.args.text.now) c.before.before.before.opening-at.result
     c.before.before.before.opening-at.ensures c.before.enum-told3.given.1) c.none2.ensures
 
 returns-4 : tie.Need-returns-4
-unfolding lengthsOf
+unfolding lengths_of
 returns-4 c =
-    rw (handed-end (openingIn 0 true c.before.before.before.before.before.args.text.now) c.before.before.before.opening-at.result
+    rw (handed_end (opening_in 0 true c.before.before.before.before.before.args.text.now) c.before.before.before.opening-at.result
     c.before.before.before.opening-at.ensures c.before.enum-told4.given.1) c.none3.ensures
 
 pub replay-lengths-spec : {M : Type 1} → statement M

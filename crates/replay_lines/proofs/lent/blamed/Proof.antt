@@ -1,5 +1,5 @@
 use Rattle.std.proofs.Common.{ℕ, List, get_or, sym, ap, length-take-le, rules}
-use Rattle.replay_lines.specs.Turn.{blamedIn}
+use Rattle.replay_lines.specs.Turn.{blamed_in}
 use Rattle.replay_lines.proofs.lent.blamed.Statement.{statement}
 use Rattle.replay_lines.proofs.lent.blamed.Tie as tie
 
@@ -16,7 +16,7 @@ array-read-result : tie.Need-array-read-result
 array-read-result c = search rules
 
 returns : tie.Need-returns
-unfolding blamedIn
+unfolding blamed_in
 returns c = ap (λ (l : List ℕ). get_or l 1 0) c.before.cause2.ensures.1
 
 pub blamed-spec : {M : Type 1} → statement M

@@ -1,5 +1,5 @@
 use Rattle.std.proofs.Common.{◌≡◌, ◌-◌, ◌<◌, ◌≤◌, ◌++◌, length, drop, replicate, refl, arith, length-set}
-use Rattle.replay_lines.proofs.Clearing.{clear-all, clear-turn}
+use Rattle.replay_lines.proofs.Clearing.{clear_all, clear_turn}
 use Rattle.replay_lines.proofs.lent.clear_rows.Statement.{statement}
 use Rattle.replay_lines.proofs.lent.clear_rows.Tie as tie
 
@@ -27,7 +27,7 @@ loop-less c = omega arith
 loop-again : tie.Need-loop-preserved invariant-loop decreases-loop
 loop-again c =
     let h : c.before.loop.i < length c.before.before.args.rows.now = omega arith in
-    (omega arith, simp length-set c.before.loop.invariant.1, clear-turn (replicate 16 0) c.before.loop.i c.before.before.args.rows.now c.before.loop.rows h c.before.loop.invariant.2)
+    (omega arith, simp length-set c.before.loop.invariant.1, clear_turn (replicate 16 0) c.before.loop.i c.before.before.args.rows.now c.before.loop.rows h c.before.loop.invariant.2)
 
 same_length : tie.Need-same-length invariant-loop decreases-loop
 same_length c = omega arith
@@ -35,7 +35,7 @@ same_length c = omega arith
 returns : tie.Need-returns invariant-loop decreases-loop
 returns c =
     let e : c.before.loop.i ≡ length c.before.before.args.rows.now = omega arith in
-    clear-all (replicate 16 0) c.before.loop.i c.before.before.args.rows.now c.before.loop.rows e c.before.loop.invariant.2
+    clear_all (replicate 16 0) c.before.loop.i c.before.before.args.rows.now c.before.loop.rows e c.before.loop.invariant.2
 
 pub clear-rows-spec : {M : Type 1} → statement M
 clear-rows-spec = tie.close (tie.spec invariant-loop decreases-loop loop-holds mul-t3 slice-set-from-rows add-i loop-less loop-again same_length returns)

@@ -1,5 +1,5 @@
 use Rattle.std.proofs.Common.{refl, arith}
-use Rattle.receiver.specs.Fetch.{dueIn}
+use Rattle.receiver.specs.Fetch.{due_in}
 use Rattle.replay_lines.proofs.lent.is_due_of.Statement.{statement}
 use Rattle.replay_lines.proofs.lent.is_due_of.Tie as tie
 
@@ -10,11 +10,11 @@ is-complete-requires : tie.Need-is-complete-requires
 is-complete-requires c κs = omega arith
 
 returns : tie.Need-returns
-unfolding dueIn
+unfolding due_in
 returns c = rw (← c.before.before.before.before.ports-in.ensures, c.before.if1.true) c.is-complete.ensures
 
 returns-2 : tie.Need-returns-2
-unfolding dueIn
+unfolding due_in
 returns-2 c = rw (← c.before.before.before.ports-in.ensures, c.if1.false) refl
 
 pub is-due-of-spec : {M : Type 1} → statement M

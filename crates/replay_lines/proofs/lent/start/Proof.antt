@@ -1,6 +1,6 @@
 use Rattle.std.proofs.Common.{◌≡◌, ℕ, ◌≤◌, length, replicate, sym, refl, arith, length-take-le}
 use lib.ListN.{length-map, length-replicate}
-use Rattle.replay_lines.specs.Turn.{clearedRows, startedRows}
+use Rattle.replay_lines.specs.Turn.{cleared_rows, started_rows}
 use Rattle.replay_lines.proofs.lent.start.Statement.{statement}
 use Rattle.replay_lines.proofs.lent.start.Tie as tie
 
@@ -32,7 +32,7 @@ slice-aggregate-start-as-3 : tie.Need-slice-aggregate-start-as-3
 slice-aggregate-start-as-3 c =
     let start = c.before.before.before.before.before.before.before.before.before in
     let clear-rows = c.before.before.before.before.before.before.before.clear-rows in
-    let n = length-replicate (length start.args.rows.now) (replicate {A = ℕ} 16 0) in let h : start.args.count ≤ length (clearedRows start.args.rows.now) = rw n start.requires.0 in rw clear-rows.ensures (sym (length-take-le start.args.count (clearedRows start.args.rows.now) h))
+    let n = length-replicate (length start.args.rows.now) (replicate {A = ℕ} 16 0) in let h : start.args.count ≤ length (cleared_rows start.args.rows.now) = rw n start.requires.0 in rw clear-rows.ensures (sym (length-take-le start.args.count (cleared_rows start.args.rows.now) h))
 
 start-as-requires : tie.Need-start-as-requires
 start-as-requires c κs = omega arith
@@ -41,7 +41,7 @@ same_length : tie.Need-same-length
 same_length c = omega arith
 
 returns : tie.Need-returns
-unfolding startedRows
+unfolding started_rows
 returns c =
     let start = c.before.before.before.before.before.before.before.before.before.before.before in
     let clear-rows = c.before.before.before.before.before.before.before.before.before.clear-rows in

@@ -1,6 +1,6 @@
 use Rattle.std.proofs.Common.{◌≡◌, ◌≤◌, length, sym, arith, length-take-le}
 use lib.ListN.{length-map}
-use Rattle.replay_lines.specs.Turn.{timesFit}
+use Rattle.replay_lines.specs.Turn.{times_fit}
 use Rattle.replay_lines.proofs.lent.times_fit.Statement.{statement}
 use Rattle.replay_lines.proofs.lent.times_fit.Tie as tie
 
@@ -26,7 +26,7 @@ times-within-requires-2 : tie.Need-times-within-requires-2
 times-within-requires-2 c κs = omega arith
 
 returns : tie.Need-returns
-unfolding timesFit
+unfolding times_fit
 returns c = rw (c.before.before.times-within.ensures, c.times-within2.ensures)
 
 pub times-fit-spec : {M : Type 1} → statement M

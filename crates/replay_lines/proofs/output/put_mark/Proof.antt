@@ -1,5 +1,5 @@
 use Rattle.std.proofs.Common.{arith}
-use Rattle.replay_lines.proofs.Printing.{mark-doubtful, mark-held, mark-sure}
+use Rattle.replay_lines.proofs.Printing.{mark_doubtful, mark_held, mark_sure}
 use Rattle.replay_lines.proofs.output.put_mark.Statement.{statement}
 use Rattle.replay_lines.proofs.output.put_mark.Tie as tie
 
@@ -13,7 +13,7 @@ same_length : tie.Need-same-length
 same_length c = omega arith
 
 returns : tie.Need-returns
-returns c = rw (mark-held c.before.before.before.before.before.before.before.args.mark c.before.before.before.before.before.if1.true) c.before.before.put.ensures
+returns c = rw (mark_held c.before.before.before.before.before.before.before.args.mark c.before.before.before.before.before.if1.true) c.before.before.put.ensures
 
 slice-aggregate-put-2 : tie.Need-slice-aggregate-put-2
 slice-aggregate-put-2 c = omega arith
@@ -29,7 +29,7 @@ returns-2 c =
     let start = c.before.before.before.before.before.before.before.before in
     let test1 = c.before.before.before.before.before.before.if1 in
     let test2 = c.before.before.before.before.before.if2 in
-    rw (mark-doubtful start.args.mark test1.false test2.true) c.before.before.put2.ensures
+    rw (mark_doubtful start.args.mark test1.false test2.true) c.before.before.put2.ensures
 
 slice-aggregate-put-3 : tie.Need-slice-aggregate-put-3
 slice-aggregate-put-3 c = omega arith
@@ -45,7 +45,7 @@ returns-3 c =
     let start = c.before.before.before.before.before.before.before.before in
     let test1 = c.before.before.before.before.before.before.if1 in
     let test2 = c.before.before.before.before.before.if2 in
-    rw (mark-sure start.args.mark test1.false test2.false) c.before.before.put3.ensures
+    rw (mark_sure start.args.mark test1.false test2.false) c.before.before.put3.ensures
 
 pub put-mark-spec : {M : Type 1} → statement M
 put-mark-spec = tie.close (tie.spec slice-aggregate-put put-requires same_length returns slice-aggregate-put-2 put-requires-2 same-length-2 returns-2 slice-aggregate-put-3 put-requires-3 same-length-3 returns-3)

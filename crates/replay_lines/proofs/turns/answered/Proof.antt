@@ -1,7 +1,7 @@
 use Rattle.std.proofs.Common.{◌≤◌, length, refl, arith}
-use Rattle.replay_lines.specs.Output.{answerText}
-use Rattle.replay_lines.specs.Turn.{answeredSaid, answeredTurn}
-use Rattle.replay_lines.proofs.Printing.{answer_le, put-over}
+use Rattle.replay_lines.specs.Output.{answer_text}
+use Rattle.replay_lines.specs.Turn.{answered_said, answered_turn}
+use Rattle.replay_lines.proofs.Printing.{answer_le, put_over}
 use Rattle.replay_lines.proofs.turns.answered.Statement.{statement}
 use Rattle.replay_lines.proofs.turns.answered.Tie as tie
 
@@ -15,11 +15,11 @@ same_length : tie.Need-same-length
 same_length c = omega arith
 
 returns : tie.Need-returns
-unfolding answeredTurn answeredSaid
+unfolding answered_turn answered_said
 returns c =
     let l = answer_le c.before.before.before.before.before.before.args.number c.before.before.before.before.next-line.result in
-    let h : length (answerText c.before.before.before.before.before.before.args.number c.before.before.before.before.next-line.result) ≤ length c.before.before.before.before.before.before.args.said.now = omega arith in
-    let q = rw c.before.before.before.before.next-line.ensures at (put-over c.before.before.put-answer.ensures h) in
+    let h : length (answer_text c.before.before.before.before.before.before.args.number c.before.before.before.before.next-line.result) ≤ length c.before.before.before.before.before.before.args.said.now = omega arith in
+    let q = rw c.before.before.before.before.next-line.ensures at (put_over c.before.before.put-answer.ensures h) in
     rw (c.before.before.before.before.next-line.ensures, q.0, q.1) (refl, refl)
 
 pub answered-spec : {M : Type 1} → statement M

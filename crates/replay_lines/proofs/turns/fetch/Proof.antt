@@ -1,5 +1,5 @@
 use Rattle.std.proofs.Common.{arith}
-use Rattle.replay_lines.specs.Turn.{fetchOutBy, fetchRecordBy, fetchRowsBy}
+use Rattle.replay_lines.specs.Turn.{fetch_out_by, fetch_record_by, fetch_rows_by}
 use Rattle.replay_lines.proofs.turns.fetch.Statement.{statement}
 use Rattle.replay_lines.proofs.turns.fetch.Tie as tie
 
@@ -22,7 +22,7 @@ same-length-2 : tie.Need-same-length-2
 same-length-2 c = omega arith
 
 returns : tie.Need-returns
-unfolding fetchOutBy fetchRecordBy fetchRowsBy
+unfolding fetch_out_by fetch_record_by fetch_rows_by
 returns c =
     let rows-for = c.before.before.before.before.before.before.before.before.before.rows-for in
     let store_of = c.before.before.before.before.before.before.before.before.store_of in

@@ -1,8 +1,8 @@
 -- The parts of rows and store that are handed on are as long as the receiver asks; the payload is what the line says, since it was read into zeros.
 use Rattle.std.proofs.Common.{ℕ, sym, refl, arith, length-take-le}
 use lib.ListN.{length-replicate}
-use Rattle.replay_lines.specs.Turn.{framedRows, framedStore}
-use Rattle.replay_lines.proofs.Deciding.{payload-is}
+use Rattle.replay_lines.specs.Turn.{framed_rows, framed_store}
+use Rattle.replay_lines.proofs.Deciding.{payload_is}
 use Rattle.replay_lines.proofs.turns.hand.Statement.{statement}
 use Rattle.replay_lines.proofs.turns.hand.Tie as tie
 
@@ -46,7 +46,7 @@ same-length-3 : tie.Need-same-length-3
 same-length-3 c = omega arith
 
 returns : tie.Need-returns
-unfolding framedRows framedStore
+unfolding framed_rows framed_store
 returns c =
     let read-payload = c.before.before.before.before.before.before.before.before.before.before.before.read-payload in
     let rows-for = c.before.before.before.before.before.before.before.before.rows-for in
@@ -55,7 +55,7 @@ returns c =
     let count = rows-for.ensures in
     let bytes = store_of.ensures in
     let read = read-payload.ensures in
-    let payload = payload-is start.args.replay.size start.args.place start.args.text.now start.args.payload.now _ start.requires.1 read in
+    let payload = payload_is start.args.replay.size start.args.place start.args.text.now start.args.payload.now _ start.requires.1 read in
     let taken = c.before.before.before.frame.ensures in
     let rows = rw (count, bytes, payload) at taken.1 in
     let store = rw (count, bytes, payload) at taken.2 in

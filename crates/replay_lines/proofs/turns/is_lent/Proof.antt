@@ -1,5 +1,5 @@
 use Rattle.std.proofs.Common.{arith}
-use Rattle.replay_lines.specs.Turn.{isLent}
+use Rattle.replay_lines.specs.Turn.{is_lent}
 use Rattle.replay_lines.proofs.turns.is_lent.Statement.{statement}
 use Rattle.replay_lines.proofs.turns.is_lent.Tie as tie
 
@@ -13,7 +13,7 @@ output-of-requires : tie.Need-output-of-requires
 output-of-requires c κs = omega arith
 
 returns : tie.Need-returns
-unfolding isLent
+unfolding is_lent
 returns c = rw (c.before.before.before.before.rows-for.ensures, c.before.before.before.store_of.ensures, c.before.before.output-of.ensures)
 
 pub is-lent-spec : {M : Type 1} → statement M

@@ -1,8 +1,8 @@
 use Rattle.std.proofs.Common.{length, drop, refl, ◌∙◌, arith, le-leb}
 use borrow.Author.Tests.{lt-leb}
-use Rattle.recording.specs.Theorems.Later.{first-end, first-malformed, first-set, first-unfinished}
-use Rattle.replay_lines.specs.Laws.Placed.{answered-placed}
-use Rattle.replay_lines.specs.Turn.{open_rows, openSaid, openTurn}
+use Rattle.recording.specs.Theorems.Later.{first_end, first_malformed, first_set, first_unfinished}
+use Rattle.replay_lines.specs.Laws.Placed.{answered_placed}
+use Rattle.replay_lines.specs.Turn.{open_rows, open_said, open_turn}
 use Rattle.replay_lines.proofs.turns.open.Statement.{statement}
 use Rattle.replay_lines.proofs.turns.open.Tie as tie
 
@@ -10,14 +10,14 @@ refused-requires : tie.Need-refused-requires
 refused-requires c κs = omega arith
 
 returns : tie.Need-returns
-unfolding openTurn open_rows openSaid
+unfolding open_turn open_rows open_said
 returns c = rw (lt-leb 1219 (length c.before.before.before.before.args.said.now) c.before.if1.true) (c.refused.ensures, refl, refl)
 
 refused-requires-2 : tie.Need-refused-requires-2
 refused-requires-2 c κs = omega arith
 
 returns-2 : tie.Need-returns-2
-unfolding openTurn open_rows openSaid
+unfolding open_turn open_rows open_said
 returns-2 c = rw (le-leb 1219 (length c.before.before.before.before.before.args.said.now) c.before.before.if1.false, lt-leb 321 (length c.before.before.before.before.before.args.rows.now) c.before.if2.true) (c.refused2.ensures, refl, refl)
 
 opening-at-requires : tie.Need-opening-at-requires
@@ -30,7 +30,7 @@ open-with-requires : tie.Need-open-with-requires
 open-with-requires c κs =
     let a = c.before.before.before.before.before.before.before.before.before.before.args in
     let found = c.before.before.before.before.before.opening-at in
-    let w = (first-set a.at a.last (drop a.at a.text.now) found.result found.ensures c.before.before.before.enum_told.given.1).0 in
+    let w = (first_set a.at a.last (drop a.at a.text.now) found.result found.ensures c.before.before.before.enum_told.given.1).0 in
     omega arith
 
 enum-told-2 : tie.Need-enum-told-2
@@ -58,20 +58,20 @@ same-length-2 : tie.Need-same-length-2
 same-length-2 c = omega arith
 
 returns-3 : tie.Need-returns-3
-unfolding openTurn open_rows openSaid
+unfolding open_turn open_rows open_said
 returns-3 c =
     let start = c.before.before.before.before.before.before.before.before.before.before.before.before.before.before in
     let test1 = c.before.before.before.before.before.before.before.before.before.before.before.if1 in
     let test2 = c.before.before.before.before.before.before.before.before.before.before.if2 in
     let opening-at = c.before.before.before.before.before.before.before.before.before.opening-at in
     let enum_told = c.before.before.before.before.before.before.before.enum_told in
-    rw (le-leb 1219 (length start.args.said.now) test1.false, le-leb 321 (length start.args.rows.now) test2.false, (first-set start.args.at start.args.last (drop start.args.at start.args.text.now) opening-at.result opening-at.ensures enum_told.given.1).1) c.before.before.before.open-with.ensures
+    rw (le-leb 1219 (length start.args.said.now) test1.false, le-leb 321 (length start.args.rows.now) test2.false, (first_set start.args.at start.args.last (drop start.args.at start.args.text.now) opening-at.result opening-at.ensures enum_told.given.1).1) c.before.before.before.open-with.ensures
 
 same-length-3 : tie.Need-same-length-3
 same-length-3 c = omega arith
 
 returns-4 : tie.Need-returns-4
-unfolding openTurn open_rows openSaid
+unfolding open_turn open_rows open_said
 returns-4 c =
     let start = c.before.before.before.before.before.before.before.before.before.before.before in
     let test1 = c.before.before.before.before.before.before.before.before.if1 in
@@ -79,25 +79,25 @@ returns-4 c =
     let opening-at = c.before.before.before.before.before.before.opening-at in
     let enum-told2 = c.before.before.before.before.enum-told2 in
     let answered = c.before.before.answered in
-    rw (le-leb 1219 (length start.args.said.now) test1.false, le-leb 321 (length start.args.rows.now) test2.false, first-malformed start.args.at start.args.last (drop start.args.at start.args.text.now) opening-at.result opening-at.ensures enum-told2.given.1) (answered.ensures.0 ∙ answered-placed start.args.at start.args.at 0 (omega arith) _ _ _, refl, answered.ensures.1)
+    rw (le-leb 1219 (length start.args.said.now) test1.false, le-leb 321 (length start.args.rows.now) test2.false, first_malformed start.args.at start.args.last (drop start.args.at start.args.text.now) opening-at.result opening-at.ensures enum-told2.given.1) (answered.ensures.0 ∙ answered_placed start.args.at start.args.at 0 (omega arith) _ _ _, refl, answered.ensures.1)
 
 returns-5 : tie.Need-returns-5
-unfolding openTurn open_rows openSaid
+unfolding open_turn open_rows open_said
 returns-5 c =
     let start = c.before.before.before.before.before.before.before.before in
     let test1 = c.before.before.before.before.before.if1 in
     let test2 = c.before.before.before.before.if2 in
     let opening-at = c.before.before.before.opening-at in
-    rw (le-leb 1219 (length start.args.said.now) test1.false, le-leb 321 (length start.args.rows.now) test2.false, first-unfinished start.args.at start.args.last (drop start.args.at start.args.text.now) opening-at.result opening-at.ensures c.before.enum-told3.given.1) (c.waiting.ensures, refl, refl)
+    rw (le-leb 1219 (length start.args.said.now) test1.false, le-leb 321 (length start.args.rows.now) test2.false, first_unfinished start.args.at start.args.last (drop start.args.at start.args.text.now) opening-at.result opening-at.ensures c.before.enum-told3.given.1) (c.waiting.ensures, refl, refl)
 
 returns-6 : tie.Need-returns-6
-unfolding openTurn open_rows openSaid
+unfolding open_turn open_rows open_said
 returns-6 c =
     let start = c.before.before.before.before.before.before.before.before in
     let test1 = c.before.before.before.before.before.if1 in
     let test2 = c.before.before.before.before.if2 in
     let opening-at = c.before.before.before.opening-at in
-    rw (le-leb 1219 (length start.args.said.now) test1.false, le-leb 321 (length start.args.rows.now) test2.false, first-end start.args.at start.args.last (drop start.args.at start.args.text.now) opening-at.result opening-at.ensures c.before.enum-told4.given.1) (c.waiting2.ensures, refl, refl)
+    rw (le-leb 1219 (length start.args.said.now) test1.false, le-leb 321 (length start.args.rows.now) test2.false, first_end start.args.at start.args.last (drop start.args.at start.args.text.now) opening-at.result opening-at.ensures c.before.enum-told4.given.1) (c.waiting2.ensures, refl, refl)
 
 pub open_spec : {M : Type 1} → statement M
 open_spec =

@@ -1,9 +1,9 @@
 use Rattle.std.proofs.Common.{length, drop, sym, refl, ◌∙◌, arith}
 use borrow.Author.Tests.{not-false, not-true}
-use Rattle.recording.specs.Theorems.Later.{end-sooner, frame-sooner, long-sooner, malformed-sooner, unfinished-sooner}
+use Rattle.recording.specs.Theorems.Later.{end_sooner, frame_sooner, long_sooner, malformed_sooner, unfinished_sooner}
 use Rattle.replay_lines.specs.Laws.Lent.{lent_says}
-use Rattle.replay_lines.specs.Laws.Placed.{answered-placed, framed-placed, payload-placed}
-use Rattle.replay_lines.specs.Turn.{recordNow, readRows, readSaid, readStore, readTurn}
+use Rattle.replay_lines.specs.Laws.Placed.{answered_placed, framed_placed, payload_placed}
+use Rattle.replay_lines.specs.Turn.{record_now, read_rows, read_said, read_store, read_turn}
 use Rattle.replay_lines.proofs.turns.read.Statement.{statement}
 use Rattle.replay_lines.proofs.turns.read.Tie as tie
 
@@ -14,7 +14,7 @@ refused-requires : tie.Need-refused-requires
 refused-requires c κs = omega arith
 
 returns : tie.Need-returns
-unfolding readTurn readRows readStore readSaid
+unfolding read_turn read_rows read_store read_said
 returns c =
     let b = sym c.before.before.is-lent.ensures ∙ not-true c.before.before.is-lent.result c.before.if1.true in
     rw b (c.refused.ensures, refl, refl, refl)
@@ -78,7 +78,7 @@ same-length-2 : tie.Need-same-length-2
 same-length-2 c = omega arith
 
 returns-2 : tie.Need-returns-2
-unfolding readTurn readRows readStore readSaid
+unfolding read_turn read_rows read_store read_said
 returns-2 c =
     let is-lent = c.before.before.before.before.before.before.before.before.before.before.before.before.is-lent in
     let test1 = c.before.before.before.before.before.before.before.before.before.before.before.if1 in
@@ -87,15 +87,15 @@ returns-2 c =
     let take-frame = c.before.before.before.before.take-frame in
     let b = sym is-lent.ensures ∙ not-false is-lent.result test1.false in
     let a = c.before.before.before.before.before.before.before.before.before.before.before.before.before.before.before.before.args in
-    let y = frame-sooner a.at (recordNow a.replay.ports a.replay.size a.last (drop a.at a.text.now)) _ _ _ _ _ (sym record-now.ensures ∙ found.given.1) in
-    let p = payload-placed a.at _ _ y.0 a.replay.size a.text.now in
-    rw (b, y.2) (c.framed.ensures ∙ framed-placed a.at _ _ y.1 a.replay, rw p at take-frame.ensures.0, rw p at take-frame.ensures.1, refl)
+    let y = frame_sooner a.at (record_now a.replay.ports a.replay.size a.last (drop a.at a.text.now)) _ _ _ _ _ (sym record-now.ensures ∙ found.given.1) in
+    let p = payload_placed a.at _ _ y.0 a.replay.size a.text.now in
+    rw (b, y.2) (c.framed.ensures ∙ framed_placed a.at _ _ y.1 a.replay, rw p at take-frame.ensures.0, rw p at take-frame.ensures.1, refl)
 
 same-length-3 : tie.Need-same-length-3
 same-length-3 c = omega arith
 
 returns-3 : tie.Need-returns-3
-unfolding readTurn readRows readStore readSaid
+unfolding read_turn read_rows read_store read_said
 returns-3 c =
     let is-lent = c.before.before.before.before.before.before.before.before.before.is-lent in
     let test1 = c.before.before.before.before.before.before.before.before.if1 in
@@ -104,36 +104,36 @@ returns-3 c =
     let answered = c.before.before.answered in
     let b = sym is-lent.ensures ∙ not-false is-lent.result test1.false in
     let a = c.before.before.before.before.before.before.before.before.before.before.before.before.before.args in
-    let y = malformed-sooner a.at (recordNow a.replay.ports a.replay.size a.last (drop a.at a.text.now)) _ (sym record-now.ensures ∙ found2.given.1) in
-    rw (b, y.1) (answered.ensures.0 ∙ answered-placed a.at _ _ y.0 _ _ _, refl, refl, answered.ensures.1)
+    let y = malformed_sooner a.at (record_now a.replay.ports a.replay.size a.last (drop a.at a.text.now)) _ (sym record-now.ensures ∙ found2.given.1) in
+    rw (b, y.1) (answered.ensures.0 ∙ answered_placed a.at _ _ y.0 _ _ _, refl, refl, answered.ensures.1)
 
 same-length-4 : tie.Need-same-length-4
 same-length-4 c = omega arith
 
 returns-4 : tie.Need-returns-4
-unfolding readTurn readRows readStore readSaid
+unfolding read_turn read_rows read_store read_said
 returns-4 c =
     let is-lent = c.before.before.before.before.before.before.before.before.before.is-lent in
     let answered2 = c.before.before.answered2 in
     let b = sym is-lent.ensures ∙ not-false is-lent.result c.before.before.before.before.before.before.before.before.if1.false in
     let a = c.before.before.before.before.before.before.before.before.before.before.before.before.before.args in
-    let y = long-sooner a.at (recordNow a.replay.ports a.replay.size a.last (drop a.at a.text.now)) (sym c.before.before.before.before.before.before.before.record-now.ensures ∙ c.before.before.before.before.before.enum_told.given.1) in
-    rw (b, y) (answered2.ensures.0 ∙ answered-placed a.at _ _ c.before.before.before.before.end-behind.ensures _ _ _, refl, refl, answered2.ensures.1)
+    let y = long_sooner a.at (record_now a.replay.ports a.replay.size a.last (drop a.at a.text.now)) (sym c.before.before.before.before.before.before.before.record-now.ensures ∙ c.before.before.before.before.before.enum_told.given.1) in
+    rw (b, y) (answered2.ensures.0 ∙ answered_placed a.at _ _ c.before.before.before.before.end-behind.ensures _ _ _, refl, refl, answered2.ensures.1)
 
 returns-5 : tie.Need-returns-5
-unfolding readTurn readRows readStore readSaid
+unfolding read_turn read_rows read_store read_said
 returns-5 c =
     let b = sym c.before.before.before.before.before.is-lent.ensures ∙ not-false c.before.before.before.before.before.is-lent.result c.before.before.before.before.if1.false in
     let a = c.before.before.before.before.before.before.before.before.before.args in
-    let y = unfinished-sooner a.at (recordNow a.replay.ports a.replay.size a.last (drop a.at a.text.now)) (sym c.before.before.before.record-now.ensures ∙ c.before.enum-told2.given.1) in
+    let y = unfinished_sooner a.at (record_now a.replay.ports a.replay.size a.last (drop a.at a.text.now)) (sym c.before.before.before.record-now.ensures ∙ c.before.enum-told2.given.1) in
     rw (b, y) (c.waiting.ensures, refl, refl, refl)
 
 returns-6 : tie.Need-returns-6
-unfolding readTurn readRows readStore readSaid
+unfolding read_turn read_rows read_store read_said
 returns-6 c =
     let b = sym c.before.before.before.before.before.is-lent.ensures ∙ not-false c.before.before.before.before.before.is-lent.result c.before.before.before.before.if1.false in
     let a = c.before.before.before.before.before.before.before.before.before.args in
-    let y = end-sooner a.at (recordNow a.replay.ports a.replay.size a.last (drop a.at a.text.now)) (sym c.before.before.before.record-now.ensures ∙ c.before.enum-told3.given.1) in
+    let y = end_sooner a.at (record_now a.replay.ports a.replay.size a.last (drop a.at a.text.now)) (sym c.before.before.before.record-now.ensures ∙ c.before.enum-told3.given.1) in
     rw (b, y) (c.waiting2.ensures, refl, refl, refl)
 
 pub read_spec : {M : Type 1} → statement M

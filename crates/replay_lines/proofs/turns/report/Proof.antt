@@ -1,8 +1,8 @@
 use Rattle.std.proofs.Common.{◌≡◌, ◌<◌, ◌≤◌, false, ltb, length, get_or, sym, refl, ◌∙◌, arith, le-ltb, lt-ltb}
 use borrow.Author.Tests.{not-false, not-true}
-use Rattle.replay_lines.specs.Laws.Due.{none-due, none_out, none_rows}
+use Rattle.replay_lines.specs.Laws.Due.{none_due_lem, none_out, none_rows}
 use Rattle.replay_lines.specs.Laws.Lent.{lent_says}
-use Rattle.replay_lines.specs.Turn.{fetchRecordBy, fetchedSaid, fetchedTurn, reportOut, reportRows, reportSaid, reportTurn}
+use Rattle.replay_lines.specs.Turn.{fetch_record_by, fetched_said, fetched_turn, report_out, report_rows, report_said, report_turn}
 use Rattle.replay_lines.proofs.turns.report.Statement.{statement}
 use Rattle.replay_lines.proofs.turns.report.Tie as tie
 
@@ -13,7 +13,7 @@ refused-requires : tie.Need-refused-requires
 refused-requires c κs = omega arith
 
 returns : tie.Need-returns
-unfolding reportTurn reportRows reportOut reportSaid
+unfolding report_turn report_rows report_out report_said
 returns c =
     let b = sym c.before.before.is-lent.ensures ∙ not-true c.before.before.is-lent.result c.before.if1.true in
     rw b (c.refused.ensures, refl, refl, refl)
@@ -22,7 +22,7 @@ read-on-requires : tie.Need-read-on-requires
 read-on-requires c κs = omega arith
 
 returns-2 : tie.Need-returns-2
-unfolding reportTurn reportRows reportOut reportSaid
+unfolding report_turn report_rows report_out report_said
 returns-2 c =
     let start = c.before.before.before.before.before.before.before.before in
     let is-lent = c.before.before.before.before.is-lent in
@@ -58,7 +58,7 @@ same-length-3 : tie.Need-same-length-3
 same-length-3 c = omega arith
 
 returns-3 : tie.Need-returns-3
-unfolding reportTurn reportRows reportOut reportSaid
+unfolding report_turn report_rows report_out report_said
 returns-3 c =
     let start = c.before.before.before.before.before.before.before.before.before.before.before.before.before.before.before.before.before.before.before.before in
     let is-lent = c.before.before.before.before.before.before.before.before.before.before.before.before.before.before.before.before.is-lent in
@@ -76,7 +76,7 @@ same-length-4 : tie.Need-same-length-4
 same-length-4 c = omega arith
 
 returns-4 : tie.Need-returns-4
-unfolding reportTurn reportRows reportOut reportSaid fetchedTurn fetchedSaid
+unfolding report_turn report_rows report_out report_said fetched_turn fetched_said
 returns-4 c =
     let start = c.before.before.before.before.before.before.before.before.before.before.before.before in
     let is-lent = c.before.before.before.before.before.before.before.before.is-lent in
@@ -86,7 +86,7 @@ returns-4 c =
     let b = sym is-lent.ensures ∙ not-false is-lent.result test1.false in
     let z : 0 < start.args.replay.left = omega (arith, test2.false) in
     let d = sym (rw rows-for.ensures at c.before.before.is-due.ensures) ∙ c.before.if3.false in
-    let e : ltb 0 (get_or (fetchRecordBy start.args.replay start.args.rows.now start.args.store.now start.args.out.now) 0 0) ≡ false = none-due start.args.replay start.args.rows.now start.args.store.now start.args.out.now d in
+    let e : ltb 0 (get_or (fetch_record_by start.args.replay start.args.rows.now start.args.store.now start.args.out.now) 0 0) ≡ false = none_due_lem start.args.replay start.args.rows.now start.args.store.now start.args.out.now d in
     rw (b, lt-ltb 0 start.args.replay.left z, e) (c.read-on2.ensures, sym (none_rows start.args.replay start.args.rows.now start.args.store.now start.args.out.now d), sym (none_out start.args.replay start.args.rows.now start.args.store.now start.args.out.now d), refl)
 
 pub report-spec : {M : Type 1} → statement M

@@ -1,7 +1,7 @@
 use Rattle.std.proofs.Common.{◌≡◌, ℕ, ◌<◌, ◌≤◌, true, false, ltb, length, get_or, refl, ap, ◌∙◌, arith, le-ltb, lt-ltb}
-use Rattle.replay_lines.specs.Output.{reportText}
-use Rattle.replay_lines.specs.Turn.{fetchRecordBy, fetchedSaid, fetchedTurn, placed, reportPrinted, reportedTurn}
-use Rattle.replay_lines.proofs.Printing.{put-over, report-le}
+use Rattle.replay_lines.specs.Output.{report_text}
+use Rattle.replay_lines.specs.Turn.{fetch_record_by, fetched_said, fetched_turn, placed, report_printed, reported_turn}
+use Rattle.replay_lines.proofs.Printing.{put_over, report_le}
 use Rattle.replay_lines.proofs.turns.report_now.Statement.{statement}
 use Rattle.replay_lines.proofs.turns.report_now.Tie as tie
 
@@ -30,12 +30,12 @@ same-length-2 : tie.Need-same-length-2
 same-length-2 c = omega arith
 
 returns : tie.Need-returns
-unfolding fetchedTurn fetchedSaid
+unfolding fetched_turn fetched_said
 returns c =
     let start = c.before.before.before.before.before.before.before.before.before.before.before.before.before.before.before.before in
     let fetch = c.before.before.before.before.before.fetch in
     let y : get_or fetch.result 0 0 ≤ 0 = omega (arith, c.before.if1.true) in
-    let d : ltb 0 (get_or (fetchRecordBy start.args.replay start.args.rows.now start.args.store.now start.args.out.now) 0 0) ≡ false = rw (← fetch.ensures.0) (le-ltb 0 (get_or fetch.result 0 0) y) in
+    let d : ltb 0 (get_or (fetch_record_by start.args.replay start.args.rows.now start.args.store.now start.args.out.now) 0 0) ≡ false = rw (← fetch.ensures.0) (le-ltb 0 (get_or fetch.result 0 0) y) in
     rw d (c.read-on.ensures, fetch.ensures.1, fetch.ensures.2, refl)
 
 states-in-requires-2 : tie.Need-states-in-requires-2
@@ -61,7 +61,7 @@ same-length-5 : tie.Need-same-length-5
 same-length-5 c = omega arith
 
 returns-2 : tie.Need-returns-2
-unfolding fetchedTurn fetchedSaid reportPrinted
+unfolding fetched_turn fetched_said report_printed
 returns-2 c =
     let start = c.before.before.before.before.before.before.before.before.before.before.before.before.before.before.before.before.before.before.before.before.before.before in
     let states-in = c.before.before.before.before.before.before.before.before.before.before.before.before.before.before.before.before.before.states-in in
@@ -73,12 +73,12 @@ returns-2 c =
     let port = rw rows-for.ensures at blamed.ensures in
     let l = start.requires.0 in
     let y : 0 < get_or fetch.result 0 0 = omega (arith, test1.false) in
-    let d : ltb 0 (get_or (fetchRecordBy start.args.replay start.args.rows.now start.args.store.now start.args.out.now) 0 0) ≡ true = rw (← fetch.ensures.0) (lt-ltb 0 (get_or fetch.result 0 0) y) in
-    let w : reportText fetch.result blamed.result start.args.replay.line states-in.result states-in2.result start.args.replay.ports ≡ reportPrinted start.args.replay start.args.rows.now start.args.store.now start.args.out.now = rw (states-in2.ensures, port, states-in.ensures, fetch.ensures.1, fetch.ensures.0) in
-    let k = report-le fetch.result blamed.result start.args.replay.line states-in.result states-in2.result start.args.replay.ports l.ports-most in
-    let h : length (reportText fetch.result blamed.result start.args.replay.line states-in.result states-in2.result start.args.replay.ports) ≤ length start.args.said.now = omega (arith, l.room) in
-    let q = rw w at (put-over c.before.before.before.put-report.ensures h) in
-    rw d (c.reported.ensures ∙ ap (λ (n : ℕ). placed start.args.at (reportedTurn start.args.replay n)) q.0, fetch.ensures.1, fetch.ensures.2, q.1)
+    let d : ltb 0 (get_or (fetch_record_by start.args.replay start.args.rows.now start.args.store.now start.args.out.now) 0 0) ≡ true = rw (← fetch.ensures.0) (lt-ltb 0 (get_or fetch.result 0 0) y) in
+    let w : report_text fetch.result blamed.result start.args.replay.line states-in.result states-in2.result start.args.replay.ports ≡ report_printed start.args.replay start.args.rows.now start.args.store.now start.args.out.now = rw (states-in2.ensures, port, states-in.ensures, fetch.ensures.1, fetch.ensures.0) in
+    let k = report_le fetch.result blamed.result start.args.replay.line states-in.result states-in2.result start.args.replay.ports l.ports-most in
+    let h : length (report_text fetch.result blamed.result start.args.replay.line states-in.result states-in2.result start.args.replay.ports) ≤ length start.args.said.now = omega (arith, l.room) in
+    let q = rw w at (put_over c.before.before.before.put-report.ensures h) in
+    rw d (c.reported.ensures ∙ ap (λ (n : ℕ). placed start.args.at (reported_turn start.args.replay n)) q.0, fetch.ensures.1, fetch.ensures.2, q.1)
 
 pub report-now-spec : {M : Type 1} → statement M
 report-now-spec =

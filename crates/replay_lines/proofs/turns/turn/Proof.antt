@@ -1,6 +1,6 @@
 use Rattle.std.proofs.Common.{length, drop, refl, arith}
 use Rattle.replay_lines.specs.declared.replay.Phase.TheVariants.{Ended, Fetching, Reading, Settings, Skipping}
-use Rattle.replay_lines.proofs.Deciding.{out-is, rows_is, said-is, store_is, turn_is}
+use Rattle.replay_lines.proofs.Deciding.{out_is, rows_is, said_is, store_is, turn_is}
 use Rattle.replay_lines.proofs.turns.turn.Statement.{statement}
 use Rattle.replay_lines.proofs.turns.turn.Tie as tie
 
@@ -52,7 +52,7 @@ returns c =
     let r = s.args.replay in
     let t = drop s.args.at s.args.text.now in
     let n = length s.args.said.now in
-    (turn_is r Settings e t s.args.last s.args.rows.now s.args.store.now s.args.out.now s.args.at n _ open-all.ensures.0, rows_is r Settings e t s.args.last s.args.rows.now s.args.store.now s.args.out.now n _ open-all.ensures.1, store_is r Settings e t s.args.last s.args.rows.now s.args.store.now s.args.out.now n _ open-all.ensures.2, out-is r Settings e t s.args.last s.args.rows.now s.args.store.now s.args.out.now n _ refl, said-is r Settings e t s.args.last s.args.rows.now s.args.store.now s.args.out.now s.args.said.now _ open-all.ensures.3)
+    (turn_is r Settings e t s.args.last s.args.rows.now s.args.store.now s.args.out.now s.args.at n _ open-all.ensures.0, rows_is r Settings e t s.args.last s.args.rows.now s.args.store.now s.args.out.now n _ open-all.ensures.1, store_is r Settings e t s.args.last s.args.rows.now s.args.store.now s.args.out.now n _ open-all.ensures.2, out_is r Settings e t s.args.last s.args.rows.now s.args.store.now s.args.out.now n _ refl, said_is r Settings e t s.args.last s.args.rows.now s.args.store.now s.args.out.now s.args.said.now _ open-all.ensures.3)
 
 same-length-4 : tie.Need-same-length-4
 same-length-4 c = omega arith
@@ -72,7 +72,7 @@ returns-2 c =
     let r = s.args.replay in
     let t = drop s.args.at s.args.text.now in
     let n = length s.args.said.now in
-    (turn_is r Reading e t s.args.last s.args.rows.now s.args.store.now s.args.out.now s.args.at n _ the-read.ensures.0, rows_is r Reading e t s.args.last s.args.rows.now s.args.store.now s.args.out.now n _ the-read.ensures.1, store_is r Reading e t s.args.last s.args.rows.now s.args.store.now s.args.out.now n _ the-read.ensures.2, out-is r Reading e t s.args.last s.args.rows.now s.args.store.now s.args.out.now n _ refl, said-is r Reading e t s.args.last s.args.rows.now s.args.store.now s.args.out.now s.args.said.now _ the-read.ensures.3)
+    (turn_is r Reading e t s.args.last s.args.rows.now s.args.store.now s.args.out.now s.args.at n _ the-read.ensures.0, rows_is r Reading e t s.args.last s.args.rows.now s.args.store.now s.args.out.now n _ the-read.ensures.1, store_is r Reading e t s.args.last s.args.rows.now s.args.store.now s.args.out.now n _ the-read.ensures.2, out_is r Reading e t s.args.last s.args.rows.now s.args.store.now s.args.out.now n _ refl, said_is r Reading e t s.args.last s.args.rows.now s.args.store.now s.args.out.now s.args.said.now _ the-read.ensures.3)
 
 same-length-7 : tie.Need-same-length-7
 same-length-7 c = omega arith
@@ -95,7 +95,7 @@ returns-3 c =
     let r = s.args.replay in
     let t = drop s.args.at s.args.text.now in
     let n = length s.args.said.now in
-    (turn_is r Fetching e t s.args.last s.args.rows.now s.args.store.now s.args.out.now s.args.at n _ report.ensures.0, rows_is r Fetching e t s.args.last s.args.rows.now s.args.store.now s.args.out.now n _ report.ensures.1, store_is r Fetching e t s.args.last s.args.rows.now s.args.store.now s.args.out.now n _ refl, out-is r Fetching e t s.args.last s.args.rows.now s.args.store.now s.args.out.now n _ report.ensures.2, said-is r Fetching e t s.args.last s.args.rows.now s.args.store.now s.args.out.now s.args.said.now _ report.ensures.3)
+    (turn_is r Fetching e t s.args.last s.args.rows.now s.args.store.now s.args.out.now s.args.at n _ report.ensures.0, rows_is r Fetching e t s.args.last s.args.rows.now s.args.store.now s.args.out.now n _ report.ensures.1, store_is r Fetching e t s.args.last s.args.rows.now s.args.store.now s.args.out.now n _ refl, out_is r Fetching e t s.args.last s.args.rows.now s.args.store.now s.args.out.now n _ report.ensures.2, said_is r Fetching e t s.args.last s.args.rows.now s.args.store.now s.args.out.now s.args.said.now _ report.ensures.3)
 
 returns-4 : tie.Need-returns-4
 returns-4 c =
@@ -104,7 +104,7 @@ returns-4 c =
     let r = s.args.replay in
     let t = drop s.args.at s.args.text.now in
     let n = length s.args.said.now in
-    (turn_is r Skipping e t s.args.last s.args.rows.now s.args.store.now s.args.out.now s.args.at n _ c.skip.ensures, rows_is r Skipping e t s.args.last s.args.rows.now s.args.store.now s.args.out.now n _ refl, store_is r Skipping e t s.args.last s.args.rows.now s.args.store.now s.args.out.now n _ refl, out-is r Skipping e t s.args.last s.args.rows.now s.args.store.now s.args.out.now n _ refl, said-is r Skipping e t s.args.last s.args.rows.now s.args.store.now s.args.out.now s.args.said.now _ refl)
+    (turn_is r Skipping e t s.args.last s.args.rows.now s.args.store.now s.args.out.now s.args.at n _ c.skip.ensures, rows_is r Skipping e t s.args.last s.args.rows.now s.args.store.now s.args.out.now n _ refl, store_is r Skipping e t s.args.last s.args.rows.now s.args.store.now s.args.out.now n _ refl, out_is r Skipping e t s.args.last s.args.rows.now s.args.store.now s.args.out.now n _ refl, said_is r Skipping e t s.args.last s.args.rows.now s.args.store.now s.args.out.now s.args.said.now _ refl)
 
 returns-5 : tie.Need-returns-5
 returns-5 c =
@@ -113,7 +113,7 @@ returns-5 c =
     let r = s.args.replay in
     let t = drop s.args.at s.args.text.now in
     let n = length s.args.said.now in
-    (turn_is r Ended e t s.args.last s.args.rows.now s.args.store.now s.args.out.now s.args.at n _ c.swallow.ensures, rows_is r Ended e t s.args.last s.args.rows.now s.args.store.now s.args.out.now n _ refl, store_is r Ended e t s.args.last s.args.rows.now s.args.store.now s.args.out.now n _ refl, out-is r Ended e t s.args.last s.args.rows.now s.args.store.now s.args.out.now n _ refl, said-is r Ended e t s.args.last s.args.rows.now s.args.store.now s.args.out.now s.args.said.now _ refl)
+    (turn_is r Ended e t s.args.last s.args.rows.now s.args.store.now s.args.out.now s.args.at n _ c.swallow.ensures, rows_is r Ended e t s.args.last s.args.rows.now s.args.store.now s.args.out.now n _ refl, store_is r Ended e t s.args.last s.args.rows.now s.args.store.now s.args.out.now n _ refl, out_is r Ended e t s.args.last s.args.rows.now s.args.store.now s.args.out.now n _ refl, said_is r Ended e t s.args.last s.args.rows.now s.args.store.now s.args.out.now s.args.said.now _ refl)
 
 pub turn_spec : {M : Type 1} → statement M
 turn_spec = tie.close (tie.spec enum_told open-all-requires enum-told-2 read-requires enum-told-3 report-requires enum-told-4 skip-requires enum-told-5 swallow-requires same_length same-length-2 same-length-3 returns same-length-4 same-length-5 same-length-6 returns-2 same-length-7 same-length-8 same-length-9 same-length-10 returns-3 returns-4 returns-5)

@@ -3,7 +3,7 @@ use Prim.Native.Nat.{◌<◌}
 use native.Mathlib.Omega.{arith}
 use borrow.Author.Rules.{rules}
 use Rattle.reply.specs.Choosing.{grant}
-use Rattle.reply.proofs.Keeping.{taken-lt}
+use Rattle.reply.proofs.Keeping.{taken_lt}
 use Rattle.reply.proofs.choosing.claim_one.Statement.{statement}
 use Rattle.reply.proofs.choosing.claim_one.Tie as tie
 
@@ -17,7 +17,7 @@ cast-next : tie.Need-overflow-cast-next
 cast-next c = search rules
 
 array-write-next : tie.Need-array-write-next
-array-write-next c = let h : c.before.before.before.args.port.number < 64 = taken-lt c.before.before.before.args.first c.before.before.holder-of.result c.before.before.before.args.port (sym c.before.takes.ensures ∙ c.if1.true) in omega arith
+array-write-next c = let h : c.before.before.before.args.port.number < 64 = taken_lt c.before.before.before.args.first c.before.before.holder-of.result c.before.before.before.args.port (sym c.before.takes.ensures ∙ c.if1.true) in omega arith
 
 returns : tie.Need-returns
 unfolding grant

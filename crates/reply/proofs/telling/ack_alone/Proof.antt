@@ -1,5 +1,5 @@
 use mathlib.Core.Path.{◌∙◌, refl}
-use Rattle.reply.specs.Telling.{ackOf, turnsOver}
+use Rattle.reply.specs.Telling.{ack_of, turns_over}
 use borrow.Author.Rules.{rules}
 use Rattle.reply.proofs.telling.ack_alone.Statement.{statement}
 use Rattle.reply.proofs.telling.ack_alone.Tie as tie
@@ -14,7 +14,7 @@ turned-requires : tie.Need-turned-requires
 turned-requires c κs = search rules
 
 returns : tie.Need-returns
-unfolding ackOf turnsOver
+unfolding ack_of turns_over
 returns c = c.turned.ensures ∙ rw (c.before.has_left.ensures, c.before.before.has-changed.ensures) refl
 
 pub ack-alone-spec : {M : Type 1} → statement M

@@ -5,18 +5,18 @@ use native.Mathlib.Numerals.{add-one}
 use native.Mathlib.Omega.{arith}
 use lib.ListN.{length}
 use borrow.Author.Rules.{rules}
-use Rattle.reply.specs.Telling.{turnsOver}
+use Rattle.reply.specs.Telling.{turns_over}
 use Rattle.reply.proofs.telling.is_turning.Statement.{statement}
 use Rattle.reply.proofs.telling.is_turning.Tie as tie
 
 abbrev invariant-loop : tie.invariant-loop
-invariant-loop n ports turning₀ i₀ turning i = (length ports ≡ 64) × (i ≤ n) × (turning ≡ turnsOver ports i)
+invariant-loop n ports turning₀ i₀ turning i = (length ports ≡ 64) × (i ≤ n) × (turning ≡ turns_over ports i)
 
 abbrev decreases-loop : tie.decreases-loop
 decreases-loop n ports turning₀ i₀ turning i = n - i
 
 loop-holds : tie.Need-loop-init invariant-loop decreases-loop
-unfolding turnsOver
+unfolding turns_over
 loop-holds c = (omega arith, omega arith, refl)
 
 mul-port : tie.Need-overflow-mul-port invariant-loop decreases-loop
@@ -38,7 +38,7 @@ loop-less : tie.Need-loop-smaller invariant-loop decreases-loop
 loop-less c = search rules
 
 loop-again : tie.Need-loop-preserved invariant-loop decreases-loop
-unfolding turnsOver
+unfolding turns_over
 loop-again c = (c.before.before.before.before.loop.invariant.0, omega arith, rw (c.before.before.before.before.loop.invariant.2, c.before.has-changed.ensures, c.has_left.ensures, add-one))
 
 returns : tie.Need-returns invariant-loop decreases-loop

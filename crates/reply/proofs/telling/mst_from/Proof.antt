@@ -1,7 +1,7 @@
 -- `mst_from` meets its contract: eight bits, from the first number on, each by a call; the lowest number's bit is the first.
 use mathlib.Core.Path.{◌∙◌}
 use borrow.Author.Rules.{rules}
-use Rattle.reply.specs.Telling.{mstFrom}
+use Rattle.reply.specs.Telling.{mst_from}
 use Rattle.reply.proofs.telling.mst_from.Statement.{statement}
 use Rattle.reply.proofs.telling.mst_from.Tie as tie
 
@@ -54,7 +54,7 @@ eight-bits-requires : tie.Need-eight-bits-requires
 eight-bits-requires c κs = search rules
 
 returns : tie.Need-returns
-unfolding mstFrom
+unfolding mst_from
 returns c =
     let fail-bit = c.before.before.before.before.before.before.before.before.fail-bit in
     let fail-bit2 = c.before.before.before.before.before.before.before.fail-bit2 in

@@ -5,18 +5,18 @@ use native.Mathlib.Numerals.{add-one}
 use native.Mathlib.Omega.{arith}
 use lib.ListN.{length}
 use borrow.Author.Rules.{rules}
-use Rattle.reply.specs.Telling.{okHolds}
+use Rattle.reply.specs.Telling.{ok_holds}
 use Rattle.reply.proofs.telling.ok_holds.Statement.{statement}
 use Rattle.reply.proofs.telling.ok_holds.Tie as tie
 
 abbrev invariant-loop : tie.invariant-loop
-invariant-loop n number ports found₀ i₀ found i = (length ports ≡ 64) × (i ≤ n) × (found ≡ okHolds ports i number)
+invariant-loop n number ports found₀ i₀ found i = (length ports ≡ 64) × (i ≤ n) × (found ≡ ok_holds ports i number)
 
 abbrev decreases-loop : tie.decreases-loop
 decreases-loop n number ports found₀ i₀ found i = n - i
 
 loop-holds : tie.Need-loop-init invariant-loop decreases-loop
-unfolding okHolds
+unfolding ok_holds
 loop-holds c = (omega arith, omega arith, refl)
 
 mul-port : tie.Need-overflow-mul-port invariant-loop decreases-loop
@@ -32,7 +32,7 @@ loop-less : tie.Need-loop-smaller invariant-loop decreases-loop
 loop-less c = search rules
 
 loop-again : tie.Need-loop-preserved invariant-loop decreases-loop
-unfolding okHolds
+unfolding ok_holds
 loop-again c = (c.before.before.before.before.loop.invariant.0, omega arith, rw (c.before.before.before.before.loop.invariant.2, add-one))
 
 returns : tie.Need-returns invariant-loop decreases-loop

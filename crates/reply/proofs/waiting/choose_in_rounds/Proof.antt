@@ -6,13 +6,13 @@ use native.Mathlib.Omega.{arith}
 use borrow.Author.Rules.{rules}
 use borrow.Author.Tests.{not-true, not-false}
 use Rattle.reply.specs.Choosing.{holders}
-use Rattle.reply.specs.Waiting.{keptNumbers, rounds}
-use Rattle.reply.proofs.Keeping.{rounds-begin, rounds-end, rounds-none, rounds-on, rounds-over}
+use Rattle.reply.specs.Waiting.{kept_numbers, rounds}
+use Rattle.reply.proofs.Keeping.{rounds_begin, rounds_end, rounds_none, rounds_on, rounds_over}
 use Rattle.reply.proofs.waiting.choose_in_rounds.Statement.{statement}
 use Rattle.reply.proofs.waiting.choose_in_rounds.Tie as tie
 
 abbrev invariant-loop : tie.invariant-loop
-invariant-loop ports n kept₀ chosen₀ k₀ kept chosen k = (k ≤ n) × (chosen ≡ holders ports n kept) × (keptNumbers ports n ≡ rounds ports n (n - k) kept)
+invariant-loop ports n kept₀ chosen₀ k₀ kept chosen k = (k ≤ n) × (chosen ≡ holders ports n kept) × (kept_numbers ports n ≡ rounds ports n (n - k) kept)
 
 abbrev decreases-loop : tie.decreases-loop
 decreases-loop ports n kept₀ chosen₀ k₀ kept chosen k = n - k
@@ -23,7 +23,7 @@ choose-requires c κs = search rules
 loop-holds : tie.Need-loop-init invariant-loop decreases-loop
 loop-holds c =
     let a = c.before.args in
-    (omega arith, c.choose.ensures, rounds-begin a.ports a.n (a.n - 0) (omega arith))
+    (omega arith, c.choose.ensures, rounds_begin a.ports a.n (a.n - 0) (omega arith))
 
 some-join-requires : tie.Need-some-join-requires invariant-loop decreases-loop
 some-join-requires c κs = search rules
@@ -46,20 +46,20 @@ loop-again c =
     let l = c.before.before.before.before.before.loop in
     let e : a.n - l.k ≡ suc (a.n - (l.k + 1)) = omega arith in
     let j = sym c.before.before.before.some-join.ensures ∙ not-false _ c.before.before.if1.false in
-    (omega arith, c.choose2.ensures, rounds-on a.ports a.n (a.n - l.k) (a.n - (l.k + 1)) l.auto l.chosen _ l.invariant.1 l.invariant.2 e j c.before.keep-more.ensures)
+    (omega arith, c.choose2.ensures, rounds_on a.ports a.n (a.n - l.k) (a.n - (l.k + 1)) l.auto l.chosen _ l.invariant.1 l.invariant.2 e j c.before.keep-more.ensures)
 
 returns : tie.Need-returns invariant-loop decreases-loop
 returns c =
     let a = c.before.before.before.args in
     let l = c.before.loop in
     let e : a.n - l.k ≡ 0 = omega arith in
-    rounds-over a.ports a.n (a.n - l.k) l.auto l.chosen l.invariant.1 l.invariant.2 (rounds-none a.ports a.n (a.n - l.k) l.auto e)
+    rounds_over a.ports a.n (a.n - l.k) l.auto l.chosen l.invariant.1 l.invariant.2 (rounds_none a.ports a.n (a.n - l.k) l.auto e)
 
 returns-2 : tie.Need-returns-2 invariant-loop decreases-loop
 returns-2 c =
     let a = c.before.before.before.before.before.args in
     let l = c.before.before.before.loop in
-    rounds-end a.ports a.n (a.n - l.k) l.auto l.chosen l.invariant.1 l.invariant.2 (sym c.before.some-join.ensures ∙ not-true _ c.if1.true)
+    rounds_end a.ports a.n (a.n - l.k) l.auto l.chosen l.invariant.1 l.invariant.2 (sym c.before.some-join.ensures ∙ not-true _ c.if1.true)
 
 pub choose-in-rounds-spec : {M : Type 1} → statement M
 choose-in-rounds-spec =

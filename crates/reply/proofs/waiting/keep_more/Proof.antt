@@ -6,18 +6,18 @@ use native.Mathlib.Omega.{arith}
 use lib.ListN.{length}
 use borrow.Author.Rules.{rules}
 use Rattle.reply.specs.Choosing.{granted}
-use Rattle.reply.specs.Waiting.{moreKept}
+use Rattle.reply.specs.Waiting.{more_kept}
 use Rattle.reply.proofs.waiting.keep_more.Statement.{statement}
 use Rattle.reply.proofs.waiting.keep_more.Tie as tie
 
 abbrev invariant-loop : tie.invariant-loop
-invariant-loop chosen n ports kept₀ i₀ kept i = (length ports ≡ 64) × (i ≤ n) × (kept ≡ moreKept chosen ports i kept₀)
+invariant-loop chosen n ports kept₀ i₀ kept i = (length ports ≡ 64) × (i ≤ n) × (kept ≡ more_kept chosen ports i kept₀)
 
 abbrev decreases-loop : tie.decreases-loop
 decreases-loop chosen n ports kept₀ i₀ kept i = n - i
 
 loop-holds : tie.Need-loop-init invariant-loop decreases-loop
-unfolding moreKept granted
+unfolding more_kept granted
 loop-holds c = (omega arith, omega arith, refl)
 
 mul-port : tie.Need-overflow-mul-port invariant-loop decreases-loop
@@ -39,7 +39,7 @@ loop-less : tie.Need-loop-smaller invariant-loop decreases-loop
 loop-less c = search rules
 
 loop-again : tie.Need-loop-preserved invariant-loop decreases-loop
-unfolding moreKept granted
+unfolding more_kept granted
 loop-again c = (c.before.before.before.loop.invariant.0, omega arith, c.keep_one.ensures ∙ rw (c.before.before.before.loop.invariant.2, add-one))
 
 returns : tie.Need-returns invariant-loop decreases-loop

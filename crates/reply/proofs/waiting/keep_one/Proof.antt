@@ -3,7 +3,7 @@ use Prim.Native.Nat.{◌<◌}
 use native.Mathlib.Omega.{arith}
 use borrow.Author.Rules.{rules}
 use Rattle.reply.specs.Choosing.{grant}
-use Rattle.reply.proofs.Keeping.{kept-lt}
+use Rattle.reply.proofs.Keeping.{kept_lt}
 use Rattle.reply.proofs.waiting.keep_one.Statement.{statement}
 use Rattle.reply.proofs.waiting.keep_one.Tie as tie
 
@@ -16,7 +16,7 @@ cast-next c = search rules
 array-write-next : tie.Need-array-write-next
 array-write-next c =
     let a = c.before.before.args in
-    let h : a.port.state_number < 64 = kept-lt a.chosen a.kept a.i a.port (sym c.before.joins-kept.ensures ∙ c.if1.true) in
+    let h : a.port.state_number < 64 = kept_lt a.chosen a.kept a.i a.port (sym c.before.joins-kept.ensures ∙ c.if1.true) in
     omega arith
 
 returns : tie.Need-returns

@@ -5,18 +5,18 @@ use native.Mathlib.Numerals.{add-one}
 use native.Mathlib.Omega.{arith}
 use lib.ListN.{length}
 use borrow.Author.Rules.{rules}
-use Rattle.reply.specs.Waiting.{someJoin}
+use Rattle.reply.specs.Waiting.{some_join}
 use Rattle.reply.proofs.waiting.some_join.Statement.{statement}
 use Rattle.reply.proofs.waiting.some_join.Tie as tie
 
 abbrev invariant-loop : tie.invariant-loop
-invariant-loop chosen kept n ports joining₀ i₀ joining i = (length ports ≡ 64) × (i ≤ n) × (joining ≡ someJoin chosen kept ports i)
+invariant-loop chosen kept n ports joining₀ i₀ joining i = (length ports ≡ 64) × (i ≤ n) × (joining ≡ some_join chosen kept ports i)
 
 abbrev decreases-loop : tie.decreases-loop
 decreases-loop chosen kept n ports joining₀ i₀ joining i = n - i
 
 loop-holds : tie.Need-loop-init invariant-loop decreases-loop
-unfolding someJoin
+unfolding some_join
 loop-holds c = (omega arith, omega arith, refl)
 
 mul-port : tie.Need-overflow-mul-port invariant-loop decreases-loop
@@ -38,7 +38,7 @@ loop-less : tie.Need-loop-smaller invariant-loop decreases-loop
 loop-less c = search rules
 
 loop-again : tie.Need-loop-preserved invariant-loop decreases-loop
-unfolding someJoin
+unfolding some_join
 loop-again c = (c.before.before.before.loop.invariant.0, omega arith, rw (c.before.before.before.loop.invariant.2, c.joins-kept.ensures, add-one))
 
 returns : tie.Need-returns invariant-loop decreases-loop

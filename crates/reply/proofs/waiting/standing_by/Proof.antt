@@ -1,7 +1,7 @@
 -- `standing_by` meets its contract: IDLE, with its claim, without it. Each exit cites one law of Claims.
 use mathlib.Core.Path.{sym, ◌∙◌}
 use borrow.Author.Rules.{rules}
-use Rattle.reply.specs.Laws.Claims.{left-claim, left-idle, left-lost}
+use Rattle.reply.specs.Laws.Claims.{left_claim, left_idle, left_lost}
 use Rattle.reply.proofs.waiting.standing_by.Statement.{statement}
 use Rattle.reply.proofs.waiting.standing_by.Tie as tie
 
@@ -11,7 +11,7 @@ is-idle-requires c κs = search rules
 returns : tie.Need-returns
 returns c =
     let a = c.before.before.args in
-    sym (left-idle a.chosen a.i a.port (sym c.before.is-idle.ensures ∙ c.if1.true))
+    sym (left_idle a.chosen a.i a.port (sym c.before.is-idle.ensures ∙ c.if1.true))
 
 has-claim-requires : tie.Need-has-claim-requires
 has-claim-requires c κs = search rules
@@ -23,7 +23,7 @@ returns-2 : tie.Need-returns-2
 returns-2 c =
     let a = c.before.before.before.before.before.args in
     c.with-claim.ensures
-    ∙ sym (left-claim a.chosen a.i a.port (sym c.before.before.before.before.is-idle.ensures ∙ c.before.before.before.if1.false) (sym c.before.before.has-claim.ensures ∙ c.before.if2.true))
+    ∙ sym (left_claim a.chosen a.i a.port (sym c.before.before.before.before.is-idle.ensures ∙ c.before.before.before.if1.false) (sym c.before.before.has-claim.ensures ∙ c.before.if2.true))
 
 without-claim-requires : tie.Need-without-claim-requires
 without-claim-requires c κs = search rules
@@ -32,7 +32,7 @@ returns-3 : tie.Need-returns-3
 returns-3 c =
     let a = c.before.before.before.before.before.args in
     c.without-claim.ensures
-    ∙ sym (left-lost a.chosen a.i a.port (sym c.before.before.before.before.is-idle.ensures ∙ c.before.before.before.if1.false) (sym c.before.before.has-claim.ensures ∙ c.before.if2.false))
+    ∙ sym (left_lost a.chosen a.i a.port (sym c.before.before.before.before.is-idle.ensures ∙ c.before.before.before.if1.false) (sym c.before.before.has-claim.ensures ∙ c.before.if2.false))
 
 pub standing-by-spec : {M : Type 1} → statement M
 standing-by-spec =

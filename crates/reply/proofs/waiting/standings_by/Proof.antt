@@ -5,13 +5,13 @@ use native.Mathlib.Omega.{arith}
 use lib.ListN.{length}
 use borrow.Author.Rules.{rules}
 use Rattle.ground.specs.Counting.Each.{Done, done_none, done_more, done_all}
-use Rattle.reply.specs.Members.{portAt}
-use Rattle.reply.specs.Waiting.{standingBy}
+use Rattle.reply.specs.Members.{port_at}
+use Rattle.reply.specs.Waiting.{standing_by}
 use Rattle.reply.proofs.waiting.standings_by.Statement.{statement}
 use Rattle.reply.proofs.waiting.standings_by.Tie as tie
 
 abbrev invariant-loop : tie.invariant-loop
-invariant-loop chosen n ports all₀ i₀ all i = (length ports ≡ 64) × (length all₀ ≡ 64) × (i ≤ n) × Done i (λ j. standingBy chosen j (portAt ports j)) all₀ all
+invariant-loop chosen n ports all₀ i₀ all i = (length ports ≡ 64) × (length all₀ ≡ 64) × (i ≤ n) × Done i (λ j. standing_by chosen j (port_at ports j)) all₀ all
 
 abbrev decreases-loop : tie.decreases-loop
 decreases-loop chosen n ports all₀ i₀ all i = n - i

@@ -2,7 +2,7 @@ use mathlib.Core.Path.{sym, ◌∙◌}
 use Prim.Native.Nat.{◌<◌}
 use native.Mathlib.Omega.{arith}
 use borrow.Author.Rules.{rules}
-use Rattle.reply.specs.Laws.Members.{restoring-left}
+use Rattle.reply.specs.Laws.Members.{restoring_left}
 use Rattle.reply.proofs.waiting.with_claim.Statement.{statement}
 use Rattle.reply.proofs.waiting.with_claim.Tie as tie
 
@@ -12,7 +12,7 @@ is-restoring-requires c κs = search rules
 add-t3 : tie.Need-overflow-add-t3
 add-t3 c =
     let p = c.before.before.before.args.port in
-    let h : p.elapsed < p.restore = restoring-left p (sym c.before.before.is-restoring.ensures ∙ c.before.if1.true) in
+    let h : p.elapsed < p.restore = restoring_left p (sym c.before.before.is-restoring.ensures ∙ c.before.if1.true) in
     omega arith
 
 returns : tie.Need-returns

@@ -1,7 +1,7 @@
 use mathlib.Core.Path.{sym, ◌∙◌}
 use Prim.Native.Nat.{◌<◌}
 use native.Mathlib.Omega.{arith}
-use Rattle.reply.specs.Laws.Members.{left-elapsed}
+use Rattle.reply.specs.Laws.Members.{left_elapsed}
 use borrow.Author.Rules.{rules}
 use Rattle.reply.proofs.waiting.without_claim_alone.Statement.{statement}
 use Rattle.reply.proofs.waiting.without_claim_alone.Tie as tie
@@ -12,7 +12,7 @@ has-hold-off-requires c κs = search rules
 add-t3 : tie.Need-overflow-add-t3
 add-t3 c =
     let p = c.before.before.before.args.port in
-    let h : p.elapsed < p.hold_off = left-elapsed p (sym c.before.before.has-hold-off.ensures ∙ c.before.if1.true) in
+    let h : p.elapsed < p.hold_off = left_elapsed p (sym c.before.before.has-hold-off.ensures ∙ c.before.if1.true) in
     omega arith
 
 returns : tie.Need-returns

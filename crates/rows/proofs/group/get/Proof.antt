@@ -1,5 +1,5 @@
 use borrow.Author.Rules.{rules}
-use Rattle.rows.specs.Group.{groupAt}
+use Rattle.rows.specs.Group.{group_at}
 use Rattle.rows.proofs.group.get.Statement.{statement}
 use Rattle.rows.proofs.group.get.Tie as tie
 
@@ -10,7 +10,7 @@ group-of-requires : tie.Need-group-of-requires
 group-of-requires c κs = search rules
 
 returns : tie.Need-returns
-unfolding groupAt
+unfolding group_at
 returns c = rw (c.Group-of.ensures, c.before.row-in.ensures)
 
 pub get_spec : {M : Type 1} → statement M

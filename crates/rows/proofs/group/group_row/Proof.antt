@@ -3,7 +3,7 @@ use mathlib.Core.Path.{refl}
 use lib.ListN.{length-map}
 use borrow.Author.Rules.{rules}
 use Rattle.rows.specs.Laws.Records.{listed}
-use Rattle.rows.specs.Group.{groupRow}
+use Rattle.rows.specs.Group.{group_row}
 use Rattle.rows.proofs.group.group_row.Statement.{statement}
 use Rattle.rows.proofs.group.group_row.Tie as tie
 
@@ -38,7 +38,7 @@ element-copy-out-t38 : tie.Need-element-copy-out-t38
 element-copy-out-t38 c = search rules
 
 returns : tie.Need-returns
-unfolding groupRow
+unfolding group_row
 returns c = rw (← listed 4 c.before.before.before.before.args.t1.spare (simp length-map at c.before.before.before.before.well-formed.0.1.1.0.1.0.1)) refl
 
 pub group-row-spec : {M : Type 1} → statement M

@@ -1,5 +1,5 @@
 use borrow.Author.Rules.{rules}
-use Rattle.rows.specs.Group.{putGroup}
+use Rattle.rows.specs.Group.{put_group}
 use Rattle.rows.proofs.group.put.Statement.{statement}
 use Rattle.rows.proofs.group.put.Tie as tie
 
@@ -13,7 +13,7 @@ same_length : tie.Need-same-length
 same_length c = search rules
 
 returns : tie.Need-returns
-unfolding putGroup
+unfolding put_group
 returns c = cc
 
 pub put_spec : {M : Type 1} → statement M

@@ -1,5 +1,5 @@
 use borrow.Author.Rules.{rules}
-use Rattle.rows.specs.Member.{memberAt}
+use Rattle.rows.specs.Member.{member_at}
 use Rattle.rows.proofs.member.get.Statement.{statement}
 use Rattle.rows.proofs.member.get.Tie as tie
 
@@ -16,7 +16,7 @@ member-of-requires : tie.Need-member-of-requires
 member-of-requires c κs = search rules
 
 returns : tie.Need-returns
-unfolding memberAt
+unfolding member_at
 returns c = rw (c.member_of.ensures, c.before.row-in.ensures)
 
 pub get_spec : {M : Type 1} → statement M

@@ -2,7 +2,7 @@
 use native.Mathlib.Omega.{arith}
 use borrow.Author.Rules.{rules}
 use Rattle.rows.specs.Laws.Records.{rest}
-use Rattle.rows.specs.Member.{memberOf}
+use Rattle.rows.specs.Member.{member_of}
 use Rattle.rows.proofs.member.member_of.Statement.{statement}
 use Rattle.rows.proofs.member.member_of.Tie as tie
 
@@ -64,7 +64,7 @@ pair-requires-3 : tie.Need-pair-requires-3
 pair-requires-3 c κs = search rules
 
 returns : tie.Need-returns
-unfolding memberOf
+unfolding member_of
 returns c = rw (c.pair3.ensures, c.before.pair2.ensures, c.before.before.pair.ensures, ← rest c.before.before.before.args.t1 (omega arith) 12)
 
 pub member-of-spec : {M : Type 1} → statement M

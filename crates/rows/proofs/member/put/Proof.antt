@@ -1,5 +1,5 @@
 use borrow.Author.Rules.{rules}
-use Rattle.rows.specs.Member.{putMember}
+use Rattle.rows.specs.Member.{put_member}
 use Rattle.rows.proofs.member.put.Statement.{statement}
 use Rattle.rows.proofs.member.put.Tie as tie
 
@@ -19,7 +19,7 @@ same_length : tie.Need-same-length
 same_length c = search rules
 
 returns : tie.Need-returns
-unfolding putMember
+unfolding put_member
 returns c = cc
 
 pub put_spec : {M : Type 1} → statement M

@@ -1,7 +1,7 @@
 use mathlib.Core.Path.{refl}
 use borrow.Author.Rules.{rules}
-use Rattle.rows.specs.Laws.Bytes.{entry-none}
-use Rattle.rows.specs.Packets.{entryIn, packetsAt}
+use Rattle.rows.specs.Laws.Bytes.{entry_none}
+use Rattle.rows.specs.Packets.{entry_in, packets_at}
 use Rattle.rows.proofs.packets.entry.Statement.{statement}
 use Rattle.rows.proofs.packets.entry.Tie as tie
 
@@ -21,12 +21,12 @@ array-read-result : tie.Need-array-read-result
 array-read-result c = search rules
 
 returns : tie.Need-returns
-unfolding entryIn packetsAt
+unfolding entry_in packets_at
 returns c = rw (← c.before.before.row-in.ensures) refl
 
 returns-2 : tie.Need-returns-2
-unfolding entryIn packetsAt
-returns-2 c = rw (← c.before.before.row-in.ensures) (entry-none c.before.before.row-in.result _ c.before.is_whole.ensures c.if1.false)
+unfolding entry_in packets_at
+returns-2 c = rw (← c.before.before.row-in.ensures) (entry_none c.before.before.row-in.result _ c.before.is_whole.ensures c.if1.false)
 
 pub entry_spec : {M : Type 1} → statement M
 entry_spec = tie.close (tie.spec mul-row-in add-row-in row-in-requires is-whole-requires array-read-result returns returns-2)

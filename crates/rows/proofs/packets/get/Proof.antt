@@ -1,6 +1,6 @@
 -- Both rows are read by `row_in`, which gives the definition's row for any place; so only the two places have to be shown to fit.
 use borrow.Author.Rules.{rules}
-use Rattle.rows.specs.Packets.{packetsAt}
+use Rattle.rows.specs.Packets.{packets_at}
 use Rattle.rows.proofs.packets.get.Statement.{statement}
 use Rattle.rows.proofs.packets.get.Tie as tie
 
@@ -23,7 +23,7 @@ row-in-requires-2 : tie.Need-row-in-requires-2
 row-in-requires-2 c κs = search rules
 
 returns : tie.Need-returns
-unfolding packetsAt
+unfolding packets_at
 returns c = cc
 
 pub get_spec : {M : Type 1} → statement M

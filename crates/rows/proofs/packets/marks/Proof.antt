@@ -1,5 +1,5 @@
 use borrow.Author.Rules.{rules}
-use Rattle.rows.specs.Packets.{marksAt}
+use Rattle.rows.specs.Packets.{marks_at}
 use Rattle.rows.proofs.packets.marks.Statement.{statement}
 use Rattle.rows.proofs.packets.marks.Tie as tie
 
@@ -13,7 +13,7 @@ row-in-requires : tie.Need-row-in-requires
 row-in-requires c κs = search rules
 
 returns : tie.Need-returns
-unfolding marksAt
+unfolding marks_at
 returns c = cc
 
 pub marks-spec : {M : Type 1} → statement M

@@ -1,6 +1,6 @@
 -- `put` meets its contract: a port's two packets into its two rows.
 use borrow.Author.Rules.{rules}
-use Rattle.rows.specs.Packets.{putPackets}
+use Rattle.rows.specs.Packets.{put_packets}
 use Rattle.rows.proofs.packets.put.Statement.{statement}
 use Rattle.rows.proofs.packets.put.Tie as tie
 
@@ -32,7 +32,7 @@ same_length : tie.Need-same-length
 same_length c = search rules
 
 returns : tie.Need-returns
-unfolding putPackets
+unfolding put_packets
 returns c = cc
 
 pub put_spec : {M : Type 1} → statement M

@@ -1,5 +1,5 @@
 -- `put_entry` meets its contract: inside the row the entry is put; past the row, or past the state, all stays. Each exit cites one law.
-use Rattle.rows.specs.Laws.Bytes.{entry-put, entry_past, entry-beyond}
+use Rattle.rows.specs.Laws.Bytes.{entry_put, entry_past, entry_beyond}
 use borrow.Author.Rules.{rules}
 use Rattle.rows.proofs.packets.put_entry.Statement.{statement}
 use Rattle.rows.proofs.packets.put_entry.Tie as tie
@@ -32,13 +32,13 @@ same_length : tie.Need-same-length
 same_length c = search rules
 
 returns : tie.Need-returns
-returns c = entry-put _ _ _ _ c.before.before.before.if1.true
+returns c = entry_put _ _ _ _ c.before.before.before.if1.true
 
 returns-2 : tie.Need-returns-2
 returns-2 c = entry_past _ _ _ _ c.before.before.before.if1.true c.before.is_whole.ensures c.if2.false
 
 returns-3 : tie.Need-returns-3
-returns-3 c = entry-beyond _ _ _ _ c.if1.false
+returns-3 c = entry_beyond _ _ _ _ c.if1.false
 
 pub put-entry-spec : {M : Type 1} → statement M
 put-entry-spec =

@@ -1,5 +1,5 @@
 use borrow.Author.Rules.{rules}
-use Rattle.rows.specs.Packets.{putMarks}
+use Rattle.rows.specs.Packets.{put_marks}
 use Rattle.rows.proofs.packets.put_marks.Statement.{statement}
 use Rattle.rows.proofs.packets.put_marks.Tie as tie
 
@@ -16,7 +16,7 @@ same_length : tie.Need-same-length
 same_length c = search rules
 
 returns : tie.Need-returns
-unfolding putMarks
+unfolding put_marks
 returns c = cc
 
 pub put-marks-spec : {M : Type 1} → statement M

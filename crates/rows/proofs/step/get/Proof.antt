@@ -1,5 +1,5 @@
 use borrow.Author.Rules.{rules}
-use Rattle.rows.specs.Step.{stepAt}
+use Rattle.rows.specs.Step.{step_at}
 use Rattle.rows.proofs.step.get.Statement.{statement}
 use Rattle.rows.proofs.step.get.Tie as tie
 
@@ -16,7 +16,7 @@ step-of-requires : tie.Need-step-of-requires
 step-of-requires c κs = search rules
 
 returns : tie.Need-returns
-unfolding stepAt
+unfolding step_at
 returns c = rw (c.step_of_lem.ensures, c.before.row-in.ensures)
 
 pub get_spec : {M : Type 1} → statement M

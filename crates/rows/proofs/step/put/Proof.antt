@@ -1,5 +1,5 @@
 use borrow.Author.Rules.{rules}
-use Rattle.rows.specs.Step.{putStep}
+use Rattle.rows.specs.Step.{put_step}
 use Rattle.rows.proofs.step.put.Statement.{statement}
 use Rattle.rows.proofs.step.put.Tie as tie
 
@@ -19,7 +19,7 @@ same_length : tie.Need-same-length
 same_length c = search rules
 
 returns : tie.Need-returns
-unfolding putStep
+unfolding put_step
 returns c = cc
 
 pub put_spec : {M : Type 1} → statement M

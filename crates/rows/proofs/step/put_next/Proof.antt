@@ -1,6 +1,6 @@
 -- `put_next` meets its contract: the two bytes of the tag to come are put into the port's row; past the state all stays.
 use mathlib.Core.Path.{refl}
-use Rattle.rows.specs.Laws.Bytes.{next-put, next-beyond}
+use Rattle.rows.specs.Laws.Bytes.{next_put, next_beyond}
 use borrow.Author.Rules.{rules}
 use Rattle.rows.proofs.step.put_next.Statement.{statement}
 use Rattle.rows.proofs.step.put_next.Tie as tie
@@ -48,10 +48,10 @@ same_length : tie.Need-same-length
 same_length c = search rules
 
 returns : tie.Need-returns
-returns c = next-put _ _ _ _ c.before.before.if1.true c.is_whole.ensures refl
+returns c = next_put _ _ _ _ c.before.before.if1.true c.is_whole.ensures refl
 
 returns-2 : tie.Need-returns-2
-returns-2 c = next-beyond _ _ _ c.if1.false
+returns-2 c = next_beyond _ _ _ c.if1.false
 
 pub put-next-spec : {M : Type 1} → statement M
 put-next-spec =

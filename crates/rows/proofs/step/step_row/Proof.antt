@@ -3,7 +3,7 @@ use mathlib.Core.Path.{refl}
 use lib.ListN.{length-map}
 use borrow.Author.Rules.{rules}
 use Rattle.rows.specs.Laws.Records.{listed}
-use Rattle.rows.specs.Step.{stepRow}
+use Rattle.rows.specs.Step.{step_row}
 use Rattle.rows.proofs.step.step_row.Statement.{statement}
 use Rattle.rows.proofs.step.step_row.Tie as tie
 
@@ -26,7 +26,7 @@ element-copy-out-t30 : tie.Need-element-copy-out-t30
 element-copy-out-t30 c = search rules
 
 returns : tie.Need-returns
-unfolding stepRow
+unfolding step_row
 returns c = rw (← listed 4 c.before.before.before.before.args.t1.spare (simp length-map at c.before.before.before.before.well-formed.0.1.1.0.1.0.1)) refl
 
 pub step-row-spec : {M : Type 1} → statement M

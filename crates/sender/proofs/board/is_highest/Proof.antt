@@ -7,14 +7,14 @@ use lib.Dec.{ltb}
 use lib.ListN.{length}
 use borrow.Author.Rules.{rules}
 use Rattle.sender.specs.Board.{highest}
-use Rattle.sender.specs.Table.{isActive, slot_at}
+use Rattle.sender.specs.Table.{is_active, slot_at}
 use Rattle.ground.specs.Counting.Laws.Tests.{some_more}
 use Rattle.ground.specs.Counting.Words.{some}
 use Rattle.sender.proofs.board.is_highest.Statement.{statement}
 use Rattle.sender.proofs.board.is_highest.Tie as tie
 
 abbrev invariant-loop : tie.invariant-loop
-invariant-loop n number slots higher₀ i₀ higher i = (length slots ≡ 64) × (i ≤ n) × (higher ≡ some i (λ j. isActive (slot_at slots j).state && ltb number (slot_at slots j).number))
+invariant-loop n number slots higher₀ i₀ higher i = (length slots ≡ 64) × (i ≤ n) × (higher ≡ some i (λ j. is_active (slot_at slots j).state && ltb number (slot_at slots j).number))
 
 abbrev decreases-loop : tie.decreases-loop
 decreases-loop n number slots higher₀ i₀ higher i = n - i
@@ -38,7 +38,7 @@ loop-less : tie.Need-loop-smaller invariant-loop decreases-loop
 loop-less c = search rules
 
 loop-again : tie.Need-loop-preserved invariant-loop decreases-loop
-loop-again c = (c.before.before.before.before.loop.invariant.0, omega arith, some_more (λ j. isActive (slot_at c.before.before.before.before.before.args.t1 j).state && ltb c.before.before.before.before.before.args.number (slot_at c.before.before.before.before.before.args.t1 j).number) _ _ _ c.before.before.before.before.loop.invariant.2 (ap (λ b. b && ltb c.before.before.before.before.before.args.number (slot_at c.before.before.before.before.before.args.t1 c.before.before.before.before.loop.i).number) c.before.is-active.ensures))
+loop-again c = (c.before.before.before.before.loop.invariant.0, omega arith, some_more (λ j. is_active (slot_at c.before.before.before.before.before.args.t1 j).state && ltb c.before.before.before.before.before.args.number (slot_at c.before.before.before.before.before.args.t1 j).number) _ _ _ c.before.before.before.before.loop.invariant.2 (ap (λ b. b && ltb c.before.before.before.before.before.args.number (slot_at c.before.before.before.before.before.args.t1 c.before.before.before.before.loop.i).number) c.before.is-active.ensures))
 
 returns : tie.Need-returns invariant-loop decreases-loop
 unfolding highest

@@ -4,7 +4,7 @@ use Prim.Native.Nat.{◌≤◌, ◌-◌}
 use native.Mathlib.Omega.{arith}
 use lib.ListN.{length}
 use borrow.Author.Rules.{rules}
-use Rattle.sender.specs.Commands.{fallen, fallenIn}
+use Rattle.sender.specs.Commands.{fallen, fallen_in}
 use Rattle.sender.specs.Table.{slot_at}
 use Rattle.ground.specs.Counting.Each.{Done, done_none, done_more, done_next, done_all}
 use Rattle.sender.proofs.commands.fall_in.Statement.{statement}
@@ -44,7 +44,7 @@ loop-again : tie.Need-loop-preserved invariant-loop decreases-loop
 loop-again c = (c.before.before.before.loop.invariant.0, omega arith, done_more _ c.before.before.before.loop.invariant.2 (c.fall.ensures ∙ ap (λ s. fallen c.before.before.before.before.args.number s) (done_next _ c.before.before.before.loop.invariant.2)))
 
 returns : tie.Need-returns invariant-loop decreases-loop
-unfolding fallenIn
+unfolding fallen_in
 returns c = done_all c.before.loop.invariant.2 (omega arith)
 
 pub fall-in-spec : {M : Type 1} → statement M

@@ -1,13 +1,13 @@
-use Rattle.sender.specs.Commands.{lapseOf}
+use Rattle.sender.specs.Commands.{lapse_of}
 use Rattle.sender.proofs.commands.lapse.Statement.{statement}
 use Rattle.sender.proofs.commands.lapse.Tie as tie
 
 returns : tie.Need-returns
-unfolding lapseOf
+unfolding lapse_of
 returns c = rw c.before.if1.true
 
 returns-2 : tie.Need-returns-2
-unfolding lapseOf
+unfolding lapse_of
 returns-2 c = rw c.if1.false
 
 pub lapse-spec : {M : Type 1} → statement M

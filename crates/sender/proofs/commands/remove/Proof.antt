@@ -3,8 +3,8 @@ use mathlib.Core.Path.{◌∙◌, sym}
 use Prim.Native.Nat.{◌<◌}
 use native.Mathlib.Omega.{arith}
 use borrow.Author.Rules.{rules}
-use Rattle.sender.specs.Laws.Sizes.{size-le}
-use Rattle.sender.proofs.Answers.{remove-no-slot, remove-wait, remove-not-allowed, remove-done}
+use Rattle.sender.specs.Laws.Sizes.{size_le}
+use Rattle.sender.proofs.Answers.{remove_no_slot, remove_wait, remove_not_allowed, remove_done}
 use Rattle.sender.proofs.commands.remove.Statement.{statement}
 use Rattle.sender.proofs.commands.remove.Tie as tie
 
@@ -12,28 +12,28 @@ size-requires : tie.Need-size-requires
 size-requires c κs = search rules
 
 returns : tie.Need-returns
-returns c = remove-no-slot _ _ c.before.size.ensures c.if1.true
+returns c = remove_no_slot _ _ c.before.size.ensures c.if1.true
 
 returns-2 : tie.Need-returns-2
-returns-2 c = remove-wait _ _ c.before.before.size.ensures c.before.if1.false c.if2.true
+returns-2 c = remove_wait _ _ c.before.before.size.ensures c.before.if1.false c.if2.true
 
 mul-given : tie.Need-overflow-mul-given
 mul-given c = search rules
 
 element-copy-out-given : tie.Need-element-copy-out-given
-element-copy-out-given c = omega (arith, size-le c.before.before.before.args.t1.count)
+element-copy-out-given c = omega (arith, size_le c.before.before.before.args.t1.count)
 
 is-member-requires : tie.Need-is-member-requires
 is-member-requires c κs = search rules
 
 removed-from-requires : tie.Need-removed-from-requires
-removed-from-requires c κs = let h : c.before.before.before.before.before.before.args.slot < 64 = omega (arith, size-le c.before.before.before.before.before.before.args.t1.count) in h
+removed-from-requires c κs = let h : c.before.before.before.before.before.before.args.slot < 64 = omega (arith, size_le c.before.before.before.before.before.before.args.t1.count) in h
 
 returns-3 : tie.Need-returns-3
-returns-3 c = remove-done _ _ c.before.before.before.before.before.before.size.ensures c.before.before.before.before.before.if1.false c.before.before.before.before.if2.false (sym c.before.before.is_member.ensures ∙ c.before.if3.true) c.removed-from.ensures
+returns-3 c = remove_done _ _ c.before.before.before.before.before.before.size.ensures c.before.before.before.before.before.if1.false c.before.before.before.before.if2.false (sym c.before.before.is_member.ensures ∙ c.before.if3.true) c.removed-from.ensures
 
 returns-4 : tie.Need-returns-4
-returns-4 c = remove-not-allowed _ _ c.before.before.before.before.before.size.ensures c.before.before.before.before.if1.false c.before.before.before.if2.false (sym c.before.is_member.ensures ∙ c.if3.false)
+returns-4 c = remove_not_allowed _ _ c.before.before.before.before.before.size.ensures c.before.before.before.before.if1.false c.before.before.before.if2.false (sym c.before.is_member.ensures ∙ c.if3.false)
 
 pub remove-spec : {M : Type 1} → statement M
 remove-spec =

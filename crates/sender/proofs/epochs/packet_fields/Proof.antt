@@ -1,6 +1,6 @@
 use mathlib.Core.Path.{refl}
 use borrow.Author.Rules.{rules}
-use Rattle.sender.specs.Epochs.{packetFields}
+use Rattle.sender.specs.Epochs.{packet_fields}
 use Rattle.sender.proofs.epochs.packet_fields.Statement.{statement}
 use Rattle.sender.proofs.epochs.packet_fields.Tie as tie
 
@@ -11,7 +11,7 @@ element-copy-out-row : tie.Need-element-copy-out-row
 element-copy-out-row c = search rules
 
 returns : tie.Need-returns
-unfolding packetFields
+unfolding packet_fields
 returns c = refl
 
 pub packet-fields-spec : {M : Type 1} → statement M

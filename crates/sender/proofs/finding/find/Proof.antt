@@ -4,20 +4,20 @@ use Prim.Native.Nat.{◌≤◌, ◌-◌}
 use native.Mathlib.Omega.{arith}
 use lib.ListN.{length}
 use borrow.Author.Rules.{rules}
-use Rattle.sender.specs.Laws.Finding.{holder-none, holder-on, holder-here}
-use Rattle.sender.specs.Table.{holderOf}
+use Rattle.sender.specs.Laws.Finding.{holder_none, holder_on, holder_here}
+use Rattle.sender.specs.Table.{holder_of}
 use Rattle.sender.specs.declared.finding.Found.TheVariants.{Nothing}
 use Rattle.sender.proofs.finding.find.Statement.{statement}
 use Rattle.sender.proofs.finding.find.Tie as tie
 
 abbrev invariant-loop : tie.invariant-loop
-invariant-loop n number slots i₀ i = (length slots ≡ 64) × (i ≤ n) × (holderOf slots i number ≡ Nothing)
+invariant-loop n number slots i₀ i = (length slots ≡ 64) × (i ≤ n) × (holder_of slots i number ≡ Nothing)
 
 abbrev decreases-loop : tie.decreases-loop
 decreases-loop n number slots i₀ i = n - i
 
 loop-holds : tie.Need-loop-init invariant-loop decreases-loop
-loop-holds c = (omega arith, omega arith, holder-none _ _)
+loop-holds c = (omega arith, omega arith, holder_none _ _)
 
 mul-slot : tie.Need-overflow-mul-slot invariant-loop decreases-loop
 mul-slot c = search rules
@@ -35,13 +35,13 @@ loop-less : tie.Need-loop-smaller invariant-loop decreases-loop
 loop-less c = search rules
 
 loop-again : tie.Need-loop-preserved invariant-loop decreases-loop
-loop-again c = (c.before.before.before.before.loop.invariant.0, omega arith, holder-on _ _ _ c.before.before.before.before.loop.invariant.2 (sym c.before.is-holder.ensures ∙ c.if2.false))
+loop-again c = (c.before.before.before.before.loop.invariant.0, omega arith, holder_on _ _ _ c.before.before.before.before.loop.invariant.2 (sym c.before.is-holder.ensures ∙ c.if2.false))
 
 returns : tie.Need-returns invariant-loop decreases-loop
 returns c = let e : c.before.loop.i ≡ c.before.before.args.n = omega arith in sym (rw e at c.before.loop.invariant.2)
 
 returns-2 : tie.Need-returns-2 invariant-loop decreases-loop
-returns-2 c = sym (holder-here _ _ _ _ (omega arith) c.before.before.before.before.loop.invariant.2 (sym c.before.is-holder.ensures ∙ c.if2.true))
+returns-2 c = sym (holder_here _ _ _ _ (omega arith) c.before.before.before.before.loop.invariant.2 (sym c.before.is-holder.ensures ∙ c.if2.true))
 
 pub find_spec : {M : Type 1} → statement M
 find_spec =

@@ -4,9 +4,9 @@ use Prim.Native.Nat.{◌+◌, ◌≤◌, ◌-◌}
 use native.Mathlib.Omega.{arith}
 use lib.ListN.{length}
 use borrow.Author.Rules.{rules}
-use Rattle.ground.specs.Flags.{oneIf}
-use Rattle.sender.specs.Table.{isMember, members_of, slot_at}
-use Rattle.ground.specs.Counting.Laws.Numbers.{count-more, count_fits}
+use Rattle.ground.specs.Flags.{one_if}
+use Rattle.sender.specs.Table.{is_member, members_of, slot_at}
+use Rattle.ground.specs.Counting.Laws.Numbers.{count_more, count_fits}
 use Rattle.sender.proofs.table.members.Statement.{statement}
 use Rattle.sender.proofs.table.members.Tie as tie
 
@@ -34,7 +34,7 @@ one-if-requires c κs = search rules
 
 add-sum : tie.Need-overflow-add-sum invariant-loop decreases-loop
 unfolding members_of
-add-sum c = let h : c.before.before.before.before.loop.sum + c.one-if.result ≤ c.before.before.before.before.loop.i + 1 = count_fits (λ i. isMember (slot_at c.before.before.before.before.before.args.t1 i).state) c.before.is_member.result _ _ _ c.before.before.before.before.loop.invariant.2 c.one-if.ensures in omega arith
+add-sum c = let h : c.before.before.before.before.loop.sum + c.one-if.result ≤ c.before.before.before.before.loop.i + 1 = count_fits (λ i. is_member (slot_at c.before.before.before.before.before.args.t1 i).state) c.before.is_member.result _ _ _ c.before.before.before.before.loop.invariant.2 c.one-if.ensures in omega arith
 
 add-i : tie.Need-overflow-add-i invariant-loop decreases-loop
 add-i c = search rules
@@ -44,7 +44,7 @@ loop-less c = search rules
 
 loop-again : tie.Need-loop-preserved invariant-loop decreases-loop
 unfolding members_of
-loop-again c = (c.before.before.before.before.loop.invariant.0, omega arith, count-more (λ i. isMember (slot_at c.before.before.before.before.before.args.t1 i).state) _ _ _ c.before.before.before.before.loop.invariant.2 (c.one-if.ensures ∙ ap oneIf c.before.is_member.ensures))
+loop-again c = (c.before.before.before.before.loop.invariant.0, omega arith, count_more (λ i. is_member (slot_at c.before.before.before.before.before.args.t1 i).state) _ _ _ c.before.before.before.before.loop.invariant.2 (c.one-if.ensures ∙ ap one_if c.before.is_member.ensures))
 
 returns : tie.Need-returns invariant-loop decreases-loop
 returns c = let e : c.before.loop.i ≡ c.before.before.args.n = omega arith in rw e at c.before.loop.invariant.2

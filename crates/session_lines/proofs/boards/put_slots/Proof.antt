@@ -7,14 +7,14 @@ use native.Mathlib.Omega.{arith}
 use lib.ListN.{length}
 use borrow.Author.Rules.{rules}
 use Rattle.text.specs.Output.{Put}
-use Rattle.session_lines.specs.Output.{slotsText}
-use Rattle.session_lines.proofs.Lengths.{slot-room}
+use Rattle.session_lines.specs.Output.{slots_text}
+use Rattle.session_lines.proofs.Lengths.{slot_room}
 use Rattle.text.specs.Laws.Putting.{put_then}
 use Rattle.session_lines.proofs.boards.put_slots.Statement.{statement}
 use Rattle.session_lines.proofs.boards.put_slots.Tie as tie
 
 abbrev invariant-loop : tie.invariant-loop
-invariant-loop n out₀ rows at₀ i₀ out at i = (length rows ≡ 64) × (i ≤ n) × Put (slotsText rows i) 0 out₀ at out
+invariant-loop n out₀ rows at₀ i₀ out at i = (length rows ≡ 64) × (i ≤ n) × Put (slots_text rows i) 0 out₀ at out
 
 abbrev decreases-loop : tie.decreases-loop
 decreases-loop n out₀ rows at₀ i₀ out at i = n - i
@@ -32,7 +32,7 @@ array-copy-out-row : tie.Need-array-copy-out-row invariant-loop decreases-loop
 array-copy-out-row c = search rules
 
 put-slot-requires : tie.Need-put-slot-requires invariant-loop decreases-loop
-put-slot-requires c κs = slot-room c.before.before.before.before.before.before.args.t1 c.before.before.before.before.loop.i c.before.before.before.before.before.before.requires.1 c.before.before.before.before.loop.invariant.2 (omega arith) _ _
+put-slot-requires c κs = slot_room c.before.before.before.before.before.before.args.t1 c.before.before.before.before.loop.i c.before.before.before.before.before.before.requires.1 c.before.before.before.before.loop.invariant.2 (omega arith) _ _
 
 add-i : tie.Need-overflow-add-i invariant-loop decreases-loop
 add-i c = search rules

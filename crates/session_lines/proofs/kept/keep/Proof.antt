@@ -1,6 +1,6 @@
 use borrow.Author.Rules.{rules}
 use borrow.Author.Tests.{lt-ltb, le-ltb}
-use Rattle.session_lines.specs.Kept.{keepOf}
+use Rattle.session_lines.specs.Kept.{keep_of}
 use Rattle.session_lines.proofs.kept.keep.Statement.{statement}
 use Rattle.session_lines.proofs.kept.keep.Tie as tie
 
@@ -11,11 +11,11 @@ add-t9 : tie.Need-overflow-add-t9
 add-t9 c = search rules
 
 returns : tie.Need-returns
-unfolding keepOf
+unfolding keep_of
 returns c = rw (lt-ltb c.before.before.args.kept.count 81 c.before.if1.true)
 
 returns-2 : tie.Need-returns-2
-unfolding keepOf
+unfolding keep_of
 returns-2 c = rw (le-ltb c.before.args.kept.count 81 c.if1.false)
 
 pub keep_spec : {M : Type 1} → statement M

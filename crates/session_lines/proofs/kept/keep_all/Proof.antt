@@ -4,13 +4,13 @@ use Prim.Native.Nat.{◌-◌, ◌≤◌, ◌<◌}
 use native.Mathlib.Omega.{arith}
 use lib.ListN.{length, take}
 use borrow.Author.Rules.{rules}
-use Rattle.session_lines.specs.Kept.{keepAll}
-use Rattle.session_lines.proofs.Keeping.{keep-turn}
+use Rattle.session_lines.specs.Kept.{keep_all}
+use Rattle.session_lines.proofs.Keeping.{keep_turn}
 use Rattle.session_lines.proofs.kept.keep_all.Statement.{statement}
 use Rattle.session_lines.proofs.kept.keep_all.Tie as tie
 
 abbrev invariant-loop : tie.invariant-loop
-invariant-loop input n k₀ i₀ k i = (i ≤ n) × (k ≡ keepAll k₀ (take i input))
+invariant-loop input n k₀ i₀ k i = (i ≤ n) × (k ≡ keep_all k₀ (take i input))
 
 abbrev decreases-loop : tie.decreases-loop
 decreases-loop input n k₀ i₀ k i = n - i
@@ -33,7 +33,7 @@ loop-less c = search rules
 loop-again : tie.Need-loop-preserved invariant-loop decreases-loop
 loop-again c =
     let h : c.before.before.before.loop.i < length c.before.before.before.before.before.args.input.now = omega arith in
-    (omega arith, c.keep.ensures ∙ keep-turn c.before.before.before.before.before.args.kept c.before.before.before.loop.k c.before.before.before.before.before.args.input.now c.before.before.before.loop.i h c.before.before.before.loop.invariant.1)
+    (omega arith, c.keep.ensures ∙ keep_turn c.before.before.before.before.before.args.kept c.before.before.before.loop.k c.before.before.before.before.before.args.input.now c.before.before.before.loop.i h c.before.before.before.loop.invariant.1)
 
 returns : tie.Need-returns invariant-loop decreases-loop
 returns c =

@@ -3,7 +3,7 @@
 use mathlib.Core.Path.{sym, ◌∙◌}
 use lib.Seq.{slice}
 use borrow.Author.Rules.{rules}
-use Rattle.session_lines.proofs.Reading.{unread-number, size-line, add-line, remove-line, other-line}
+use Rattle.session_lines.proofs.Reading.{unread_number, size_line, add_line, remove_line, other_line}
 use Rattle.session_lines.proofs.line.number_line.Statement.{statement}
 use Rattle.session_lines.proofs.line.number_line.Tie as tie
 
@@ -15,9 +15,9 @@ enum_told c = search rules
 
 returns : tie.Need-returns
 returns c =
-    let at-start = c.before.before.before in
-    let args = at-start.args in
-    unread-number (slice args.at args.end args.text.now) args.number c.enum_told.given.1
+    let at_start_lem = c.before.before.before in
+    let args = at_start_lem.args in
+    unread_number (slice args.at args.end args.text.now) args.number c.enum_told.given.1
 
 slice-aggregate-same : tie.Need-slice-aggregate-same
 slice-aggregate-same c = search rules
@@ -28,9 +28,9 @@ same-requires c κs = search rules
 returns-2 : tie.Need-returns-2
 returns-2 c =
     let at-number = c.before.before.before.before in
-    let at-start = at-number.before.before.before in
-    let args = at-start.args in
-    size-line (slice args.at args.end args.text.now) args.number at-number.number.given.0.0 at-number.number.given.1 (sym c.before.same.ensures ∙ c.if1.true)
+    let at_start_lem = at-number.before.before.before in
+    let args = at_start_lem.args in
+    size_line (slice args.at args.end args.text.now) args.number at-number.number.given.0.0 at-number.number.given.1 (sym c.before.same.ensures ∙ c.if1.true)
 
 slice-aggregate-same-2 : tie.Need-slice-aggregate-same-2
 slice-aggregate-same-2 c = search rules
@@ -43,9 +43,9 @@ returns-3 c =
     let at-if1 = c.before.before.before in
     let at_same = at-if1.before in
     let at-number = at_same.before.before.before in
-    let at-start = at-number.before.before.before in
-    let args = at-start.args in
-    add-line (slice args.at args.end args.text.now) args.number at-number.number.given.0.0 at-number.number.given.1 (sym at_same.same.ensures ∙ at-if1.if1.false) (sym c.before.same2.ensures ∙ c.if2.true)
+    let at_start_lem = at-number.before.before.before in
+    let args = at_start_lem.args in
+    add_line (slice args.at args.end args.text.now) args.number at-number.number.given.0.0 at-number.number.given.1 (sym at_same.same.ensures ∙ at-if1.if1.false) (sym c.before.same2.ensures ∙ c.if2.true)
 
 slice-aggregate-same-3 : tie.Need-slice-aggregate-same-3
 slice-aggregate-same-3 c = search rules
@@ -60,9 +60,9 @@ returns-4 c =
     let at-if1 = at-same2.before.before in
     let at_same = at-if1.before in
     let at-number = at_same.before.before.before in
-    let at-start = at-number.before.before.before in
-    let args = at-start.args in
-    remove-line (slice args.at args.end args.text.now) args.number at-number.number.given.0.0 at-number.number.given.1 (sym at_same.same.ensures ∙ at-if1.if1.false) (sym at-same2.same2.ensures ∙ at-if2.if2.false) (sym c.before.same3.ensures ∙ c.if3.true)
+    let at_start_lem = at-number.before.before.before in
+    let args = at_start_lem.args in
+    remove_line (slice args.at args.end args.text.now) args.number at-number.number.given.0.0 at-number.number.given.1 (sym at_same.same.ensures ∙ at-if1.if1.false) (sym at-same2.same2.ensures ∙ at-if2.if2.false) (sym c.before.same3.ensures ∙ c.if3.true)
 
 returns-5 : tie.Need-returns-5
 returns-5 c =
@@ -71,9 +71,9 @@ returns-5 c =
     let at-if1 = at-same2.before.before in
     let at_same = at-if1.before in
     let at-number = at_same.before.before.before in
-    let at-start = at-number.before.before.before in
-    let args = at-start.args in
-    other-line (slice args.at args.end args.text.now) args.number at-number.number.given.0.0 at-number.number.given.1 (sym at_same.same.ensures ∙ at-if1.if1.false) (sym at-same2.same2.ensures ∙ at-if2.if2.false) (sym c.before.same3.ensures ∙ c.if3.false)
+    let at_start_lem = at-number.before.before.before in
+    let args = at_start_lem.args in
+    other_line (slice args.at args.end args.text.now) args.number at-number.number.given.0.0 at-number.number.given.1 (sym at_same.same.ensures ∙ at-if1.if1.false) (sym at-same2.same2.ensures ∙ at-if2.if2.false) (sym c.before.same3.ensures ∙ c.if3.false)
 
 pub number-line-spec : {M : Type 1} → statement M
 number-line-spec =

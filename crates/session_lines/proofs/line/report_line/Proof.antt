@@ -3,7 +3,7 @@
 use mathlib.Core.Path.{sym, ◌∙◌}
 use borrow.Author.Rules.{rules}
 use borrow.Author.Tests.{not-true, not-false}
-use Rattle.session_lines.proofs.Parting.{three, five, other_word, report-word}
+use Rattle.session_lines.proofs.Parting.{three, five, other_word, report_word}
 use Rattle.session_lines.proofs.line.report_line.Statement.{statement}
 use Rattle.session_lines.proofs.line.report_line.Tie as tie
 
@@ -15,9 +15,9 @@ piece-end-requires c κs = search rules
 
 returns : tie.Need-returns
 returns c =
-    let at-start = c.before.before.before in
-    let args = at-start.args in
-    three args.text.now args.at args.first args.second c.before.piece-end.result args.end at-start.requires.1 at-start.requires.2 c.before.piece-end.ensures c.if1.true
+    let at_start_lem = c.before.before.before in
+    let args = at_start_lem.args in
+    three args.text.now args.at args.first args.second c.before.piece-end.result args.end at_start_lem.requires.1 at_start_lem.requires.2 c.before.piece-end.ensures c.if1.true
 
 add-piece-end-2 : tie.Need-overflow-add-piece-end-2
 add-piece-end-2 c = search rules
@@ -29,9 +29,9 @@ returns-2 : tie.Need-returns-2
 returns-2 c =
     let at-if1 = c.before.before in
     let at-piece-end = at-if1.before in
-    let at-start = at-piece-end.before.before in
-    let args = at-start.args in
-    five args.text.now args.at args.first args.second at-piece-end.piece-end.result args.end at-start.requires.1 at-start.requires.2 at-piece-end.piece-end.ensures at-if1.if1.false c.before.piece-end2.result c.before.piece-end2.ensures c.if2.true
+    let at_start_lem = at-piece-end.before.before in
+    let args = at_start_lem.args in
+    five args.text.now args.at args.first args.second at-piece-end.piece-end.result args.end at_start_lem.requires.1 at_start_lem.requires.2 at-piece-end.piece-end.ensures at-if1.if1.false c.before.piece-end2.result c.before.piece-end2.ensures c.if2.true
 
 slice-aggregate-same : tie.Need-slice-aggregate-same
 slice-aggregate-same c = search rules
@@ -45,9 +45,9 @@ returns-3 c =
     let at-piece-end2 = at-if2.before in
     let at-if1 = at-piece-end2.before in
     let at-piece-end = at-if1.before in
-    let at-start = at-piece-end.before.before in
-    let args = at-start.args in
-    other_word args.text.now args.at args.first args.second at-piece-end.piece-end.result args.end at-start.requires.1 at-start.requires.2 at-piece-end.piece-end.ensures at-if1.if1.false at-piece-end2.piece-end2.result at-piece-end2.piece-end2.ensures at-if2.if2.false (sym c.before.same.ensures ∙ not-true c.before.same.result c.if3.true)
+    let at_start_lem = at-piece-end.before.before in
+    let args = at_start_lem.args in
+    other_word args.text.now args.at args.first args.second at-piece-end.piece-end.result args.end at_start_lem.requires.1 at_start_lem.requires.2 at-piece-end.piece-end.ensures at-if1.if1.false at-piece-end2.piece-end2.result at-piece-end2.piece-end2.ensures at-if2.if2.false (sym c.before.same.ensures ∙ not-true c.before.same.result c.if3.true)
 
 add-read-number : tie.Need-overflow-add-read-number
 add-read-number c = search rules
@@ -80,9 +80,9 @@ returns-4 c =
     let at-piece-end2 = at-if2.before in
     let at-if1 = at-piece-end2.before in
     let at-piece-end = at-if1.before in
-    let at-start = at-piece-end.before.before in
-    let args = at-start.args in
-    c.report-of.ensures ∙ report-word args.text.now args.at args.first args.second at-piece-end.piece-end.result args.end at-start.requires.1 at-start.requires.2 at-piece-end.piece-end.ensures at-if1.if1.false at-piece-end2.piece-end2.result at-piece-end2.piece-end2.ensures at-if2.if2.false (sym at_same.same.ensures ∙ not-false at_same.same.result at-if3.if3.false) at-read-number.read_number.result at-read-hex.read-hex.result c.before.read-number2.result at-read-number.read_number.ensures at-read-hex.read-hex.ensures c.before.read-number2.ensures
+    let at_start_lem = at-piece-end.before.before in
+    let args = at_start_lem.args in
+    c.report-of.ensures ∙ report_word args.text.now args.at args.first args.second at-piece-end.piece-end.result args.end at_start_lem.requires.1 at_start_lem.requires.2 at-piece-end.piece-end.ensures at-if1.if1.false at-piece-end2.piece-end2.result at-piece-end2.piece-end2.ensures at-if2.if2.false (sym at_same.same.ensures ∙ not-false at_same.same.result at-if3.if3.false) at-read-number.read_number.result at-read-hex.read-hex.result c.before.read-number2.result at-read-number.read_number.ensures at-read-hex.read-hex.ensures c.before.read-number2.ensures
 
 pub report-line-spec : {M : Type 1} → statement M
 report-line-spec =

@@ -2,7 +2,7 @@
 -- Three fields are told apart one after the other; each exit cites the law of Reading for those that were read. In range means that the three numbers are bytes (`bounded`).
 use native.Mathlib.Omega.{arith}
 use borrow.Author.Rules.{rules}
-use Rattle.session_lines.proofs.Reading.{bounded, unread-epoch, unread-mst, unread-ack, read-report, refused-report}
+use Rattle.session_lines.proofs.Reading.{bounded, unread_epoch, unread_mst, unread_ack, read_report, refused_report}
 use Rattle.session_lines.proofs.line.report_of.Statement.{statement}
 use Rattle.session_lines.proofs.line.report_of.Tie as tie
 
@@ -14,9 +14,9 @@ enum_told c = search rules
 
 returns : tie.Need-returns
 returns c =
-    let at-start = c.before.before in
-    let args = at-start.args in
-    unread-epoch args.epoch args.mst args.ack c.enum_told.given.1
+    let at_start_lem = c.before.before in
+    let args = at_start_lem.args in
+    unread_epoch args.epoch args.mst args.ack c.enum_told.given.1
 
 enum-known-mst : tie.Need-enum-known-mst
 enum-known-mst c = search rules
@@ -27,9 +27,9 @@ enum-told-2 c = search rules
 returns-2 : tie.Need-returns-2
 returns-2 c =
     let at-epoch = c.before.before.before in
-    let at-start = at-epoch.before.before in
-    let args = at-start.args in
-    unread-mst args.epoch args.mst args.ack at-epoch.epoch.given.0.0 at-epoch.epoch.given.1 c.enum-told2.given.1
+    let at_start_lem = at-epoch.before.before in
+    let args = at_start_lem.args in
+    unread_mst args.epoch args.mst args.ack at-epoch.epoch.given.0.0 at-epoch.epoch.given.1 c.enum-told2.given.1
 
 enum-known-ack : tie.Need-enum-known-ack
 enum-known-ack c = search rules
@@ -41,9 +41,9 @@ returns-3 : tie.Need-returns-3
 returns-3 c =
     let at-mst = c.before.before.before in
     let at-epoch = at-mst.before.before.before in
-    let at-start = at-epoch.before.before in
-    let args = at-start.args in
-    unread-ack args.epoch args.mst args.ack at-epoch.epoch.given.0.0 at-mst.mst.given.0.0 at-epoch.epoch.given.1 at-mst.mst.given.1 c.enum-told3.given.1
+    let at_start_lem = at-epoch.before.before in
+    let args = at_start_lem.args in
+    unread_ack args.epoch args.mst args.ack at-epoch.epoch.given.0.0 at-mst.mst.given.0.0 at-epoch.epoch.given.1 at-mst.mst.given.1 c.enum-told3.given.1
 
 cast-t12 : tie.Need-overflow-cast-t12
 cast-t12 c =
@@ -71,18 +71,18 @@ returns-4 c =
     let at-ack = c.before.before in
     let at-mst = at-ack.before.before.before in
     let at-epoch = at-mst.before.before.before in
-    let at-start = at-epoch.before.before in
-    let args = at-start.args in
-    read-report args.epoch args.mst args.ack at-epoch.epoch.given.0.0 at-mst.mst.given.0.0 at-ack.ack.given.0.0 at-epoch.epoch.given.1 at-mst.mst.given.1 at-ack.ack.given.1 c.if1.true
+    let at_start_lem = at-epoch.before.before in
+    let args = at_start_lem.args in
+    read_report args.epoch args.mst args.ack at-epoch.epoch.given.0.0 at-mst.mst.given.0.0 at-ack.ack.given.0.0 at-epoch.epoch.given.1 at-mst.mst.given.1 at-ack.ack.given.1 c.if1.true
 
 returns-5 : tie.Need-returns-5
 returns-5 c =
     let at-ack = c.before.before in
     let at-mst = at-ack.before.before.before in
     let at-epoch = at-mst.before.before.before in
-    let at-start = at-epoch.before.before in
-    let args = at-start.args in
-    refused-report args.epoch args.mst args.ack at-epoch.epoch.given.0.0 at-mst.mst.given.0.0 at-ack.ack.given.0.0 at-epoch.epoch.given.1 at-mst.mst.given.1 at-ack.ack.given.1 c.if1.false
+    let at_start_lem = at-epoch.before.before in
+    let args = at_start_lem.args in
+    refused_report args.epoch args.mst args.ack at-epoch.epoch.given.0.0 at-mst.mst.given.0.0 at-ack.ack.given.0.0 at-epoch.epoch.given.1 at-mst.mst.given.1 at-ack.ack.given.1 c.if1.false
 
 pub report-of-spec : {M : Type 1} → statement M
 report-of-spec =

@@ -1,9 +1,9 @@
 use lib.ListN.{length}
 use borrow.Author.Rules.{rules}
-use Rattle.text.specs.Laws.Putting.{is-put, put_then, room, shorter}
-use Rattle.text.specs.Output.{decimalText, ended}
+use Rattle.text.specs.Laws.Putting.{is_put, put_then, room, shorter}
+use Rattle.text.specs.Output.{decimal_text, ended}
 use Rattle.text.specs.Text.{LINE-END, TAB}
-use Rattle.session_lines.specs.Output.{ANSWER, answerText}
+use Rattle.session_lines.specs.Output.{ANSWER, answer_text}
 use Rattle.session_lines.proofs.output.put_answer.Statement.{statement}
 use Rattle.session_lines.proofs.output.put_answer.Tie as tie
 
@@ -20,13 +20,13 @@ same_length : tie.Need-same-length
 same_length c = search rules
 
 returns : tie.Need-returns
-unfolding answerText
+unfolding answer_text
 returns c =
     let put = c.before.before.before.before.before.before.put in
     let s = c.before.before.before.before.before.before.before.before.before.before in
-    let b = ended (decimalText s.args.number) LINE-END in
-    let p = is-put (shorter (ended ANSWER TAB) b 0 (length s.args.out.now) s.requires) put.ensures in
-    put_then p (is-put (room p b s.requires) c.before.before.put-number.ensures)
+    let b = ended (decimal_text s.args.number) LINE-END in
+    let p = is_put (shorter (ended ANSWER TAB) b 0 (length s.args.out.now) s.requires) put.ensures in
+    put_then p (is_put (room p b s.requires) c.before.before.put-number.ensures)
 
 pub put-answer-spec : {M : Type 1} → statement M
 put-answer-spec =

@@ -1,7 +1,7 @@
 -- One case for each line: its own call of the sender, replied by number and table; the board is 0 and a malformed line 13, and both leave the table.
 use mathlib.Core.Path.{◌∙◌, ap}
 use borrow.Author.Rules.{rules}
-use Rattle.session_lines.specs.Replies.{repliedOf, replyOf}
+use Rattle.session_lines.specs.Replies.{replied_of, reply_of}
 use Rattle.session_lines.proofs.replies.reply_to.Statement.{statement}
 use Rattle.session_lines.proofs.replies.reply_to.Tie as tie
 
@@ -54,31 +54,31 @@ enum-told-3 : tie.Need-enum-told-3
 enum-told-3 c = search rules
 
 returns : tie.Need-returns
-unfolding replyOf
+unfolding reply_of
 returns c = rw c.before.before.line.given.1 c.size-reply.ensures
 
 returns-2 : tie.Need-returns-2
-unfolding replyOf
-returns-2 c = rw c.before.before.before.line2.given.1 (c.replied.ensures ∙ ap repliedOf c.before.add.ensures)
+unfolding reply_of
+returns-2 c = rw c.before.before.before.line2.given.1 (c.replied.ensures ∙ ap replied_of c.before.add.ensures)
 
 returns-3 : tie.Need-returns-3
-unfolding replyOf
-returns-3 c = rw c.before.before.before.line3.given.1 (c.replied2.ensures ∙ ap repliedOf c.before.remove.ensures)
+unfolding reply_of
+returns-3 c = rw c.before.before.before.line3.given.1 (c.replied2.ensures ∙ ap replied_of c.before.remove.ensures)
 
 returns-4 : tie.Need-returns-4
-unfolding replyOf
-returns-4 c = rw c.before.before.before.line4.given.1 (c.replied3.ensures ∙ ap repliedOf c.before.report.ensures)
+unfolding reply_of
+returns-4 c = rw c.before.before.before.line4.given.1 (c.replied3.ensures ∙ ap replied_of c.before.report.ensures)
 
 returns-5 : tie.Need-returns-5
-unfolding replyOf
-returns-5 c = rw c.before.before.enum_told.given.1 (c.replied4.ensures ∙ ap repliedOf c.before.lapse.ensures)
+unfolding reply_of
+returns-5 c = rw c.before.before.enum_told.given.1 (c.replied4.ensures ∙ ap replied_of c.before.lapse.ensures)
 
 returns-6 : tie.Need-returns-6
-unfolding replyOf
+unfolding reply_of
 returns-6 c = rw c.enum-told2.given.1
 
 returns-7 : tie.Need-returns-7
-unfolding replyOf
+unfolding reply_of
 returns-7 c = rw c.enum-told3.given.1
 
 pub reply-to-spec : {M : Type 1} → statement M

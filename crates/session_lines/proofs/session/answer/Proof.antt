@@ -16,8 +16,8 @@ reply-to-requires c κs = search rules
 put-output-requires : tie.Need-put-output-requires
 put-output-requires c κs =
     let at-reply-to = c.before.before in
-    let at-start = at-reply-to.before.before.before in
-    (at-start.requires, ap (λ (r : Reply). r.number) at-reply-to.reply-to.ensures)
+    let at_start_lem = at-reply-to.before.before.before in
+    (at_start_lem.requires, ap (λ (r : Reply). r.number) at-reply-to.reply-to.ensures)
 
 same_length : tie.Need-same-length
 same_length c = search rules
@@ -27,8 +27,8 @@ returns c =
     let at-put-output = c.before.before in
     let at-reply-to = at-put-output.before.before.before in
     let at-line-in = at-reply-to.before in
-    let at-start = at-line-in.before.before in
-    let args = at-start.args in
+    let at_start_lem = at-line-in.before.before in
+    let args = at_start_lem.args in
     answered args.table args.kept at-line-in.line-in.result at-reply-to.reply-to.result args.out.now _ _ at-line-in.line-in.ensures at-reply-to.reply-to.ensures at-put-output.put-output.ensures
 
 pub answer-spec : {M : Type 1} → statement M

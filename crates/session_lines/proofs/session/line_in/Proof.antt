@@ -1,5 +1,5 @@
 use borrow.Author.Rules.{rules}
-use Rattle.session_lines.specs.Kept.{lineIn}
+use Rattle.session_lines.specs.Kept.{line_in}
 use Rattle.session_lines.proofs.session.line_in.Statement.{statement}
 use Rattle.session_lines.proofs.session.line_in.Tie as tie
 
@@ -10,7 +10,7 @@ read-line-requires : tie.Need-read-line-requires
 read-line-requires c κs = search rules
 
 returns : tie.Need-returns
-unfolding lineIn
+unfolding line_in
 returns c = c.read-line.ensures
 
 pub line-in-spec : {M : Type 1} → statement M

@@ -1,5 +1,5 @@
 -- `put_refused` meets its contract: seven texts one behind the other, which are together shorter than the room.
-use Rattle.speak_lines.proofs.Printing.{refused-stands}
+use Rattle.speak_lines.proofs.Printing.{refused_stands}
 use borrow.Author.Rules.{rules}
 use Rattle.speak_lines.proofs.lines.put_refused.Statement.{statement}
 use Rattle.speak_lines.proofs.lines.put_refused.Tie as tie
@@ -43,9 +43,9 @@ returns c =
     let at-put2 = at-put-decimal.before.before.before.before in
     let at-put-number = at-put2.before.before.before.before.before in
     let at-put = at-put-number.before.before.before.before in
-    let at-start = at-put.before.before.before.before in
-    let a = at-start.args in
-    refused-stands a.line a.number a.place a.out.now at-start.requires at-put.put.ensures at-put-number.put-number.ensures at-put2.put2.ensures
+    let at_start_lem = at-put.before.before.before.before in
+    let a = at_start_lem.args in
+    refused_stands a.line a.number a.place a.out.now at_start_lem.requires at-put.put.ensures at-put-number.put-number.ensures at-put2.put2.ensures
     at-put-decimal.put-decimal.ensures at-put-named.put-named.ensures at-put-numbered.put-numbered.ensures at-put-why.put-why.ensures
 
 pub put-refused-spec : {M : Type 1} → statement M

@@ -1,4 +1,4 @@
-use Rattle.speak_lines.proofs.Answering.{after_line}
+use Rattle.speak_lines.proofs.Answering.{after_line_lem}
 use borrow.Author.Rules.{rules}
 use Rattle.speak_lines.proofs.listening.after_line.Statement.{statement}
 use Rattle.speak_lines.proofs.listening.after_line.Tie as tie
@@ -21,7 +21,7 @@ returns c =
     let at-heard-after = at-nothing.before in
     let at-table-after = at-heard-after.before in
     let a = at-table-after.before.before.before.args in
-    after_line a.listener a.kept at-table-after.table-after.result at-heard-after.heard-after.result at-nothing.nothing.result c.next_place.result at-table-after.table-after.ensures at-heard-after.heard-after.ensures at-nothing.nothing.ensures c.next_place.ensures
+    after_line_lem a.listener a.kept at-table-after.table-after.result at-heard-after.heard-after.result at-nothing.nothing.result c.next_place.result at-table-after.table-after.ensures at-heard-after.heard-after.ensures at-nothing.nothing.ensures c.next_place.ensures
 
 pub after-line-spec : {M : Type 1} → statement M
 after-line-spec = tie.close (tie.spec table-after-requires heard-after-requires nothing-requires next-place-requires returns)

@@ -1,5 +1,5 @@
 -- The board she holds changes with `epoch` (`heard-epoch`) and with a size that is accepted (`heard-anew`), and else stays (`heard-still`).
-use Rattle.speak_lines.proofs.Answering.{heard-anew, heard-epoch, heard-still}
+use Rattle.speak_lines.proofs.Answering.{heard_anew, heard_epoch, heard_still}
 use borrow.Author.Rules.{rules}
 use Rattle.speak_lines.proofs.listening.heard_after.Statement.{statement}
 use Rattle.speak_lines.proofs.listening.heard_after.Tie as tie
@@ -14,7 +14,7 @@ returns : tie.Need-returns
 returns c =
     let at-is-epoch = c.before.before in
     let a = at-is-epoch.before.args in
-    heard-epoch a.table a.kept at-is-epoch.is-epoch.result at-is-epoch.is-epoch.ensures c.before.if1.true c.board-of.result a.heard c.board-of.ensures
+    heard_epoch a.table a.kept at-is-epoch.is-epoch.result at-is-epoch.is-epoch.ensures c.before.if1.true c.board-of.result a.heard c.board-of.ensures
 
 line-in-requires : tie.Need-line-in-requires
 line-in-requires c κs = search rules
@@ -37,7 +37,7 @@ returns-2 c =
     let at-if1 = at-line-in.before in
     let at-is-epoch = at-if1.before in
     let a = at-is-epoch.before.args in
-    heard-anew a.table a.kept at-is-epoch.is-epoch.result at-is-epoch.is-epoch.ensures at-if1.if1.false at-line-in.line-in.result at-line-in.line-in.ensures at-is-size.is-size.result at-is-size.is-size.ensures at-if2.if2.true at-reply-to.reply-to.result at-reply-to.reply-to.ensures c.board-of2.result a.heard c.board-of2.ensures
+    heard_anew a.table a.kept at-is-epoch.is-epoch.result at-is-epoch.is-epoch.ensures at-if1.if1.false at-line-in.line-in.result at-line-in.line-in.ensures at-is-size.is-size.result at-is-size.is-size.ensures at-if2.if2.true at-reply-to.reply-to.result at-reply-to.reply-to.ensures c.board-of2.result a.heard c.board-of2.ensures
 
 returns-3 : tie.Need-returns-3
 returns-3 c =
@@ -46,7 +46,7 @@ returns-3 c =
     let at-if1 = at-line-in.before in
     let at-is-epoch = at-if1.before in
     let a = at-is-epoch.before.args in
-    heard-still a.table a.kept at-is-epoch.is-epoch.result at-is-epoch.is-epoch.ensures at-if1.if1.false at-line-in.line-in.result at-line-in.line-in.ensures at-is-size.is-size.result at-is-size.is-size.ensures c.if2.false a.heard
+    heard_still a.table a.kept at-is-epoch.is-epoch.result at-is-epoch.is-epoch.ensures at-if1.if1.false at-line-in.line-in.result at-line-in.line-in.ensures at-is-size.is-size.result at-is-size.is-size.ensures c.if2.false a.heard
 
 pub heard-after-spec : {M : Type 1} → statement M
 heard-after-spec = tie.close (tie.spec is-epoch-requires board-of-requires returns line-in-requires is-size-requires reply-to-requires board-of-requires-2 returns-2 returns-3)

@@ -1,4 +1,4 @@
-use Rattle.session_lines.specs.Kept.{lineIn}
+use Rattle.session_lines.specs.Kept.{line_in}
 use borrow.Author.Rules.{rules}
 use Rattle.speak_lines.proofs.listening.is_epoch.Statement.{statement}
 use Rattle.speak_lines.proofs.listening.is_epoch.Tie as tie
@@ -13,7 +13,7 @@ same-requires : tie.Need-same-requires
 same-requires c κs = search rules
 
 returns : tie.Need-returns
-unfolding lineIn
+unfolding line_in
 returns c = c.same.ensures
 
 pub is-epoch-spec : {M : Type 1} → statement M

@@ -1,5 +1,5 @@
 use borrow.Author.Tests.{le-ltb, lt-ltb}
-use Rattle.speak_lines.specs.Listening.{nextPlace}
+use Rattle.speak_lines.specs.Listening.{next_place}
 use borrow.Author.Rules.{rules}
 use Rattle.speak_lines.proofs.listening.next_place.Statement.{statement}
 use Rattle.speak_lines.proofs.listening.next_place.Tie as tie
@@ -8,11 +8,11 @@ add-result : tie.Need-overflow-add-result
 add-result c = search rules
 
 returns : tie.Need-returns
-unfolding nextPlace
+unfolding next_place
 returns c = rw (lt-ltb c.before.args.place 18446744073709551615 c.if1.true)
 
 returns-2 : tie.Need-returns-2
-unfolding nextPlace
+unfolding next_place
 returns-2 c = rw (le-ltb c.before.args.place 18446744073709551615 c.if1.false)
 
 pub next-place-spec : {M : Type 1} → statement M

@@ -1,5 +1,5 @@
 -- `epoch` tells the changes from the board she holds to the table's own (`text-epoch`); any other line tells what it says (`text-line`).
-use Rattle.speak_lines.proofs.Answering.{text-epoch, text-line}
+use Rattle.speak_lines.proofs.Answering.{text_epoch, text_line}
 use borrow.Author.Rules.{rules}
 use Rattle.speak_lines.proofs.listening.put_line.Statement.{statement}
 use Rattle.speak_lines.proofs.listening.put_line.Tie as tie
@@ -27,7 +27,7 @@ returns c =
     let at-if1 = at-board-of.before in
     let at-is-epoch = at-if1.before in
     let a = at-is-epoch.before.before.before.before.args in
-    text-epoch a.listener a.kept a.out.now _ _ at-is-epoch.is-epoch.result at-is-epoch.is-epoch.ensures at-if1.if1.true at-board-of.board-of.result at-board-of.board-of.ensures at-between.changes-between.result at-between.changes-between.ensures at-put-changes.put-changes.ensures
+    text_epoch a.listener a.kept a.out.now _ _ at-is-epoch.is-epoch.result at-is-epoch.is-epoch.ensures at-if1.if1.true at-board-of.board-of.result at-board-of.board-of.ensures at-between.changes-between.result at-between.changes-between.ensures at-put-changes.put-changes.ensures
 
 line-in-requires : tie.Need-line-in-requires
 line-in-requires c κs = search rules
@@ -45,7 +45,7 @@ returns-2 c =
     let at-if1 = at-line-in.before in
     let at-is-epoch = at-if1.before in
     let a = at-is-epoch.before.before.before.before.args in
-    text-line a.listener a.kept a.out.now _ _ at-is-epoch.is-epoch.result at-is-epoch.is-epoch.ensures at-if1.if1.false at-line-in.line-in.result at-line-in.line-in.ensures at-put-said.put-said.ensures
+    text_line a.listener a.kept a.out.now _ _ at-is-epoch.is-epoch.result at-is-epoch.is-epoch.ensures at-if1.if1.false at-line-in.line-in.result at-line-in.line-in.ensures at-put-said.put-said.ensures
 
 pub put-line-spec : {M : Type 1} → statement M
 put-line-spec = tie.close (tie.spec is-epoch-requires board-of-requires changes-between-requires put-changes-requires same_length returns line-in-requires put-said-requires same-length-2 returns-2)

@@ -1,5 +1,5 @@
 -- Three exits are the three cases of the definition: the board (`said-board`), a line done (`said-done`), and a line refused (`said-refused`).
-use Rattle.speak_lines.proofs.Answering.{said-board, said-done, said-refused}
+use Rattle.speak_lines.proofs.Answering.{said_board, said_done, said_refused}
 use borrow.Author.Rules.{rules}
 use Rattle.speak_lines.proofs.listening.put_said.Statement.{statement}
 use Rattle.speak_lines.proofs.listening.put_said.Tie as tie
@@ -19,7 +19,7 @@ returns c =
     let at-if1 = at-put-board.before.before in
     let at-is-board = at-if1.before in
     let a = at-is-board.before.before.args in
-    said-board a.runs a.table a.line a.place a.out.now _ _ at-is-board.is-board.result at-is-board.is-board.ensures at-if1.if1.true at-put-board.put-board.ensures
+    said_board a.runs a.table a.line a.place a.out.now _ _ at-is-board.is-board.result at-is-board.is-board.ensures at-if1.if1.true at-put-board.put-board.ensures
 
 reply-to-requires : tie.Need-reply-to-requires
 reply-to-requires c κs = search rules
@@ -38,7 +38,7 @@ returns-2 c =
     let at-if1 = at-reply-to.before in
     let at-is-board = at-if1.before in
     let a = at-is-board.before.before.args in
-    said-done a.runs a.table a.line a.place a.out.now _ _ at-is-board.is-board.result at-is-board.is-board.ensures at-if1.if1.false at-reply-to.reply-to.result at-reply-to.reply-to.ensures at-if2.if2.true at-put-done.put-done.ensures
+    said_done a.runs a.table a.line a.place a.out.now _ _ at-is-board.is-board.result at-is-board.is-board.ensures at-if1.if1.false at-reply-to.reply-to.result at-reply-to.reply-to.ensures at-if2.if2.true at-put-done.put-done.ensures
 
 put-refused-requires : tie.Need-put-refused-requires
 put-refused-requires c κs = search rules
@@ -54,7 +54,7 @@ returns-3 c =
     let at-if1 = at-reply-to.before in
     let at-is-board = at-if1.before in
     let a = at-is-board.before.before.args in
-    said-refused a.runs a.table a.line a.place a.out.now _ _ at-is-board.is-board.result at-is-board.is-board.ensures at-if1.if1.false at-reply-to.reply-to.result at-reply-to.reply-to.ensures at-if2.if2.false at-put-refused.Put-refused.ensures
+    said_refused a.runs a.table a.line a.place a.out.now _ _ at-is-board.is-board.result at-is-board.is-board.ensures at-if1.if1.false at-reply-to.reply-to.result at-reply-to.reply-to.ensures at-if2.if2.false at-put-refused.Put-refused.ensures
 
 pub put-said-spec : {M : Type 1} → statement M
 put-said-spec = tie.close (tie.spec is-board-requires put-board-requires same_length returns reply-to-requires put-done-requires same-length-2 returns-2 put-refused-requires same-length-3 returns-3)

@@ -1,4 +1,4 @@
-use Rattle.speak_lines.proofs.Answering.{table-epoch, table-line}
+use Rattle.speak_lines.proofs.Answering.{table_epoch, table_line}
 use borrow.Author.Rules.{rules}
 use Rattle.speak_lines.proofs.listening.table_after.Statement.{statement}
 use Rattle.speak_lines.proofs.listening.table_after.Tie as tie
@@ -10,7 +10,7 @@ returns : tie.Need-returns
 returns c =
     let at-is-epoch = c.before in
     let a = at-is-epoch.before.args in
-    table-epoch a.table a.kept at-is-epoch.is-epoch.result at-is-epoch.is-epoch.ensures c.if1.true
+    table_epoch a.table a.kept at-is-epoch.is-epoch.result at-is-epoch.is-epoch.ensures c.if1.true
 
 line-in-requires : tie.Need-line-in-requires
 line-in-requires c κs = search rules
@@ -25,7 +25,7 @@ returns-2 c =
     let at-if1 = at-line-in.before in
     let at-is-epoch = at-if1.before in
     let a = at-is-epoch.before.args in
-    table-line a.table a.kept at-is-epoch.is-epoch.result at-is-epoch.is-epoch.ensures at-if1.if1.false at-line-in.line-in.result at-line-in.line-in.ensures at-reply-to.reply-to.result at-reply-to.reply-to.ensures
+    table_line a.table a.kept at-is-epoch.is-epoch.result at-is-epoch.is-epoch.ensures at-if1.if1.false at-line-in.line-in.result at-line-in.line-in.ensures at-reply-to.reply-to.result at-reply-to.reply-to.ensures
 
 pub table-after-spec : {M : Type 1} → statement M
 table-after-spec = tie.close (tie.spec is-epoch-requires returns line-in-requires reply-to-requires returns-2)

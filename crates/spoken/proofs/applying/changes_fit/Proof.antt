@@ -3,20 +3,20 @@ use mathlib.Core.Path.{◌≡◌, refl}
 use Prim.Native.Nat.{◌≤◌, ◌-◌}
 use native.Mathlib.Omega.{arith}
 use lib.ListN.{length}
-use Rattle.spoken.specs.Applying.{changesFit}
-use Rattle.spoken.proofs.Fitting.{fit-more}
+use Rattle.spoken.specs.Applying.{changes_fit}
+use Rattle.spoken.proofs.Fitting.{fit_more}
 use borrow.Author.Rules.{rules}
 use Rattle.spoken.proofs.applying.changes_fit.Statement.{statement}
 use Rattle.spoken.proofs.applying.changes_fit.Tie as tie
 
 abbrev invariant-loop : tie.invariant-loop
-invariant-loop count n rows list all₀ k₀ all k = (length rows ≡ 64) × (length list ≡ 64) × (k ≤ n) × (all ≡ changesFit rows count list k)
+invariant-loop count n rows list all₀ k₀ all k = (length rows ≡ 64) × (length list ≡ 64) × (k ≤ n) × (all ≡ changes_fit rows count list k)
 
 abbrev decreases-loop : tie.decreases-loop
 decreases-loop count n rows list all₀ k₀ all k = n - k
 
 loop-holds : tie.Need-loop-init invariant-loop decreases-loop
-unfolding changesFit
+unfolding changes_fit
 loop-holds c = (omega arith, omega arith, omega arith, refl)
 
 mul-change : tie.Need-overflow-mul-change invariant-loop decreases-loop
@@ -47,7 +47,7 @@ loop-less : tie.Need-loop-smaller invariant-loop decreases-loop
 loop-less c = search rules
 
 loop-again : tie.Need-loop-preserved invariant-loop decreases-loop
-loop-again c = (c.before.before.before.before.before.before.loop.invariant.0, c.before.before.before.before.before.before.loop.invariant.1, omega arith, fit-more c.before.before.before.before.before.before.before.args.t1 c.before.before.before.before.before.before.before.args.count c.before.before.before.before.before.before.before.args.t3 c.before.before.before.before.before.before.loop.k _ _ _ c.before.before.before.before.before.before.before.requires.1 c.before.before.before.before.before.before.loop.invariant.3 c.before.rises-at.ensures c.fits_by.ensures)
+loop-again c = (c.before.before.before.before.before.before.loop.invariant.0, c.before.before.before.before.before.before.loop.invariant.1, omega arith, fit_more c.before.before.before.before.before.before.before.args.t1 c.before.before.before.before.before.before.before.args.count c.before.before.before.before.before.before.before.args.t3 c.before.before.before.before.before.before.loop.k _ _ _ c.before.before.before.before.before.before.before.requires.1 c.before.before.before.before.before.before.loop.invariant.3 c.before.rises-at.ensures c.fits_by.ensures)
 
 returns : tie.Need-returns invariant-loop decreases-loop
 returns c = let e : c.before.loop.k ≡ c.before.before.args.n = omega arith in rw e at c.before.loop.invariant.3

@@ -3,14 +3,14 @@ use mathlib.Core.Path.{◌≡◌, refl}
 use Prim.Native.Nat.{◌≤◌, ◌-◌}
 use native.Mathlib.Omega.{arith}
 use lib.ListN.{length}
-use Rattle.spoken.specs.Applying.{laidTo}
-use Rattle.spoken.proofs.Fitting.{laid-length, laid_more}
+use Rattle.spoken.specs.Applying.{laid_to}
+use Rattle.spoken.proofs.Fitting.{laid_length, laid_more}
 use borrow.Author.Rules.{rules}
 use Rattle.spoken.proofs.applying.lay.Statement.{statement}
 use Rattle.spoken.proofs.applying.lay.Tie as tie
 
 abbrev invariant-loop : tie.invariant-loop
-invariant-loop n list laid₀ k₀ laid k = (length list ≡ 64) × (length laid ≡ 64) × (k ≤ n) × (laid ≡ laidTo laid₀ list k)
+invariant-loop n list laid₀ k₀ laid k = (length list ≡ 64) × (length laid ≡ 64) × (k ≤ n) × (laid ≡ laid_to laid₀ list k)
 
 abbrev decreases-loop : tie.decreases-loop
 decreases-loop n list laid₀ k₀ laid k = n - k
@@ -40,7 +40,7 @@ loop-less : tie.Need-loop-smaller invariant-loop decreases-loop
 loop-less c = search rules
 
 loop-again : tie.Need-loop-preserved invariant-loop decreases-loop
-loop-again c = (c.before.before.before.before.loop.invariant.0, laid-length c.before.before.before.before.before.args.t2 c.before.before.before.before.loop.k c.before.before.before.before.loop.laid c.before.before.before.before.loop.invariant.1, omega arith, laid_more c.before.before.before.before.before.args.rows c.before.before.before.before.before.args.t2 c.before.before.before.before.loop.k c.before.before.before.before.loop.laid c.before.before.before.before.loop.invariant.3)
+loop-again c = (c.before.before.before.before.loop.invariant.0, laid_length c.before.before.before.before.before.args.t2 c.before.before.before.before.loop.k c.before.before.before.before.loop.laid c.before.before.before.before.loop.invariant.1, omega arith, laid_more c.before.before.before.before.before.args.rows c.before.before.before.before.before.args.t2 c.before.before.before.before.loop.k c.before.before.before.before.loop.laid c.before.before.before.before.loop.invariant.3)
 
 returns : tie.Need-returns invariant-loop decreases-loop
 returns c = let e : c.before.loop.k ≡ c.before.before.args.n = omega arith in rw e at c.before.loop.invariant.3

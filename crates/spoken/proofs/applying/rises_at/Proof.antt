@@ -1,5 +1,5 @@
 -- The first change always rises; any later one by the slot before it, whose place k - 1 is right only behind that test (`rises-before`).
-use Rattle.spoken.proofs.Fitting.{rises-before}
+use Rattle.spoken.proofs.Fitting.{rises_before}
 use borrow.Author.Rules.{rules}
 use Rattle.spoken.proofs.applying.rises_at.Statement.{statement}
 use Rattle.spoken.proofs.applying.rises_at.Tie as tie
@@ -23,7 +23,7 @@ array-copy-out-change : tie.Need-array-copy-out-change
 array-copy-out-change c = search rules
 
 returns-2 : tie.Need-returns-2
-returns-2 c = rises-before _ _ c.before.before.before.before.if1.false
+returns-2 c = rises_before _ _ c.before.before.before.before.if1.false
 
 pub rises-at-spec : {M : Type 1} → statement M
 rises-at-spec =

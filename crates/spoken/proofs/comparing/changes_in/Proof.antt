@@ -4,7 +4,7 @@ use mathlib.Core.Bool.{not}
 use Prim.Native.Nat.{◌≤◌, ◌-◌}
 use native.Mathlib.Omega.{arith}
 use lib.ListN.{length}
-use Rattle.spoken.proofs.Listing.{Listing, listing-all, listing-more, listing_none, one-le}
+use Rattle.spoken.proofs.Listing.{Listing, listing_all, listing_more, listing_none, one_le}
 use borrow.Author.Rules.{rules}
 use Rattle.spoken.proofs.comparing.changes_in.Statement.{statement}
 use Rattle.spoken.proofs.comparing.changes_in.Tie as tie
@@ -55,7 +55,7 @@ one-if-requires : tie.Need-one-if-requires invariant-loop decreases-loop
 one-if-requires c κs = search rules
 
 add-count : tie.Need-overflow-add-count invariant-loop decreases-loop
-add-count c = let h = one-le (not c.before.before.same_row.result) c.one-if.result c.one-if.ensures in let l = c.before.before.before.before.before.before.loop.invariant.3.at_most in omega arith
+add-count c = let h = one_le (not c.before.before.same_row.result) c.one-if.result c.one-if.ensures in let l = c.before.before.before.before.before.before.loop.invariant.3.at_most in omega arith
 
 add-i : tie.Need-overflow-add-i invariant-loop decreases-loop
 add-i c = search rules
@@ -68,10 +68,10 @@ loop-again c =
     let start = c.before.before.before.before.before.before.before.before in
     let no_change = c.before.before.before.before.before.before.before.no_change in
     let loop = c.before.before.before.before.before.before.loop in
-    (loop.invariant.0, loop.invariant.1, omega arith, listing-more start.args.t1 start.args.t2 _ _ _ _ loop.invariant.3 (omega arith) no_change.ensures c.before.before.same_row.ensures c.before.change-if.ensures c.one-if.ensures)
+    (loop.invariant.0, loop.invariant.1, omega arith, listing_more start.args.t1 start.args.t2 _ _ _ _ loop.invariant.3 (omega arith) no_change.ensures c.before.before.same_row.ensures c.before.change-if.ensures c.one-if.ensures)
 
 returns : tie.Need-returns invariant-loop decreases-loop
-returns c = let e : c.before.loop.i ≡ c.before.before.before.args.n = omega arith in listing-all c.before.before.before.args.t1 c.before.before.before.args.t2 _ _ c.before.loop.invariant.3 e
+returns c = let e : c.before.loop.i ≡ c.before.before.before.args.n = omega arith in listing_all c.before.before.before.args.t1 c.before.before.before.args.t2 _ _ c.before.loop.invariant.3 e
 
 pub changes-in-spec : {M : Type 1} → statement M
 changes-in-spec =

@@ -3,20 +3,20 @@ use mathlib.Core.Path.{◌≡◌, refl}
 use Prim.Native.Nat.{◌≤◌, ◌-◌}
 use native.Mathlib.Omega.{arith}
 use lib.ListN.{length}
-use Rattle.spoken.specs.Speaking.{changesSpeak}
-use Rattle.spoken.proofs.Saying.{speak-more}
+use Rattle.spoken.specs.Speaking.{changes_speak}
+use Rattle.spoken.proofs.Saying.{speak_more}
 use borrow.Author.Rules.{rules}
 use Rattle.spoken.proofs.speaking.changes_speak.Statement.{statement}
 use Rattle.spoken.proofs.speaking.changes_speak.Tie as tie
 
 abbrev invariant-loop : tie.invariant-loop
-invariant-loop n list all₀ k₀ all k = (length list ≡ 64) × (k ≤ n) × (all ≡ changesSpeak list k)
+invariant-loop n list all₀ k₀ all k = (length list ≡ 64) × (k ≤ n) × (all ≡ changes_speak list k)
 
 abbrev decreases-loop : tie.decreases-loop
 decreases-loop n list all₀ k₀ all k = n - k
 
 loop-holds : tie.Need-loop-init invariant-loop decreases-loop
-unfolding changesSpeak
+unfolding changes_speak
 loop-holds c = (omega arith, omega arith, refl)
 
 mul-change : tie.Need-overflow-mul-change invariant-loop decreases-loop
@@ -38,7 +38,7 @@ loop-less : tie.Need-loop-smaller invariant-loop decreases-loop
 loop-less c = search rules
 
 loop-again : tie.Need-loop-preserved invariant-loop decreases-loop
-loop-again c = (c.before.before.before.before.loop.invariant.0, omega arith, speak-more c.before.before.before.before.before.args.t1 c.before.before.before.before.loop.k _ _ _ c.before.before.before.before.loop.invariant.2 c.before.rises-at.ensures c.speaks-by.ensures)
+loop-again c = (c.before.before.before.before.loop.invariant.0, omega arith, speak_more c.before.before.before.before.before.args.t1 c.before.before.before.before.loop.k _ _ _ c.before.before.before.before.loop.invariant.2 c.before.rises-at.ensures c.speaks-by.ensures)
 
 returns : tie.Need-returns invariant-loop decreases-loop
 returns c = let e : c.before.loop.k ≡ c.before.before.args.n = omega arith in rw e at c.before.loop.invariant.2

@@ -7,14 +7,14 @@ use native.Mathlib.Omega.{arith}
 use lib.ListN.{length}
 use Rattle.text.specs.Laws.Putting.{put_then}
 use Rattle.text.specs.Output.{Put}
-use Rattle.spoken.specs.Speaking.{changeLines}
-use Rattle.spoken.proofs.Saying.{change-room}
+use Rattle.spoken.specs.Speaking.{change_lines}
+use Rattle.spoken.proofs.Saying.{change_room}
 use borrow.Author.Rules.{rules}
 use Rattle.spoken.proofs.speaking.put_changes.Statement.{statement}
 use Rattle.spoken.proofs.speaking.put_changes.Tie as tie
 
 abbrev invariant-loop : tie.invariant-loop
-invariant-loop n out₀ list at₀ k₀ out at k = (length list ≡ 64) × (k ≤ n) × Put (changeLines list k) 0 out₀ at out
+invariant-loop n out₀ list at₀ k₀ out at k = (length list ≡ 64) × (k ≤ n) × Put (change_lines list k) 0 out₀ at out
 
 abbrev decreases-loop : tie.decreases-loop
 decreases-loop n out₀ list at₀ k₀ out at k = n - k
@@ -29,7 +29,7 @@ array-copy-out-change : tie.Need-array-copy-out-change invariant-loop decreases-
 array-copy-out-change c = search rules
 
 put-change-requires : tie.Need-put-change-requires invariant-loop decreases-loop
-put-change-requires c κs = change-room c.before.before.before.before.before.args.t1 c.before.before.before.loop.k c.before.before.before.before.before.requires.2 c.before.before.before.loop.invariant.2 (omega arith) (λ j h. c.before.before.before.before.before.requires.1 j (omega arith))
+put-change-requires c κs = change_room c.before.before.before.before.before.args.t1 c.before.before.before.loop.k c.before.before.before.before.before.requires.2 c.before.before.before.loop.invariant.2 (omega arith) (λ j h. c.before.before.before.before.before.requires.1 j (omega arith))
 
 add-k : tie.Need-overflow-add-k invariant-loop decreases-loop
 add-k c = search rules

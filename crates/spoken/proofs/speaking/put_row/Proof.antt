@@ -1,9 +1,9 @@
 -- `put_row` meets its contract: label, word and number, one behind the other.
 -- The three have room together, so each was put whole and not left out (`three-put`).
-use Rattle.text.specs.Output.{decimalText, ended, wordText}
+use Rattle.text.specs.Output.{decimal_text, ended, word_text}
 use Rattle.text.specs.Text.{TAB}
-use Rattle.spoken.specs.Speaking.{rowText}
-use Rattle.spoken.proofs.Saying.{three-put}
+use Rattle.spoken.specs.Speaking.{row_text}
+use Rattle.spoken.proofs.Saying.{three_put}
 use borrow.Author.Rules.{rules}
 use Rattle.spoken.proofs.speaking.put_row.Statement.{statement}
 use Rattle.spoken.proofs.speaking.put_row.Tie as tie
@@ -21,14 +21,14 @@ same_length : tie.Need-same-length
 same_length c = search rules
 
 returns : tie.Need-returns
-unfolding rowText
+unfolding row_text
 returns c =
     let at-put-number = c.before.before in
     let at-put-word = at-put-number.before.before.before.before in
     let at-put = at-put-word.before.before.before.before in
-    let at-start = at-put.before.before.before.before.before in
-    let args = at-start.args in
-    three-put args.label.now (ended (wordText args.row.word) TAB) (ended (decimalText args.row.number) args.mark) at-start.requires at-put.put.ensures at-put-word.put_word.ensures at-put-number.put-number.ensures
+    let at_start_lem = at-put.before.before.before.before.before in
+    let args = at_start_lem.args in
+    three_put args.label.now (ended (word_text args.row.word) TAB) (ended (decimal_text args.row.number) args.mark) at_start_lem.requires at-put.put.ensures at-put-word.put_word.ensures at-put-number.put-number.ensures
 
 pub put-row-spec : {M : Type 1} → statement M
 put-row-spec =

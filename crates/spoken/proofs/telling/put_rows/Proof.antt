@@ -1,9 +1,9 @@
 -- `put_rows` meets its contract: the word alone where IDLE has no number, else the word and the numbers.
-use Rattle.text.specs.Output.{ended, wordText}
+use Rattle.text.specs.Output.{ended, word_text}
 use Rattle.text.specs.Text.{TAB}
-use Rattle.text.specs.Laws.Putting.{is-put}
-use Rattle.spoken.specs.SpeakingRuns.{numbersText}
-use Rattle.spoken.proofs.InRuns.{rows-idle, rows-numbered, said-room, said-then}
+use Rattle.text.specs.Laws.Putting.{is_put}
+use Rattle.spoken.specs.SpeakingRuns.{numbers_text}
+use Rattle.spoken.proofs.InRuns.{rows_idle, rows_numbered, said_room, said_then}
 use borrow.Author.Rules.{rules}
 use Rattle.spoken.proofs.telling.put_rows.Statement.{statement}
 use Rattle.spoken.proofs.telling.put_rows.Tie as tie
@@ -25,10 +25,10 @@ returns c =
     let at-put = c.before.before in
     let at-if1 = at-put.before.before.before in
     let at_test = at-if1.before in
-    let at-start = at_test.before.before in
-    let a = at-start.args in
-    let e = rows-idle a.first a.last a.mark at_test.is-unnumbered.result at_test.is-unnumbered.ensures at-if1.if1.true in
-    rw e (is-put (rw e at at-start.requires) at-put.put.ensures)
+    let at_start_lem = at_test.before.before in
+    let a = at_start_lem.args in
+    let e = rows_idle a.first a.last a.mark at_test.is-unnumbered.result at_test.is-unnumbered.ensures at-if1.if1.true in
+    rw e (is_put (rw e at at_start_lem.requires) at-put.put.ensures)
 
 put-word-requires : tie.Need-put-word-requires
 put-word-requires c κs = search rules
@@ -38,10 +38,10 @@ put-numbers-requires c κs =
     let at-put-word = c.before.before.before in
     let at-if1 = at-put-word.before.before.before in
     let at_test = at-if1.before in
-    let at-start = at_test.before.before in
-    let a = at-start.args in
-    let e = rows-numbered a.first a.last a.mark at_test.is-unnumbered.result at_test.is-unnumbered.ensures at-if1.if1.false in
-    said-room (ended (wordText a.first.word) TAB) (numbersText a.first.number a.last.number a.mark) a.out.now a.at (rw e at at-start.requires) at-put-word.put_word.ensures
+    let at_start_lem = at_test.before.before in
+    let a = at_start_lem.args in
+    let e = rows_numbered a.first a.last a.mark at_test.is-unnumbered.result at_test.is-unnumbered.ensures at-if1.if1.false in
+    said_room (ended (word_text a.first.word) TAB) (numbers_text a.first.number a.last.number a.mark) a.out.now a.at (rw e at at_start_lem.requires) at-put-word.put_word.ensures
 
 same-length-2 : tie.Need-same-length-2
 same-length-2 c = search rules
@@ -52,10 +52,10 @@ returns-2 c =
     let at-put-word = at-put-numbers.before.before.before.before in
     let at-if1 = at-put-word.before.before.before in
     let at_test = at-if1.before in
-    let at-start = at_test.before.before in
-    let a = at-start.args in
-    let e = rows-numbered a.first a.last a.mark at_test.is-unnumbered.result at_test.is-unnumbered.ensures at-if1.if1.false in
-    rw e (said-then (ended (wordText a.first.word) TAB) (numbersText a.first.number a.last.number a.mark) (rw e at at-start.requires) at-put-word.put_word.ensures at-put-numbers.put-numbers.ensures)
+    let at_start_lem = at_test.before.before in
+    let a = at_start_lem.args in
+    let e = rows_numbered a.first a.last a.mark at_test.is-unnumbered.result at_test.is-unnumbered.ensures at-if1.if1.false in
+    rw e (said_then (ended (word_text a.first.word) TAB) (numbers_text a.first.number a.last.number a.mark) (rw e at at_start_lem.requires) at-put-word.put_word.ensures at-put-numbers.put-numbers.ensures)
 
 pub put-rows-spec : {M : Type 1} → statement M
 put-rows-spec = tie.close (tie.spec is-unnumbered-requires slice-aggregate-put put-requires same_length returns put-word-requires put-numbers-requires same-length-2 returns-2)

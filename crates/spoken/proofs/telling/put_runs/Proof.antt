@@ -3,7 +3,7 @@ use mathlib.Core.Path.{◌≡◌}
 use Prim.Native.Nat.{◌-◌, ◌≤◌}
 use native.Mathlib.Omega.{arith}
 use lib.ListN.{length}
-use Rattle.spoken.proofs.InRuns.{Telling, closed-room, last-room, lines_none, telling-all, telling-more, telling-none}
+use Rattle.spoken.proofs.InRuns.{Telling, closed_room, last_room, lines_none, telling_all, telling_more, telling_none}
 use borrow.Author.Rules.{rules}
 use Rattle.spoken.proofs.telling.put_runs.Statement.{statement}
 use Rattle.spoken.proofs.telling.put_runs.Tie as tie
@@ -16,8 +16,8 @@ decreases-loop shown n out₀ list run₀ at₀ k₀ out run at k = n - k
 
 returns : tie.Need-returns invariant-loop decreases-loop
 returns c =
-    let at-start = c.before.before in
-    let a = at-start.args in
+    let at_start_lem = c.before.before in
+    let a = at_start_lem.args in
     lines_none a.shown a.t2 a.n _ c.if1.true
 
 array-copy-out-change : tie.Need-array-copy-out-change invariant-loop decreases-loop
@@ -26,9 +26,9 @@ array-copy-out-change c = search rules
 loop-holds : tie.Need-loop-init invariant-loop decreases-loop
 loop-holds c =
     let at-if1 = c.before in
-    let at-start = at-if1.before.before in
-    let a = at-start.args in
-    (omega arith, omega arith, omega arith, telling-none a.shown a.t2 a.n (omega arith) at-start.requires.0 at-if1.if1.false _)
+    let at_start_lem = at-if1.before.before in
+    let a = at_start_lem.args in
+    (omega arith, omega arith, omega arith, telling_none a.shown a.t2 a.n (omega arith) at_start_lem.requires.0 at-if1.if1.false _)
 
 mul_next : tie.Need-overflow-mul-next invariant-loop decreases-loop
 mul_next c = search rules
@@ -43,9 +43,9 @@ put-closed-requires : tie.Need-put-closed-requires invariant-loop decreases-loop
 put-closed-requires c κs =
     let at-continues = c.before in
     let at-loop = at-continues.before.before.before in
-    let at-start = at-loop.before.before.before.before in
-    let a = at-start.args in
-    closed-room a.shown a.t2 a.n at-loop.loop.invariant.0 at-start.requires.0 at-loop.loop.invariant.3 at-continues.continues.result (omega arith) at-continues.continues.ensures at-start.requires.1
+    let at_start_lem = at-loop.before.before.before.before in
+    let a = at_start_lem.args in
+    closed_room a.shown a.t2 a.n at-loop.loop.invariant.0 at_start_lem.requires.0 at-loop.loop.invariant.3 at-continues.continues.result (omega arith) at-continues.continues.ensures at_start_lem.requires.1
 
 run-with-requires : tie.Need-run-with-requires invariant-loop decreases-loop
 run-with-requires c κs = search rules
@@ -61,16 +61,16 @@ loop-again c =
     let at-put-closed = c.before.before.before in
     let at-continues = at-put-closed.before.before in
     let at-loop = at-continues.before.before.before in
-    let at-start = at-loop.before.before.before.before in
-    let a = at-start.args in
-    (at-loop.loop.invariant.0, omega arith, omega arith, telling-more a.shown a.t2 a.n at-loop.loop.invariant.0 at-start.requires.0 at-loop.loop.invariant.3 at-continues.continues.result (omega arith) at-continues.continues.ensures c.run-with.result at-put-closed.put-closed.ensures c.run-with.ensures)
+    let at_start_lem = at-loop.before.before.before.before in
+    let a = at_start_lem.args in
+    (at-loop.loop.invariant.0, omega arith, omega arith, telling_more a.shown a.t2 a.n at-loop.loop.invariant.0 at_start_lem.requires.0 at-loop.loop.invariant.3 at-continues.continues.result (omega arith) at-continues.continues.ensures c.run-with.result at-put-closed.put-closed.ensures c.run-with.ensures)
 
 put-line-requires : tie.Need-put-line-requires invariant-loop decreases-loop
 put-line-requires c κs =
     let at-loop = c.before.before in
-    let at-start = at-loop.before.before.before.before in
-    let a = at-start.args in
-    last-room a.shown a.t2 a.n at-loop.loop.invariant.0 at-start.requires.0 at-loop.loop.invariant.3 (omega arith) at-start.requires.1
+    let at_start_lem = at-loop.before.before.before.before in
+    let a = at_start_lem.args in
+    last_room a.shown a.t2 a.n at-loop.loop.invariant.0 at_start_lem.requires.0 at-loop.loop.invariant.3 (omega arith) at_start_lem.requires.1
 
 same_length : tie.Need-same-length invariant-loop decreases-loop
 same_length c = search rules
@@ -79,9 +79,9 @@ returns-2 : tie.Need-returns-2 invariant-loop decreases-loop
 returns-2 c =
     let at-put-line = c.before.before in
     let at-loop = at-put-line.before.before.before in
-    let at-start = at-loop.before.before.before.before in
-    let a = at-start.args in
-    telling-all a.shown a.t2 a.n at-loop.loop.invariant.0 at-start.requires.0 at-loop.loop.invariant.3 (omega arith) at-put-line.put-line.ensures
+    let at_start_lem = at-loop.before.before.before.before in
+    let a = at_start_lem.args in
+    telling_all a.shown a.t2 a.n at-loop.loop.invariant.0 at_start_lem.requires.0 at-loop.loop.invariant.3 (omega arith) at-put-line.put-line.ensures
 
 pub put-runs-spec : {M : Type 1} → statement M
 put-runs-spec = tie.close (tie.spec invariant-loop decreases-loop returns array-copy-out-change loop-holds mul_next array-copy-out-next continues-requires put-closed-requires run-with-requires add-k loop-less loop-again put-line-requires same_length returns-2)

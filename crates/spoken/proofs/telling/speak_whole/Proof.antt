@@ -3,16 +3,16 @@ use mathlib.Core.Path.{◌∙◌, sym}
 use native.Mathlib.Omega.{arith}
 use borrow.Author.Tests.{not-false, not-true}
 use Rattle.text.specs.Laws.Putting.{put_then}
-use Rattle.spoken.specs.SpeakingRuns.{wholeText}
-use Rattle.spoken.proofs.InRuns.{standing-runs, still-behind, whole-count, whole-done, whole_room, whole-short, whole-unfit}
+use Rattle.spoken.specs.SpeakingRuns.{whole_text}
+use Rattle.spoken.proofs.InRuns.{standing_runs, still_behind, whole_count, whole_done, whole_room, whole_short, whole_unfit}
 use borrow.Author.Rules.{rules}
 use Rattle.spoken.proofs.telling.speak_whole.Statement.{statement}
 use Rattle.spoken.proofs.telling.speak_whole.Tie as tie
 
 returns : tie.Need-returns
 returns c =
-    let at-start = c.before.before in
-    whole-short at-start.args.board _ c.if1.true
+    let at_start_lem = c.before.before in
+    whole_short at_start_lem.args.board _ c.if1.true
 
 can-speak-whole-requires : tie.Need-can-speak-whole-requires
 can-speak-whole-requires c κs = search rules
@@ -20,8 +20,8 @@ can-speak-whole-requires c κs = search rules
 returns-2 : tie.Need-returns-2
 returns-2 c =
     let at-if1 = c.before.before in
-    let at-start = at-if1.before.before in
-    whole-unfit at-start.args.board _ _ at-if1.if1.false c.before.can-speak-whole.ensures (not-true _ c.if2.true)
+    let at_start_lem = at-if1.before.before in
+    whole_unfit at_start_lem.args.board _ _ at-if1.if1.false c.before.can-speak-whole.ensures (not-true _ c.if2.true)
 
 standing-in-requires : tie.Need-standing-in-requires
 standing-in-requires c κs = search rules
@@ -35,11 +35,11 @@ put-runs-requires c κs =
     let at-if2 = at-standing.before.before in
     let at-can = at-if2.before in
     let at-if1 = at-can.before in
-    let at-start = at-if1.before.before in
+    let at_start_lem = at-if1.before.before in
     let f = sym at-can.can-speak-whole.ensures ∙ not-false _ at-if2.if2.false in
     let h = at-if1.if1.false in
-    let r = whole_room at-start.args.board f in
-    (whole-count at-start.args.board f, rw at-standing.standing-in.ensures (omega arith))
+    let r = whole_room at_start_lem.args.board f in
+    (whole_count at_start_lem.args.board f, rw at-standing.standing-in.ensures (omega arith))
 
 put-still-requires : tie.Need-put-still-requires
 put-still-requires c κs =
@@ -48,15 +48,15 @@ put-still-requires c κs =
     let at-if2 = at-standing.before.before in
     let at-can = at-if2.before in
     let at-if1 = at-can.before in
-    let at-start = at-if1.before.before in
+    let at_start_lem = at-if1.before.before in
     let f = sym at-can.can-speak-whole.ensures ∙ not-false _ at-if2.if2.false in
-    still-behind at-start.args.board f at-if1.if1.false (standing-runs _ at-start.args.board.rows at-start.args.board.count at-standing.standing-in.ensures at-put-runs.put-runs.ensures)
+    still_behind at_start_lem.args.board f at-if1.if1.false (standing_runs _ at_start_lem.args.board.rows at_start_lem.args.board.count at-standing.standing-in.ensures at-put-runs.put-runs.ensures)
 
 same_length : tie.Need-same-length
 same_length c = search rules
 
 returns-3 : tie.Need-returns-3
-unfolding wholeText
+unfolding whole_text
 returns-3 c =
     let at-put-still = c.before.before in
     let at-put-runs = at-put-still.before.before.before.before in
@@ -64,8 +64,8 @@ returns-3 c =
     let at-if2 = at-standing.before.before in
     let at-can = at-if2.before in
     let at-if1 = at-can.before in
-    let at-start = at-if1.before.before in
-    whole-done at-start.args.board _ _ _ _ at-if1.if1.false at-can.can-speak-whole.ensures (not-false _ at-if2.if2.false) (put_then (standing-runs _ at-start.args.board.rows at-start.args.board.count at-standing.standing-in.ensures at-put-runs.put-runs.ensures) at-put-still.put-still.ensures)
+    let at_start_lem = at-if1.before.before in
+    whole_done at_start_lem.args.board _ _ _ _ at-if1.if1.false at-can.can-speak-whole.ensures (not-false _ at-if2.if2.false) (put_then (standing_runs _ at_start_lem.args.board.rows at_start_lem.args.board.count at-standing.standing-in.ensures at-put-runs.put-runs.ensures) at-put-still.put-still.ensures)
 
 pub speak-whole-spec : {M : Type 1} → statement M
 speak-whole-spec = tie.close (tie.spec returns can-speak-whole-requires returns-2 standing-in-requires cast-put-runs put-runs-requires put-still-requires same_length returns-3)

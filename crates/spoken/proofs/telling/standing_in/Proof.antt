@@ -3,14 +3,14 @@ use mathlib.Core.Path.{◌≡◌, refl}
 use Prim.Native.Nat.{◌-◌, ◌≤◌}
 use native.Mathlib.Omega.{arith}
 use lib.ListN.{length}
-use Rattle.ground.specs.Counting.Each.{Done, done_more, done_none, done-table}
-use Rattle.spoken.specs.SpeakingRuns.{standing, standingAt}
+use Rattle.ground.specs.Counting.Each.{Done, done_more, done_none, done_table}
+use Rattle.spoken.specs.SpeakingRuns.{standing, standing_at}
 use borrow.Author.Rules.{rules}
 use Rattle.spoken.proofs.telling.standing_in.Statement.{statement}
 use Rattle.spoken.proofs.telling.standing_in.Tie as tie
 
 abbrev invariant-loop : tie.invariant-loop
-invariant-loop rows list₀ i₀ list i = (length rows ≡ 64) × (length list₀ ≡ 64) × (i ≤ 64) × Done i (standingAt rows) list₀ list
+invariant-loop rows list₀ i₀ list i = (length rows ≡ 64) × (length list₀ ≡ 64) × (i ≤ 64) × Done i (standing_at rows) list₀ list
 
 abbrev decreases-loop : tie.decreases-loop
 decreases-loop rows list₀ i₀ list i = 64 - i
@@ -49,7 +49,7 @@ loop-again c =
 
 returns : tie.Need-returns invariant-loop decreases-loop
 unfolding standing
-returns c = done-table c.before.loop.invariant.3 (omega arith) c.before.loop.invariant.1
+returns c = done_table c.before.loop.invariant.3 (omega arith) c.before.loop.invariant.1
 
 pub standing-in-spec : {M : Type 1} → statement M
 standing-in-spec = tie.close (tie.spec invariant-loop decreases-loop array-copy-out-row loop-holds mul-own array-copy-out-own cast-t17 mul-list array-set-from-list add-i loop-less loop-again returns)

@@ -1,5 +1,5 @@
 use mathlib.Core.Path.{refl}
-use Rattle.step.specs.Arrival.{countsOn}
+use Rattle.step.specs.Arrival.{counts_on}
 use borrow.Author.Rules.{rules}
 use Rattle.step.proofs.arrival.counts_on.Statement.{statement}
 use Rattle.step.proofs.arrival.counts_on.Tie as tie
@@ -11,7 +11,7 @@ settles-at-requires : tie.Need-settles-at-requires
 settles-at-requires c κs = search rules
 
 returns : tie.Need-returns
-unfolding countsOn
+unfolding counts_on
 returns c = rw (c.before.settles-at.ensures, c.before.before.step-to.ensures) refl
 
 pub counts-on-spec : {M : Type 1} → statement M

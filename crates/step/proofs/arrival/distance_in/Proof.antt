@@ -1,5 +1,5 @@
 use mathlib.Core.Path.{refl}
-use Rattle.step.specs.Arrival.{distanceIn}
+use Rattle.step.specs.Arrival.{distance_in}
 use borrow.Author.Rules.{rules}
 use Rattle.step.proofs.arrival.distance_in.Statement.{statement}
 use Rattle.step.proofs.arrival.distance_in.Tie as tie
@@ -11,7 +11,7 @@ distance-requires : tie.Need-distance-requires
 distance-requires c κs = search rules
 
 returns : tie.Need-returns
-unfolding distanceIn
+unfolding distance_in
 returns c = rw (c.distance.ensures, c.before.first-tag.ensures) refl
 
 pub distance-in-spec : {M : Type 1} → statement M

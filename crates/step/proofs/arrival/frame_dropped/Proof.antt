@@ -1,5 +1,5 @@
 use mathlib.Core.Path.{refl}
-use Rattle.step.specs.Arrival.{frameDropped}
+use Rattle.step.specs.Arrival.{frame_dropped}
 use borrow.Author.Rules.{rules}
 use Rattle.step.proofs.arrival.frame_dropped.Statement.{statement}
 use Rattle.step.proofs.arrival.frame_dropped.Tie as tie
@@ -11,7 +11,7 @@ is-set-requires : tie.Need-is-set-requires
 is-set-requires c κs = search rules
 
 returns : tie.Need-returns
-unfolding frameDropped
+unfolding frame_dropped
 returns c = rw (c.is_set.ensures, c.before.step-to.ensures) refl
 
 pub frame-dropped-spec : {M : Type 1} → statement M

@@ -1,6 +1,6 @@
 -- `is_odd` meets its contract: a frame that ends no packet ends no odd one; of one that does, the packet with its symbol put is asked. Each exit is the definition at the tests that the code took.
 use mathlib.Core.Path.{refl}
-use Rattle.step.specs.OwnCount.{endsOdd}
+use Rattle.step.specs.OwnCount.{ends_odd}
 use borrow.Author.Rules.{rules}
 use Rattle.step.proofs.own.is_odd.Statement.{statement}
 use Rattle.step.proofs.own.is_odd.Tie as tie
@@ -21,7 +21,7 @@ is-odd-packet-requires : tie.Need-is-odd-packet-requires
 is-odd-packet-requires c κs = search rules
 
 returns : tie.Need-returns
-unfolding endsOdd
+unfolding ends_odd
 returns c =
     rw (
       ← c.before.before.before.before.before.ends-packet.ensures,
@@ -32,7 +32,7 @@ returns c =
     ) c.is-odd-packet.ensures
 
 returns-2 : tie.Need-returns-2
-unfolding endsOdd
+unfolding ends_odd
 returns-2 c = rw (← c.before.ends-packet.ensures, c.if1.false) refl
 
 pub is-odd-spec : {M : Type 1} → statement M

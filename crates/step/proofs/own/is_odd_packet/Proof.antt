@@ -5,7 +5,7 @@ use mathlib.Core.Bool.{Bool, true, false, not, ◌&&◌, ◌||◌, true≢false}
 use mathlib.Core.List.{List}
 use Prim.Native.Nat.{ℕ}
 use lib.Dec.{eqb}
-use Rattle.step.specs.OwnCount.{oddPacket, ownNumber, rightCrc}
+use Rattle.step.specs.OwnCount.{odd_packet, own_number, right_crc}
 use borrow.Author.Rules.{rules}
 use Rattle.step.proofs.own.is_odd_packet.Statement.{statement}
 use Rattle.step.proofs.own.is_odd_packet.Tie as tie
@@ -13,18 +13,18 @@ use Rattle.step.proofs.own.is_odd_packet.Tie as tie
 is-own-requires : tie.Need-is-own-requires
 is-own-requires c κs = search rules
 
-even : (kind epoch : ℕ) (row : List ℕ) → (eqb kind 1 || ownNumber epoch row) ≡ true → oddPacket kind epoch row ≡ false
-unfolding oddPacket
-even kind epoch row = go (eqb kind 1) (rightCrc kind row) (ownNumber epoch row)
+even : (kind epoch : ℕ) (row : List ℕ) → (eqb kind 1 || own_number epoch row) ≡ true → odd_packet kind epoch row ≡ false
+unfolding odd_packet
+even kind epoch row = go (eqb kind 1) (right_crc kind row) (own_number epoch row)
   where
     go : (vc12 right own : Bool) → (vc12 || own) ≡ true → (not vc12 && right && not own) ≡ false
     go true right own e = refl
     go false true own e = rw e refl
     go false false own e = refl
 
-odd : (kind epoch : ℕ) (row : List ℕ) → (eqb kind 1 || ownNumber epoch row) ≡ false → rightCrc kind row ≡ oddPacket kind epoch row
-unfolding oddPacket
-odd kind epoch row = go (eqb kind 1) (rightCrc kind row) (ownNumber epoch row)
+odd : (kind epoch : ℕ) (row : List ℕ) → (eqb kind 1 || own_number epoch row) ≡ false → right_crc kind row ≡ odd_packet kind epoch row
+unfolding odd_packet
+odd kind epoch row = go (eqb kind 1) (right_crc kind row) (own_number epoch row)
   where
     go : (vc12 right own : Bool) → (vc12 || own) ≡ false → right ≡ (not vc12 && right && not own)
     go true right own e = absurd (true≢false e)

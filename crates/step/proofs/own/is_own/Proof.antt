@@ -1,6 +1,6 @@
 use mathlib.Core.Path.{refl}
-use Rattle.packet.specs.Laws.Reading.{epoch-read}
-use Rattle.step.specs.OwnCount.{ownNumber}
+use Rattle.packet.specs.Laws.Reading.{epoch_read}
+use Rattle.step.specs.OwnCount.{own_number}
 use borrow.Author.Rules.{rules}
 use Rattle.step.proofs.own.is_own.Statement.{statement}
 use Rattle.step.proofs.own.is_own.Tie as tie
@@ -18,8 +18,8 @@ add-result : tie.Need-overflow-add-result
 add-result c = search rules
 
 returns : tie.Need-returns
-unfolding ownNumber
-returns c = rw (epoch-read _) refl
+unfolding own_number
+returns c = rw (epoch_read _) refl
 
 pub is-own-spec : {M : Type 1} → statement M
 is-own-spec =

@@ -1,5 +1,5 @@
 use mathlib.Core.Path.{refl}
-use Rattle.step.specs.Run.{endsPacket}
+use Rattle.step.specs.Run.{ends_packet}
 use borrow.Author.Rules.{rules}
 use Rattle.step.proofs.run.ends_packet.Statement.{statement}
 use Rattle.step.proofs.run.ends_packet.Tie as tie
@@ -14,7 +14,7 @@ ends-epoch-requires : tie.Need-ends-epoch-requires
 ends-epoch-requires c κs = search rules
 
 returns : tie.Need-returns
-unfolding endsPacket
+unfolding ends_packet
 returns c = rw (c.ends-epoch.ensures, c.before.place-of.ensures) refl
 
 pub ends-packet-spec : {M : Type 1} → statement M

@@ -1,6 +1,6 @@
 use mathlib.Core.Path.{refl}
 use native.Mathlib.Omega.{arith}
-use Rattle.step.specs.Run.{furtherRun}
+use Rattle.step.specs.Run.{further_run}
 use Rattle.step.specs.Theorems.Run.{count_fits}
 use borrow.Author.Rules.{rules}
 use Rattle.step.proofs.run.further.Statement.{statement}
@@ -16,14 +16,14 @@ next-tag-requires : tie.Need-next-tag-requires
 next-tag-requires c κs = search rules
 
 returns : tie.Need-returns
-unfolding furtherRun
+unfolding further_run
 returns c = rw (← c.before.before.before.is-counted.ensures, c.before.before.if1.true, c.next-tag.ensures) refl
 
 begun-run-requires : tie.Need-begun-run-requires
 begun-run-requires c κs = search rules
 
 returns-2 : tie.Need-returns-2
-unfolding furtherRun
+unfolding further_run
 returns-2 c = rw (← c.before.before.is-counted.ensures, c.before.if1.false) c.begun-run.ensures
 
 pub further-spec : {M : Type 1} → statement M

@@ -1,5 +1,5 @@
 use mathlib.Core.Path.{sym, ◌∙◌}
-use Rattle.step.specs.Run.{h4RunOn}
+use Rattle.step.specs.Run.{h4_run_on}
 use borrow.Author.Rules.{rules}
 use Rattle.step.proofs.run.h4_run_on.Statement.{statement}
 use Rattle.step.proofs.run.h4_run_on.Tie as tie
@@ -11,14 +11,14 @@ stays-requires : tie.Need-stays-requires
 stays-requires c κs = search rules
 
 returns : tie.Need-returns
-unfolding h4RunOn
+unfolding h4_run_on
 returns c = rw (← c.before.before.is-step.ensures, c.before.if1.true) c.stays.ensures
 
 gains-requires : tie.Need-gains-requires
 gains-requires c κs = sym c.before.is-step.ensures ∙ c.if1.false
 
 returns-2 : tie.Need-returns-2
-unfolding h4RunOn
+unfolding h4_run_on
 returns-2 c = rw (← c.before.before.is-step.ensures, c.before.if1.false) c.gains.ensures
 
 pub h4-run-on-spec : {M : Type 1} → statement M

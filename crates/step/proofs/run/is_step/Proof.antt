@@ -1,5 +1,5 @@
 use mathlib.Core.Path.{refl}
-use Rattle.step.specs.Run.{inStepAt}
+use Rattle.step.specs.Run.{in_step_at}
 use borrow.Author.Rules.{rules}
 use Rattle.step.proofs.run.is_step.Statement.{statement}
 use Rattle.step.proofs.run.is_step.Tie as tie
@@ -14,7 +14,7 @@ mul-result : tie.Need-overflow-mul-result
 mul-result c = search rules
 
 returns : tie.Need-returns
-unfolding inStepAt
+unfolding in_step_at
 returns c = rw c.epoch-frames.ensures refl
 
 pub is-step-spec : {M : Type 1} → statement M

@@ -1,5 +1,5 @@
 use mathlib.Core.Path.{refl}
-use Rattle.step.specs.Run.{secondRun}
+use Rattle.step.specs.Run.{second_run}
 use borrow.Author.Rules.{rules}
 use Rattle.step.proofs.run.second.Statement.{statement}
 use Rattle.step.proofs.run.second.Tie as tie
@@ -11,14 +11,14 @@ tag-by-low-requires : tie.Need-tag-by-low-requires
 tag-by-low-requires c κs = search rules
 
 returns : tie.Need-returns
-unfolding secondRun
+unfolding second_run
 returns c = rw (← c.before.before.carries-low.ensures, c.before.if1.true, c.tag-by-low.ensures) refl
 
 begun-run-requires : tie.Need-begun-run-requires
 begun-run-requires c κs = search rules
 
 returns-2 : tie.Need-returns-2
-unfolding secondRun
+unfolding second_run
 returns-2 c = rw (← c.before.before.carries-low.ensures, c.before.if1.false) c.begun-run.ensures
 
 pub second_spec : {M : Type 1} → statement M

@@ -1,6 +1,6 @@
 use mathlib.Core.Path.{refl}
 use borrow.Author.Rules.{rules}
-use Rattle.step.specs.Starts.{firstOfTwo}
+use Rattle.step.specs.Starts.{first_of_two}
 use Rattle.step.proofs.starts.first_of_two.Statement.{statement}
 use Rattle.step.proofs.starts.first_of_two.Tie as tie
 
@@ -11,7 +11,7 @@ add-t5 : tie.Need-overflow-add-t5
 add-t5 c = search rules
 
 returns : tie.Need-returns
-unfolding firstOfTwo
+unfolding first_of_two
 returns c = refl
 
 pub first-of-two-spec : {M : Type 1} → statement M

@@ -2,7 +2,7 @@
 use mathlib.Core.Path.{refl}
 use borrow.Author.Tests.{eq-eqb, ne_eqb}
 use borrow.Author.Rules.{rules}
-use Rattle.step.specs.Starts.{startsRun}
+use Rattle.step.specs.Starts.{starts_run}
 use Rattle.step.proofs.starts.starts_run.Statement.{statement}
 use Rattle.step.proofs.starts.starts_run.Tie as tie
 
@@ -13,7 +13,7 @@ begun-packet-requires : tie.Need-begun-packet-requires
 begun-packet-requires c κs = search rules
 
 returns : tie.Need-returns
-unfolding startsRun
+unfolding starts_run
 returns c = rw (← c.before.before.before.says-start.ensures, c.before.if1.true, c.begun-packet.ensures) refl
 
 bits-after-requires : tie.Need-bits-after-requires
@@ -23,14 +23,14 @@ fifth-bit-requires : tie.Need-fifth-bit-requires
 fifth-bit-requires c κs = search rules
 
 returns-2 : tie.Need-returns-2
-unfolding startsRun
+unfolding starts_run
 returns-2 c = rw (← c.before.before.before.before.before.says-start.ensures, c.before.before.before.if1.false, eq-eqb _ 4 c.before.if2.true, c.fifth-bit.ensures, c.before.before.bits-after.ensures) refl
 
 goes-on-requires : tie.Need-goes-on-requires
 goes-on-requires c κs = search rules
 
 returns-3 : tie.Need-returns-3
-unfolding startsRun
+unfolding starts_run
 returns-3 c = rw (← c.before.before.before.before.before.says-start.ensures, c.before.before.before.if1.false, ne_eqb _ 4 c.before.if2.false, c.goes_on.ensures, c.before.before.bits-after.ensures) refl
 
 pub starts-run-spec : {M : Type 1} → statement M

@@ -1,5 +1,5 @@
 use native.Mathlib.Omega.{arith}
-use Rattle.packet.specs.Laws.Counting.{counts-later}
+use Rattle.packet.specs.Laws.Counting.{counts_later}
 use borrow.Author.Rules.{rules}
 use Rattle.step.proofs.steady.is_counted.Statement.{statement}
 use Rattle.step.proofs.steady.is_counted.Tie as tie
@@ -8,7 +8,7 @@ cast-result : tie.Need-overflow-cast-result
 cast-result c = omega arith
 
 returns : tie.Need-returns
-returns c = counts-later _ _ c.if1.true
+returns c = counts_later _ _ c.if1.true
 
 is-counted-requires : tie.Need-is-counted-requires
 is-counted-requires c κs = search rules

@@ -2,23 +2,23 @@ use mathlib.Core.Path.{◌≡◌, refl, sym, ◌∙◌}
 use mathlib.Core.Bool.{Bool, true, false, not, ◌&&◌}
 use Prim.Native.Nat.{ℕ}
 use lib.Dec.{ltb}
-use Rattle.packet.specs.Kinds.{endsEpoch}
+use Rattle.packet.specs.Kinds.{ends_epoch}
 use Rattle.rows.specs.declared.group.Group.{Group}
-use Rattle.step.specs.Steady.{midEpoch}
+use Rattle.step.specs.Steady.{mid_epoch}
 use borrow.Author.Rules.{rules}
 use Rattle.step.proofs.steady.is_mid_epoch.Statement.{statement}
 use Rattle.step.proofs.steady.is_mid_epoch.Tie as tie
 
-at-the-end : (g : Group) (d : ℕ) → endsEpoch g.kind d ≡ true → false ≡ midEpoch g d
-unfolding midEpoch
+at-the-end : (g : Group) (d : ℕ) → ends_epoch g.kind d ≡ true → false ≡ mid_epoch g d
+unfolding mid_epoch
 at-the-end g d e = rw e (go (ltb d g.window))
   where
     go : (b : Bool) → false ≡ (b && not true)
     go true = refl
     go false = refl
 
-before-it : (g : Group) (d : ℕ) → endsEpoch g.kind d ≡ false → ltb d g.window ≡ midEpoch g d
-unfolding midEpoch
+before-it : (g : Group) (d : ℕ) → ends_epoch g.kind d ≡ false → ltb d g.window ≡ mid_epoch g d
+unfolding mid_epoch
 before-it g d e = rw e (go (ltb d g.window))
   where
     go : (b : Bool) → b ≡ (b && not false)

@@ -1,11 +1,11 @@
 -- The invariant: the symbols of the first k frames are read.
 use Rattle.packet.specs.Kinds.{frames}
-use Rattle.packet.specs.Theorems.Symbols.{entry_in, row_is}
+use Rattle.packet.specs.Theorems.Symbols.{entry_in_lem, row_is}
 use mathlib.Core.Path.{◌≡◌, refl}
 use Prim.Native.Nat.{◌≤◌, ◌-◌}
 use native.Mathlib.Omega.{arith}
 use borrow.Author.Rules.{rules}
-use Rattle.store.specs.Laws.Places.{place-fits}
+use Rattle.store.specs.Laws.Places.{place_fits}
 use Rattle.store.proofs.Packets.{Read, read_more, read_none}
 use Rattle.store.proofs.frames.packet_by.Statement.{statement}
 use Rattle.store.proofs.frames.packet_by.Tie as tie
@@ -35,7 +35,7 @@ add-byte-at : tie.Need-overflow-add-byte-at invariant-loop decreases-loop
 add-byte-at c =
     let p = c.before.before.before.before.before.before in
     let e = c.before.place.ensures in
-    let m = place-fits p.args.group p.args.port c.before.before.before.loop.k (omega arith) (omega arith) (omega arith) (omega arith) (omega arith) in
+    let m = place_fits p.args.group p.args.port c.before.before.before.loop.k (omega arith) (omega arith) (omega arith) (omega arith) (omega arith) in
     omega arith
 
 byte-at-requires : tie.Need-byte-at-requires invariant-loop decreases-loop
@@ -54,7 +54,7 @@ array-read-old c =
     let e = c.entry_at.ensures in
     let n = l.invariant.0 in
     let long = l.invariant.3.long in
-    let b = entry_in p.args.kind l.k (omega arith) in
+    let b = entry_in_lem p.args.kind l.k (omega arith) in
     omega arith
 
 entry-with-requires : tie.Need-entry-with-requires invariant-loop decreases-loop
@@ -70,7 +70,7 @@ array-write-row c =
     let e = c.before.entry_at.ensures in
     let n = l.invariant.0 in
     let long = l.invariant.3.long in
-    let b = entry_in p.args.kind l.k (omega arith) in
+    let b = entry_in_lem p.args.kind l.k (omega arith) in
     omega arith
 
 add-k : tie.Need-overflow-add-k invariant-loop decreases-loop

@@ -4,13 +4,13 @@ use Prim.Native.Nat.{◌≤◌}
 use native.Mathlib.Omega.{arith}
 use borrow.Author.Rules.{rules}
 use Rattle.store.specs.Frames.{place_in}
-use Rattle.store.specs.Laws.Places.{ring-le, row_fits, product-fits}
+use Rattle.store.specs.Laws.Places.{ring_le, row_fits, product_fits}
 use Rattle.store.proofs.frames.place.Statement.{statement}
 use Rattle.store.proofs.frames.place.Tie as tie
 
 turn-fits : (c : tie.After-struct-known) → c.before.ring.result ≤ 131070
 turn-fits c =
-    let r = ring-le c.before.before.args.group.origin c.before.before.args.at c.before.before.args.group.window in
+    let r = ring_le c.before.before.args.group.origin c.before.before.args.at c.before.before.args.group.window in
     rw c.before.ring.ensures (omega arith)
 
 ring-requires : tie.Need-ring-requires
@@ -32,7 +32,7 @@ add-result-2 : tie.Need-overflow-add-result-2
 add-result-2 c = search rules
 
 mul-result-2 : tie.Need-overflow-mul-result-2
-mul-result-2 c = omega (arith, product-fits _ c.before.before.before.args.group.payload (row_fits c.before.before.before.args.port c.before.before.before.args.group.window c.before.before.ring.result (omega arith) (omega arith) (turn-fits c.before)) (omega arith))
+mul-result-2 c = omega (arith, product_fits _ c.before.before.before.args.group.payload (row_fits c.before.before.before.args.port c.before.before.before.args.group.window c.before.before.ring.result (omega arith) (omega arith) (turn-fits c.before)) (omega arith))
 
 returns : tie.Need-returns
 unfolding place_in

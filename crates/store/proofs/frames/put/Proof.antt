@@ -2,7 +2,7 @@
 -- The two tests together are the definition's one, asked so that no sum can overflow.
 use native.Mathlib.Omega.{arith}
 use borrow.Author.Rules.{rules}
-use Rattle.store.proofs.Putting.{put-frame, put-none}
+use Rattle.store.proofs.Putting.{put_frame, put_none}
 use Rattle.store.proofs.frames.put.Statement.{statement}
 use Rattle.store.proofs.frames.put.Tie as tie
 
@@ -24,13 +24,13 @@ same_length c = search rules
 returns : tie.Need-returns
 returns c =
     let start = c.before.before.before.before.before.before.before.before in
-    let a = start.args in put-frame a.store.now a.payload.now _ a.place a.h4 (omega arith) c.before.before.lay.ensures
+    let a = start.args in put_frame a.store.now a.payload.now _ a.place a.h4 (omega arith) c.before.before.lay.ensures
 
 returns-2 : tie.Need-returns-2
-returns-2 c = let a = c.before.before.before.before.args in put-none a.store.now a.payload.now a.place a.h4 (omega arith)
+returns-2 c = let a = c.before.before.before.before.args in put_none a.store.now a.payload.now a.place a.h4 (omega arith)
 
 returns-3 : tie.Need-returns-3
-returns-3 c = let a = c.before.before.before.args in put-none a.store.now a.payload.now a.place a.h4 (omega arith)
+returns-3 c = let a = c.before.before.before.args in put_none a.store.now a.payload.now a.place a.h4 (omega arith)
 
 pub put_spec : {M : Type 1} → statement M
 put_spec =

@@ -4,13 +4,13 @@ use Prim.Native.Nat.{◌≤◌, ◌-◌}
 use native.Mathlib.Omega.{arith}
 use lib.ListN.{length, get_or}
 use borrow.Author.Rules.{rules}
-use Rattle.ground.specs.Counting.Each.{Done, done_none, done_more, done-table}
-use Rattle.store.specs.Marks.{cutByte, cutFrom}
+use Rattle.ground.specs.Counting.Each.{Done, done_none, done_more, done_table}
+use Rattle.store.specs.Marks.{cut_byte, cut_from}
 use Rattle.store.proofs.marks.cut.Statement.{statement}
 use Rattle.store.proofs.marks.cut.Tie as tie
 
 abbrev invariant-loop : tie.invariant-loop
-invariant-loop i row marks₀ k₀ marks k = (length marks₀ ≡ 16) × (k ≤ 16) × Done k (λ j. cutByte (get_or row j 0) j i) marks₀ marks
+invariant-loop i row marks₀ k₀ marks k = (length marks₀ ≡ 16) × (k ≤ 16) × Done k (λ j. cut_byte (get_or row j 0) j i) marks₀ marks
 
 abbrev decreases-loop : tie.decreases-loop
 decreases-loop i row marks₀ k₀ marks k = 16 - k
@@ -43,8 +43,8 @@ loop-again : tie.Need-loop-preserved invariant-loop decreases-loop
 loop-again c = (c.before.before.loop.invariant.0, omega arith, done_more _ c.before.before.loop.invariant.2 c.cut-byte.ensures)
 
 returns : tie.Need-returns invariant-loop decreases-loop
-unfolding cutFrom
-returns c = done-table c.before.loop.invariant.2 (omega arith) refl
+unfolding cut_from
+returns c = done_table c.before.loop.invariant.2 (omega arith) refl
 
 pub cut_spec : {M : Type 1} → statement M
 cut_spec =

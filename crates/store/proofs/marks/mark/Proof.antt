@@ -2,7 +2,7 @@
 use mathlib.Core.Path.{refl}
 use borrow.Author.Rules.{rules}
 use borrow.Author.Tests.{lt-ltb, le-ltb}
-use Rattle.store.specs.Marks.{markedAt}
+use Rattle.store.specs.Marks.{marked_at}
 use Rattle.store.proofs.marks.mark.Statement.{statement}
 use Rattle.store.proofs.marks.mark.Tie as tie
 
@@ -10,7 +10,7 @@ cast-at : tie.Need-overflow-cast-at
 cast-at c = search rules
 
 returns : tie.Need-returns
-unfolding markedAt
+unfolding marked_at
 returns c = rw (le-ltb _ 16 c.if1.true) refl
 
 array-read-marked-byte : tie.Need-array-read-marked-byte
@@ -23,7 +23,7 @@ array-write-marks : tie.Need-array-write-marks
 array-write-marks c = search rules
 
 returns-2 : tie.Need-returns-2
-unfolding markedAt
+unfolding marked_at
 returns-2 c = rw (lt-ltb _ 16 c.before.if1.false, c.marked-byte.ensures) refl
 
 pub mark_spec : {M : Type 1} → statement M

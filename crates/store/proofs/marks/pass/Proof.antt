@@ -4,9 +4,9 @@ use Prim.Native.Nat.{◌≤◌, ◌-◌}
 use native.Mathlib.Omega.{arith}
 use lib.ListN.{length}
 use borrow.Author.Rules.{rules}
-use Rattle.ground.specs.Counting.Each.{Done, done_none, done_more, done-table}
-use Rattle.store.specs.Marks.{passedMarks}
-use Rattle.store.proofs.Rows.{passed_at, passed-in, passed-last}
+use Rattle.ground.specs.Counting.Each.{Done, done_none, done_more, done_table}
+use Rattle.store.specs.Marks.{passed_marks}
+use Rattle.store.proofs.Rows.{passed_at, passed_in, passed_last}
 use Rattle.store.proofs.marks.pass.Statement.{statement}
 use Rattle.store.proofs.marks.pass.Tie as tie
 
@@ -41,7 +41,7 @@ loop-less : tie.Need-loop-smaller invariant-loop decreases-loop
 loop-less c = search rules
 
 loop-again : tie.Need-loop-preserved invariant-loop decreases-loop
-loop-again c = (c.before.before.loop.invariant.0, omega arith, done_more _ c.before.before.loop.invariant.2 (c.passed-byte.ensures ∙ passed-in c.before.before.before.args.t1 c.before.before.loop.k (omega arith)))
+loop-again c = (c.before.before.loop.invariant.0, omega arith, done_more _ c.before.before.loop.invariant.2 (c.passed-byte.ensures ∙ passed_in c.before.before.before.args.t1 c.before.before.loop.k (omega arith)))
 
 array-read-marks : tie.Need-array-read-marks invariant-loop decreases-loop
 array-read-marks c = search rules
@@ -50,10 +50,10 @@ array-write-marks-2 : tie.Need-array-write-marks-2 invariant-loop decreases-loop
 array-write-marks-2 c = search rules
 
 returns : tie.Need-returns invariant-loop decreases-loop
-unfolding passedMarks
+unfolding passed_marks
 returns c =
     let e : c.before.loop.k ≡ 15 = omega arith in
-    done-table (done_more _ (rw e at c.before.loop.invariant.2) (passed-last c.before.before.args.t1)) refl refl
+    done_table (done_more _ (rw e at c.before.loop.invariant.2) (passed_last c.before.before.args.t1)) refl refl
 
 pub pass_spec : {M : Type 1} → statement M
 pass_spec =

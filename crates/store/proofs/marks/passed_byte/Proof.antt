@@ -1,6 +1,6 @@
 use mathlib.Core.Path.{refl}
 use borrow.Author.Rules.{rules}
-use Rattle.store.specs.Marks.{passedByte}
+use Rattle.store.specs.Marks.{passed_byte}
 use Rattle.store.proofs.marks.passed_byte.Statement.{statement}
 use Rattle.store.proofs.marks.passed_byte.Tie as tie
 
@@ -11,7 +11,7 @@ add-result : tie.Need-overflow-add-result
 add-result c = search rules
 
 returns : tie.Need-returns
-unfolding passedByte
+unfolding passed_byte
 returns c = refl
 
 pub passed-byte-spec : {M : Type 1} → statement M

@@ -5,13 +5,13 @@ use native.Mathlib.Omega.{arith}
 use lib.ListN.{length, take}
 use lib.Seq.{slice, take-length}
 use borrow.Author.Rules.{rules}
-use Rattle.text.specs.Fields.{sameBytes}
-use Rattle.text.proofs.Reading.{agrees_start, agrees-turn}
+use Rattle.text.specs.Fields.{same_bytes}
+use Rattle.text.proofs.Reading.{agrees_start, agrees_turn}
 use Rattle.text.proofs.fields.agrees.Statement.{statement}
 use Rattle.text.proofs.fields.agrees.Tie as tie
 
 abbrev invariant-loop : tie.invariant-loop
-invariant-loop text at word r₀ i₀ r i = (i ≤ length word) × (r ≡ sameBytes (slice at (at + i) text) (take i word))
+invariant-loop text at word r₀ i₀ r i = (i ≤ length word) × (r ≡ same_bytes (slice at (at + i) text) (take i word))
 
 abbrev decreases-loop : tie.decreases-loop
 decreases-loop text at word r₀ i₀ r i = length word - i
@@ -37,7 +37,7 @@ loop-less c = search rules
 loop-again : tie.Need-loop-preserved invariant-loop decreases-loop
 loop-again c =
     let h : c.before.before.before.loop.i < length c.before.before.before.before.args.word.now = c.before.before.loop-test.true in
-    (omega arith, agrees-turn c.before.before.before.before.args.text.now c.before.before.before.before.args.word.now c.before.before.before.before.args.at c.before.before.before.before.requires c.before.before.before.loop.i h c.before.before.before.loop.r c.before.before.before.loop.invariant.1)
+    (omega arith, agrees_turn c.before.before.before.before.args.text.now c.before.before.before.before.args.word.now c.before.before.before.before.args.at c.before.before.before.before.requires c.before.before.before.loop.i h c.before.before.before.loop.r c.before.before.before.loop.invariant.1)
 
 returns : tie.Need-returns invariant-loop decreases-loop
 returns c =

@@ -7,9 +7,9 @@ use native.Mathlib.Omega.{arith}
 use lib.ListN.{length, take}
 use lib.Seq.{slice, take-length}
 use borrow.Author.Rules.{rules}
-use Rattle.text.specs.Fields.{digitOf, value_of}
-use Rattle.text.specs.Laws.Slices.{slice_at, slice-within}
-use Rattle.text.proofs.Reading.{digit_at, product-fits, value-below, value-fits, value-turn}
+use Rattle.text.specs.Fields.{digit_of, value_of}
+use Rattle.text.specs.Laws.Slices.{slice_at, slice_within}
+use Rattle.text.proofs.Reading.{digit_at, product_fits, value_below, value_fits, value_turn}
 use Rattle.text.proofs.fields.value_of.Statement.{statement}
 use Rattle.text.proofs.fields.value_of.Tie as tie
 
@@ -24,33 +24,33 @@ field-size-requires c κs = search rules
 
 loop-holds : tie.Need-loop-init invariant-loop decreases-loop
 loop-holds c =
-    let at-start = c.before.before in
-    let p = pow-zero at-start.args.base in
+    let at_start_lem = c.before.before in
+    let p = pow-zero at_start_lem.args.base in
     (c.field-size.ensures, omega arith, refl, omega arith)
 
 add-digit-of : tie.Need-overflow-add-digit-of invariant-loop decreases-loop
 add-digit-of c =
-    let at-start = c.before.before.before.before in
-    let args = at-start.args in
+    let at_start_lem = c.before.before.before.before in
+    let args = at_start_lem.args in
     let h : c.before.loop.i < length (slice args.at args.limit args.text.now) = omega (arith, c.before.loop.invariant.0) in
-    omega (arith, slice-within args.text.now args.at args.limit c.before.loop.i h)
+    omega (arith, slice_within args.text.now args.at args.limit c.before.loop.i h)
 
 shared-slice-read-digit-of : tie.Need-shared-slice-read-digit-of invariant-loop decreases-loop
 shared-slice-read-digit-of c =
     let at-loop = c.before.before in
-    let at-start = at-loop.before.before.before in
-    let args = at-start.args in
+    let at_start_lem = at-loop.before.before.before in
+    let args = at_start_lem.args in
     let h : at-loop.loop.i < length (slice args.at args.limit args.text.now) = omega (arith, at-loop.loop.invariant.0) in
-    slice-within args.text.now args.at args.limit at-loop.loop.i h
+    slice_within args.text.now args.at args.limit at-loop.loop.i h
 
 digit-of-requires : tie.Need-digit-of-requires invariant-loop decreases-loop
 digit-of-requires c κs =
     let at-loop = c.before.before in
-    let at-start = at-loop.before.before.before in
-    let args = at-start.args in
+    let at_start_lem = at-loop.before.before.before in
+    let args = at_start_lem.args in
     let s = slice args.at args.limit args.text.now in
     let h : at-loop.loop.i < length s = omega (arith, at-loop.loop.invariant.0) in
-    let k = digit_at args.base s at-loop.loop.i at-start.requires.0 h in
+    let k = digit_at args.base s at-loop.loop.i at_start_lem.requires.0 h in
     omega (arith, rw (slice_at args.text.now args.at args.limit at-loop.loop.i h) at k)
 
 wide-requires : tie.Need-wide-requires invariant-loop decreases-loop
@@ -59,13 +59,13 @@ wide-requires c κs = search rules
 mul-value : tie.Need-overflow-mul-value invariant-loop decreases-loop
 mul-value c =
     let at-loop = c.before.before.before.before in
-    let at-start = at-loop.before.before.before in
-    let args = at-start.args in
+    let at_start_lem = at-loop.before.before.before in
+    let args = at_start_lem.args in
     let s = slice args.at args.limit args.text.now in
     let h : at-loop.loop.i < length s = omega (arith, at-loop.loop.invariant.0) in
-    let d = c.before.digit-of.ensures ∙ ap digitOf (sym (slice_at args.text.now args.at args.limit at-loop.loop.i h)) in
-    let k : c.before.digit-of.result < args.base = rw d (digit_at args.base s at-loop.loop.i at-start.requires.0 h) in
-    rw c.wide.ensures (record { fits = product-fits args.base at-loop.loop.i at-loop.loop.value c.before.digit-of.result (length s) 4294967296 at-loop.loop.invariant.3 k h at-start.requires.2 })
+    let d = c.before.digit-of.ensures ∙ ap digit_of (sym (slice_at args.text.now args.at args.limit at-loop.loop.i h)) in
+    let k : c.before.digit-of.result < args.base = rw d (digit_at args.base s at-loop.loop.i at_start_lem.requires.0 h) in
+    rw c.wide.ensures (record { fits = product_fits args.base at-loop.loop.i at-loop.loop.value c.before.digit-of.result (length s) 4294967296 at-loop.loop.invariant.3 k h at_start_lem.requires.2 })
 
 wide-requires-2 : tie.Need-wide-requires-2 invariant-loop decreases-loop
 wide-requires-2 c κs = search rules
@@ -74,13 +74,13 @@ add-value : tie.Need-overflow-add-value invariant-loop decreases-loop
 add-value c =
     let at-digit-of = c.before.before in
     let at-loop = at-digit-of.before.before.before in
-    let at-start = at-loop.before.before.before in
-    let args = at-start.args in
+    let at_start_lem = at-loop.before.before.before in
+    let args = at_start_lem.args in
     let s = slice args.at args.limit args.text.now in
     let h : at-loop.loop.i < length s = omega (arith, at-loop.loop.invariant.0) in
-    let d = at-digit-of.digit-of.ensures ∙ ap digitOf (sym (slice_at args.text.now args.at args.limit at-loop.loop.i h)) in
-    let k : at-digit-of.digit-of.result < args.base = rw d (digit_at args.base s at-loop.loop.i at-start.requires.0 h) in
-    rw (c.before.wide.ensures, c.wide2.ensures) (record { fits = value-fits args.base at-loop.loop.i at-loop.loop.value at-digit-of.digit-of.result (length s) 4294967296 at-loop.loop.invariant.3 k h at-start.requires.2 })
+    let d = at-digit-of.digit-of.ensures ∙ ap digit_of (sym (slice_at args.text.now args.at args.limit at-loop.loop.i h)) in
+    let k : at-digit-of.digit-of.result < args.base = rw d (digit_at args.base s at-loop.loop.i at_start_lem.requires.0 h) in
+    rw (c.before.wide.ensures, c.wide2.ensures) (record { fits = value_fits args.base at-loop.loop.i at-loop.loop.value at-digit-of.digit-of.result (length s) 4294967296 at-loop.loop.invariant.3 k h at_start_lem.requires.2 })
 
 add-i : tie.Need-overflow-add-i invariant-loop decreases-loop
 add-i c = search rules
@@ -92,18 +92,18 @@ loop-again : tie.Need-loop-preserved invariant-loop decreases-loop
 loop-again c =
     let at-digit-of = c.before.before in
     let at-loop = at-digit-of.before.before.before in
-    let at-start = at-loop.before.before.before in
-    let args = at-start.args in
+    let at_start_lem = at-loop.before.before.before in
+    let args = at_start_lem.args in
     let s = slice args.at args.limit args.text.now in
     let h : at-loop.loop.i < length s = omega (arith, at-loop.loop.invariant.0) in
-    let d = at-digit-of.digit-of.ensures ∙ ap digitOf (sym (slice_at args.text.now args.at args.limit at-loop.loop.i h)) in
-    let k : at-digit-of.digit-of.result < args.base = rw d (digit_at args.base s at-loop.loop.i at-start.requires.0 h) in
-    rw (c.before.wide.ensures, c.wide2.ensures) (at-loop.loop.invariant.0, omega arith, value-turn args.base s at-loop.loop.i h at-loop.loop.value at-loop.loop.invariant.2 at-digit-of.digit-of.result d, value-below args.base at-loop.loop.i at-loop.loop.value at-digit-of.digit-of.result (length s) 4294967296 at-loop.loop.invariant.3 k h at-start.requires.2)
+    let d = at-digit-of.digit-of.ensures ∙ ap digit_of (sym (slice_at args.text.now args.at args.limit at-loop.loop.i h)) in
+    let k : at-digit-of.digit-of.result < args.base = rw d (digit_at args.base s at-loop.loop.i at_start_lem.requires.0 h) in
+    rw (c.before.wide.ensures, c.wide2.ensures) (at-loop.loop.invariant.0, omega arith, value_turn args.base s at-loop.loop.i h at-loop.loop.value at-loop.loop.invariant.2 at-digit-of.digit-of.result d, value_below args.base at-loop.loop.i at-loop.loop.value at-digit-of.digit-of.result (length s) 4294967296 at-loop.loop.invariant.3 k h at_start_lem.requires.2)
 
 returns : tie.Need-returns invariant-loop decreases-loop
 returns c =
-    let at-start = c.before.before.before.before in
-    let args = at-start.args in
+    let at_start_lem = c.before.before.before.before in
+    let args = at_start_lem.args in
     let s = slice args.at args.limit args.text.now in
     let e : c.before.loop.i ≡ length s = omega (arith, c.before.loop.invariant.0) in
     rw (e, take-length) at c.before.loop.invariant.2

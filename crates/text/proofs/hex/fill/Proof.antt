@@ -6,7 +6,7 @@ use lib.ListN.{length, take, length-set}
 use lib.Seq.{sets, slice}
 use borrow.Author.Rules.{rules}
 use Rattle.text.specs.Fields.{bytes_of}
-use Rattle.text.proofs.Bytes.{fill-turn, filled, high-within, low-within, pair-digits}
+use Rattle.text.proofs.Bytes.{fill_turn, filled, high_within, low_within, pair_digits}
 use Rattle.text.proofs.hex.fill.Statement.{statement}
 use Rattle.text.proofs.hex.fill.Tie as tie
 
@@ -22,32 +22,32 @@ loop-holds c = search rules
 mul-place : tie.Need-overflow-mul-place invariant-loop decreases-loop
 mul-place c =
     let h : c.before.loop.i < length c.before.before.before.before.args.out.now = omega (arith, c.before.loop.invariant.1) in
-    omega (arith, high-within c.before.before.before.before.args.text.now c.before.before.before.before.args.at c.before.before.before.before.args.limit (length c.before.before.before.before.args.out.now) c.before.before.before.before.requires c.before.loop.i h)
+    omega (arith, high_within c.before.before.before.before.args.text.now c.before.before.before.before.args.at c.before.before.before.before.args.limit (length c.before.before.before.before.args.out.now) c.before.before.before.before.requires c.before.loop.i h)
 
 add-place : tie.Need-overflow-add-place invariant-loop decreases-loop
 add-place c =
     let h : c.before.loop.i < length c.before.before.before.before.args.out.now = omega (arith, c.before.loop.invariant.1) in
-    omega (arith, high-within c.before.before.before.before.args.text.now c.before.before.before.before.args.at c.before.before.before.before.args.limit (length c.before.before.before.before.args.out.now) c.before.before.before.before.requires c.before.loop.i h)
+    omega (arith, high_within c.before.before.before.before.args.text.now c.before.before.before.before.args.at c.before.before.before.before.args.limit (length c.before.before.before.before.args.out.now) c.before.before.before.before.requires c.before.loop.i h)
 
 shared-slice-read-byte-of : tie.Need-shared-slice-read-byte-of invariant-loop decreases-loop
 shared-slice-read-byte-of c =
     let h : c.before.before.loop.i < length c.before.before.before.before.before.args.out.now = omega (arith, c.before.before.loop.invariant.1) in
-    high-within c.before.before.before.before.before.args.text.now c.before.before.before.before.before.args.at c.before.before.before.before.before.args.limit (length c.before.before.before.before.before.args.out.now) c.before.before.before.before.before.requires c.before.before.loop.i h
+    high_within c.before.before.before.before.before.args.text.now c.before.before.before.before.before.args.at c.before.before.before.before.before.args.limit (length c.before.before.before.before.before.args.out.now) c.before.before.before.before.before.requires c.before.before.loop.i h
 
 add-byte-of : tie.Need-overflow-add-byte-of invariant-loop decreases-loop
 add-byte-of c =
     let h : c.before.before.loop.i < length c.before.before.before.before.before.args.out.now = omega (arith, c.before.before.loop.invariant.1) in
-    omega (arith, low-within c.before.before.before.before.before.args.text.now c.before.before.before.before.before.args.at c.before.before.before.before.before.args.limit (length c.before.before.before.before.before.args.out.now) c.before.before.before.before.before.requires c.before.before.loop.i h)
+    omega (arith, low_within c.before.before.before.before.before.args.text.now c.before.before.before.before.before.args.at c.before.before.before.before.before.args.limit (length c.before.before.before.before.before.args.out.now) c.before.before.before.before.before.requires c.before.before.loop.i h)
 
 shared-slice-read-byte-of-2 : tie.Need-shared-slice-read-byte-of-2 invariant-loop decreases-loop
 shared-slice-read-byte-of-2 c =
     let h : c.before.before.before.loop.i < length c.before.before.before.before.before.before.args.out.now = omega (arith, c.before.before.before.loop.invariant.1) in
-    low-within c.before.before.before.before.before.before.args.text.now c.before.before.before.before.before.before.args.at c.before.before.before.before.before.before.args.limit (length c.before.before.before.before.before.before.args.out.now) c.before.before.before.before.before.before.requires c.before.before.before.loop.i h
+    low_within c.before.before.before.before.before.before.args.text.now c.before.before.before.before.before.before.args.at c.before.before.before.before.before.before.args.limit (length c.before.before.before.before.before.before.args.out.now) c.before.before.before.before.before.before.requires c.before.before.before.loop.i h
 
 byte-of-requires : tie.Need-byte-of-requires invariant-loop decreases-loop
 byte-of-requires c κs =
     let h : c.before.before.before.loop.i < length c.before.before.before.before.before.before.args.out.now = omega (arith, c.before.before.before.loop.invariant.1) in
-    pair-digits c.before.before.before.before.before.before.args.text.now c.before.before.before.before.before.before.args.at c.before.before.before.before.before.before.args.limit (length c.before.before.before.before.before.before.args.out.now) c.before.before.before.before.before.before.requires c.before.before.before.loop.i h
+    pair_digits c.before.before.before.before.before.before.args.text.now c.before.before.before.before.before.before.args.at c.before.before.before.before.before.before.args.limit (length c.before.before.before.before.before.before.args.out.now) c.before.before.before.before.before.before.requires c.before.before.before.loop.i h
 
 slice-write-out : tie.Need-slice-write-out invariant-loop decreases-loop
 slice-write-out c = search rules
@@ -61,7 +61,7 @@ loop-less c = search rules
 loop-again : tie.Need-loop-preserved invariant-loop decreases-loop
 loop-again c =
     let h : c.before.before.before.before.loop.i < length c.before.before.before.before.before.before.before.args.out.now = omega (arith, c.before.before.before.before.loop.invariant.1) in
-    (omega arith, simp length-set c.before.before.before.before.loop.invariant.1, fill-turn c.before.before.before.before.before.before.before.args.text.now c.before.before.before.before.before.before.before.args.at c.before.before.before.before.before.before.before.args.limit (length c.before.before.before.before.before.before.before.args.out.now) c.before.before.before.before.before.before.before.requires c.before.before.before.before.loop.i h c.before.before.before.before.before.before.before.args.out.now c.before.before.before.before.loop.out refl c.before.before.before.before.loop.invariant.2 c.byte_of.result c.byte_of.ensures)
+    (omega arith, simp length-set c.before.before.before.before.loop.invariant.1, fill_turn c.before.before.before.before.before.before.before.args.text.now c.before.before.before.before.before.before.before.args.at c.before.before.before.before.before.before.before.args.limit (length c.before.before.before.before.before.before.before.args.out.now) c.before.before.before.before.before.before.before.requires c.before.before.before.before.loop.i h c.before.before.before.before.before.before.before.args.out.now c.before.before.before.before.loop.out refl c.before.before.before.before.loop.invariant.2 c.byte_of.result c.byte_of.ensures)
 
 same_length : tie.Need-same-length invariant-loop decreases-loop
 same_length c = search rules

@@ -26,14 +26,14 @@ returns c =
     let at_fill_lem = c.before.before in
     let at-if1 = at_fill_lem.before.before in
     let at-is-hex = at-if1.before in
-    let at-start = at-is-hex.before.before.before in
-    let args = at-start.args in
+    let at_start_lem = at-is-hex.before.before.before in
+    let args = at_start_lem.args in
     (at-is-hex.is-hex.ensures, bytes_read (slice args.at args.limit args.text.now) args.out.now _ (sym at-is-hex.is-hex.ensures ∙ at-if1.if1.true) at_fill_lem.fill.ensures)
 
 returns-2 : tie.Need-returns-2
 returns-2 c =
-    let at-start = c.before.before.before.before in
-    let args = at-start.args in
+    let at_start_lem = c.before.before.before.before in
+    let args = at_start_lem.args in
     (c.before.is-hex.ensures, bytes_left (slice args.at args.limit args.text.now) args.out.now (sym c.before.is-hex.ensures ∙ c.if1.false))
 
 pub read-bytes-spec : {M : Type 1} → statement M

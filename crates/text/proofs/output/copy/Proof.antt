@@ -5,7 +5,7 @@ use native.Mathlib.Omega.{arith}
 use lib.ListN.{length, take, length-set}
 use lib.Seq.{sets, take-length}
 use borrow.Author.Rules.{rules}
-use Rattle.text.specs.Laws.Putting.{put-turn, put_whole}
+use Rattle.text.specs.Laws.Putting.{put_turn, put_whole}
 use Rattle.text.proofs.output.copy.Statement.{statement}
 use Rattle.text.proofs.output.copy.Tie as tie
 
@@ -36,7 +36,7 @@ loop-less c = search rules
 loop-again : tie.Need-loop-preserved invariant-loop decreases-loop
 loop-again c =
     let h : c.before.before.loop.i < length c.before.before.before.args.text.now = c.before.loop-test.true in
-    (omega arith, simp length-set c.before.before.loop.invariant.1, put-turn c.before.before.before.args.text.now c.before.before.before.args.out.now c.before.before.loop.out c.before.before.before.args.at c.before.before.loop.i h c.before.before.loop.invariant.2)
+    (omega arith, simp length-set c.before.before.loop.invariant.1, put_turn c.before.before.before.args.text.now c.before.before.before.args.out.now c.before.before.loop.out c.before.before.before.args.at c.before.before.loop.i h c.before.before.loop.invariant.2)
 
 add-result : tie.Need-overflow-add-result invariant-loop decreases-loop
 add-result c = search rules

@@ -1,7 +1,7 @@
 -- `put_number` meets its contract: the decimal digits of a byte, then its end.
 -- One, two or three digits are put as one array; each exit's law says that these are the definition's text.
 use borrow.Author.Rules.{rules}
-use Rattle.text.proofs.Writing.{decimal-one, decimal-two, decimal-three}
+use Rattle.text.proofs.Writing.{decimal_one, decimal_two, decimal_three}
 use Rattle.text.proofs.output.put_number.Statement.{statement}
 use Rattle.text.proofs.output.put_number.Tie as tie
 
@@ -21,8 +21,8 @@ returns : tie.Need-returns
 returns c =
     let at-put = c.before.before in
     let at-if1 = at-put.before.before.before in
-    let at-start = at-if1.before.before in
-    rw (decimal-one at-start.args.n at-start.args.mark at-if1.if1.true) at-put.put.ensures
+    let at_start_lem = at-if1.before.before in
+    rw (decimal_one at_start_lem.args.n at_start_lem.args.mark at-if1.if1.true) at-put.put.ensures
 
 add-t14 : tie.Need-overflow-add-t14
 add-t14 c = search rules
@@ -44,8 +44,8 @@ returns-2 c =
     let at-put2 = c.before.before in
     let at-if2 = at-put2.before.before.before in
     let at-if1 = at-if2.before in
-    let at-start = at-if1.before.before in
-    rw (decimal-two at-start.args.n at-start.args.mark at-if1.if1.false at-if2.if2.true) at-put2.put2.ensures
+    let at_start_lem = at-if1.before.before in
+    rw (decimal_two at_start_lem.args.n at_start_lem.args.mark at-if1.if1.false at-if2.if2.true) at-put2.put2.ensures
 
 add-t23 : tie.Need-overflow-add-t23
 add-t23 c = search rules
@@ -69,8 +69,8 @@ returns-3 : tie.Need-returns-3
 returns-3 c =
     let at-put3 = c.before.before in
     let at-if2 = at-put3.before.before.before in
-    let at-start = at-if2.before.before.before in
-    rw (decimal-three at-start.args.n at-start.args.mark at-if2.if2.false) at-put3.put3.ensures
+    let at_start_lem = at-if2.before.before.before in
+    rw (decimal_three at_start_lem.args.n at_start_lem.args.mark at-if2.if2.false) at-put3.put3.ensures
 
 pub put-number-spec : {M : Type 1} → statement M
 put-number-spec =

@@ -1,7 +1,7 @@
 -- `put_word` meets its contract: the word's name is put, and a word that has none is put as IDLE.
 -- Each exit is one test that passed behind those that did not; its law says which name the definition then has, and `put` has put that one.
 use borrow.Author.Rules.{rules}
-use Rattle.text.proofs.Writing.{word-add, word-norm, word-eos, word-dnu, word-idle}
+use Rattle.text.proofs.Writing.{word_add, word_norm, word_eos, word_dnu, word_idle}
 use Rattle.text.proofs.output.put_word.Statement.{statement}
 use Rattle.text.proofs.output.put_word.Tie as tie
 
@@ -18,8 +18,8 @@ returns : tie.Need-returns
 returns c =
     let at-put = c.before.before in
     let at-if1 = at-put.before.before.before in
-    let at-start = at-if1.before.before.before in
-    rw (word-add at-start.args.word at-if1.if1.true) at-put.put.ensures
+    let at_start_lem = at-if1.before.before.before in
+    rw (word_add at_start_lem.args.word at-if1.if1.true) at-put.put.ensures
 
 slice-aggregate-put-2 : tie.Need-slice-aggregate-put-2
 slice-aggregate-put-2 c = search rules
@@ -35,8 +35,8 @@ returns-2 c =
     let at-put2 = c.before.before in
     let at-if2 = at-put2.before.before.before in
     let at-if1 = at-if2.before.before in
-    let at-start = at-if1.before.before.before in
-    rw (word-norm at-start.args.word at-if1.if1.false at-if2.if2.true) at-put2.put2.ensures
+    let at_start_lem = at-if1.before.before.before in
+    rw (word_norm at_start_lem.args.word at-if1.if1.false at-if2.if2.true) at-put2.put2.ensures
 
 slice-aggregate-put-3 : tie.Need-slice-aggregate-put-3
 slice-aggregate-put-3 c = search rules
@@ -53,8 +53,8 @@ returns-3 c =
     let at-if3 = at-put3.before.before.before in
     let at-if2 = at-if3.before.before in
     let at-if1 = at-if2.before.before in
-    let at-start = at-if1.before.before.before in
-    rw (word-eos at-start.args.word at-if1.if1.false at-if2.if2.false at-if3.if3.true) at-put3.put3.ensures
+    let at_start_lem = at-if1.before.before.before in
+    rw (word_eos at_start_lem.args.word at-if1.if1.false at-if2.if2.false at-if3.if3.true) at-put3.put3.ensures
 
 slice-aggregate-put-4 : tie.Need-slice-aggregate-put-4
 slice-aggregate-put-4 c = search rules
@@ -72,8 +72,8 @@ returns-4 c =
     let at-if3 = at-if4.before.before in
     let at-if2 = at-if3.before.before in
     let at-if1 = at-if2.before.before in
-    let at-start = at-if1.before.before.before in
-    rw (word-dnu at-start.args.word at-if1.if1.false at-if2.if2.false at-if3.if3.false at-if4.if4.true) at-put4.put4.ensures
+    let at_start_lem = at-if1.before.before.before in
+    rw (word_dnu at_start_lem.args.word at-if1.if1.false at-if2.if2.false at-if3.if3.false at-if4.if4.true) at-put4.put4.ensures
 
 slice-aggregate-put-5 : tie.Need-slice-aggregate-put-5
 slice-aggregate-put-5 c = search rules
@@ -91,8 +91,8 @@ returns-5 c =
     let at-if3 = at-if4.before.before in
     let at-if2 = at-if3.before.before in
     let at-if1 = at-if2.before.before in
-    let at-start = at-if1.before.before.before in
-    rw (word-idle at-start.args.word at-if1.if1.false at-if2.if2.false at-if3.if3.false at-if4.if4.false) at-put5.put5.ensures
+    let at_start_lem = at-if1.before.before.before in
+    rw (word_idle at_start_lem.args.word at-if1.if1.false at-if2.if2.false at-if3.if3.false at-if4.if4.false) at-put5.put5.ensures
 
 pub put-word-spec : {M : Type 1} → statement M
 put-word-spec =

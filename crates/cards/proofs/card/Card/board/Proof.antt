@@ -1,4 +1,4 @@
-use Rattle.cards.specs.Readings.{boardShown}
+use Rattle.cards.specs.Readings.{board_shown}
 use borrow.Author.Rules.{rules}
 use Rattle.cards.proofs.card.Card.board.Statement.{statement}
 use Rattle.cards.proofs.card.Card.board.Tie as tie
@@ -13,7 +13,7 @@ group-answer-requires : tie.Need-group-answer-requires
 group-answer-requires c κs = search rules
 
 returns : tie.Need-returns
-unfolding boardShown
+unfolding board_shown
 returns c = rw (c.group-answer.ensures, c.before.board-of.ensures, c.before.before.before.shown-sender.ensures)
 
 pub board-spec : {M : Type 1} → statement M

@@ -1,4 +1,4 @@
-use Rattle.cards.specs.Readings.{outgoingShown}
+use Rattle.cards.specs.Readings.{outgoing_shown}
 use borrow.Author.Rules.{rules}
 use Rattle.cards.proofs.card.Card.outgoing.Statement.{statement}
 use Rattle.cards.proofs.card.Card.outgoing.Tie as tie
@@ -10,7 +10,7 @@ group-answer-requires : tie.Need-group-answer-requires
 group-answer-requires c κs = search rules
 
 returns : tie.Need-returns
-unfolding outgoingShown
+unfolding outgoing_shown
 returns c = rw (c.group-answer.ensures, c.before.before.shown-sender.ensures)
 
 pub outgoing-spec : {M : Type 1} → statement M

@@ -1,4 +1,4 @@
-use Rattle.cards.specs.Readings.{ownedShown}
+use Rattle.cards.specs.Readings.{owned_shown}
 use borrow.Author.Rules.{rules}
 use Rattle.cards.proofs.card.Card.owned.Statement.{statement}
 use Rattle.cards.proofs.card.Card.owned.Tie as tie
@@ -10,7 +10,7 @@ group-answer-requires : tie.Need-group-answer-requires
 group-answer-requires c κs = search rules
 
 returns : tie.Need-returns
-unfolding ownedShown
+unfolding owned_shown
 returns c = rw (c.group-answer.ensures, c.before.owned-bytes.ensures)
 
 pub owned-spec : {M : Type 1} → statement M

@@ -1,7 +1,7 @@
 -- `Card::payload` meets its contract: 1, 14, and then what the group's own sender answers and writes.
 -- Each exit cites one law of Answering, with the tests before it; the sender that is asked is the group's.
 use borrow.Author.Tests.{not-true, not-false}
-use Rattle.cards.proofs.Answering.{payload-no-slot, payload-other, payload-done}
+use Rattle.cards.proofs.Answering.{payload_no_slot, payload_other, payload_done}
 use borrow.Author.Rules.{rules}
 use Rattle.cards.proofs.card.Card.payload.Statement.{statement}
 use Rattle.cards.proofs.card.Card.payload.Tie as tie
@@ -11,9 +11,9 @@ is-slot-requires c κs = search rules
 
 returns : tie.Need-returns
 returns c =
-    let at-start = c.before.before.before.before in
-    let args = at-start.args in
-    payload-no-slot args.self args.group args.slot c.before.is-slot.ensures _ _ _ (not-true _ c.if1.true)
+    let at_start_lem = c.before.before.before.before in
+    let args = at_start_lem.args in
+    payload_no_slot args.self args.group args.slot c.before.is-slot.ensures _ _ _ (not-true _ c.if1.true)
 
 is-own-requires : tie.Need-is-own-requires
 is-own-requires c κs = search rules
@@ -22,9 +22,9 @@ returns-2 : tie.Need-returns-2
 returns-2 c =
     let at-if1 = c.before.before in
     let at-is-slot = at-if1.before in
-    let at-start = at-is-slot.before.before.before in
-    let args = at-start.args in
-    payload-other args.self args.group args.slot at-is-slot.is-slot.ensures (not-false _ at-if1.if1.false) c.before.is-own.ensures _ _ _ (not-true _ c.if2.true)
+    let at_start_lem = at-is-slot.before.before.before in
+    let args = at_start_lem.args in
+    payload_other args.self args.group args.slot at-is-slot.is-slot.ensures (not-false _ at-if1.if1.false) c.before.is-own.ensures _ _ _ (not-true _ c.if2.true)
 
 sender-of-requires : tie.Need-sender-of-requires
 sender-of-requires c κs = search rules
@@ -46,9 +46,9 @@ returns-3 c =
     let at-is-own = at-if2.before in
     let at-if1 = at-is-own.before in
     let at-is-slot = at-if1.before in
-    let at-start = at-is-slot.before.before.before in
-    let args = at-start.args in
-    payload-done args.self args.group args.slot at-is-slot.is-slot.ensures (not-false _ at-if1.if1.false) at-is-own.is-own.ensures (not-false _ at-if2.if2.false) _ _ _ at-sender-of.sender-of.ensures at-payload.payload.ensures.0 at-payload.payload.ensures.1 c.from-sender.ensures
+    let at_start_lem = at-is-slot.before.before.before in
+    let args = at_start_lem.args in
+    payload_done args.self args.group args.slot at-is-slot.is-slot.ensures (not-false _ at-if1.if1.false) at-is-own.is-own.ensures (not-false _ at-if2.if2.false) _ _ _ at-sender-of.sender-of.ensures at-payload.payload.ensures.0 at-payload.payload.ensures.1 c.from-sender.ensures
 
 pub payload-spec : {M : Type 1} → statement M
 payload-spec =

@@ -1,4 +1,4 @@
-use Rattle.cards.specs.Readings.{ranksShown}
+use Rattle.cards.specs.Readings.{ranks_shown}
 use borrow.Author.Rules.{rules}
 use Rattle.cards.proofs.card.Card.ranks.Statement.{statement}
 use Rattle.cards.proofs.card.Card.ranks.Tie as tie
@@ -13,7 +13,7 @@ group-answer-requires : tie.Need-group-answer-requires
 group-answer-requires c κs = search rules
 
 returns : tie.Need-returns
-unfolding ranksShown
+unfolding ranks_shown
 returns c = rw (c.group-answer.ensures, c.before.ranks.ensures, c.before.before.shown-sender.ensures)
 
 pub ranks-spec : {M : Type 1} → statement M

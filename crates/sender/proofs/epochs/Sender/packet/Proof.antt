@@ -4,8 +4,8 @@ use Prim.Native.Nat.{◌<◌}
 use native.Mathlib.Omega.{arith}
 use borrow.Author.Rules.{rules}
 use borrow.Author.Tests.{not-true, not-false}
-use Rattle.sender.specs.Laws.Sizes.{size-le}
-use Rattle.sender.proofs.Sending.{packet-no-slot, packet-length, packet-early, packet-sent}
+use Rattle.sender.specs.Laws.Sizes.{size_le}
+use Rattle.sender.proofs.Sending.{packet_no_slot, packet_length, packet_early, packet_sent_lem}
 use Rattle.sender.proofs.epochs.Sender.packet.Statement.{statement}
 use Rattle.sender.proofs.epochs.Sender.packet.Tie as tie
 
@@ -13,7 +13,7 @@ size-requires : tie.Need-size-requires
 size-requires c κs = search rules
 
 returns : tie.Need-returns
-returns c = packet-no-slot _ _ c.before.size.ensures _ c.if1.true
+returns c = packet_no_slot _ _ c.before.size.ensures _ c.if1.true
 
 epoch-frames-requires : tie.Need-epoch-frames-requires
 epoch-frames-requires c κs = search rules
@@ -25,7 +25,7 @@ returns-2 : tie.Need-returns-2
 returns-2 c =
     let at-if1 = c.before.before in
     let at_size = at-if1.before in
-    packet-length _ _ at_size.size.ensures _ at-if1.if1.false c.before.epoch-frames.ensures c.if2.true
+    packet_length _ _ at_size.size.ensures _ at-if1.if1.false c.before.epoch-frames.ensures c.if2.true
 
 returns-3 : tie.Need-returns-3
 returns-3 c =
@@ -33,12 +33,12 @@ returns-3 c =
     let at-epoch-frames = at-if2.before in
     let at-if1 = at-epoch-frames.before in
     let at_size = at-if1.before in
-    packet-early _ _ at_size.size.ensures _ at-if1.if1.false at-epoch-frames.epoch-frames.ensures at-if2.if2.false (not-true _ c.if3.true)
+    packet_early _ _ at_size.size.ensures _ at-if1.if1.false at-epoch-frames.epoch-frames.ensures at-if2.if2.false (not-true _ c.if3.true)
 
 packet-fields-requires : tie.Need-packet-fields-requires
 packet-fields-requires c κs =
-    let at-start = c.before.before.before.before.before.before.before.before in
-    let h : at-start.args.slot < 64 = omega (arith, size-le at-start.args.self.table.count) in h
+    let at_start_lem = c.before.before.before.before.before.before.before.before in
+    let h : at_start_lem.args.slot < 64 = omega (arith, size_le at_start_lem.args.self.table.count) in h
 
 write-by-requires : tie.Need-write-by-requires
 write-by-requires c κs = search rules
@@ -58,7 +58,7 @@ returns-4 c =
     let at-epoch-frames = at-if2.before in
     let at-if1 = at-epoch-frames.before in
     let at_size = at-if1.before in
-    packet-sent _ _ at_size.size.ensures _ at-if1.if1.false at-epoch-frames.epoch-frames.ensures at-if2.if2.false (not-false _ at-if3.if3.false) at-packet-fields.packet-fields.ensures at-write.write-by.ensures.0 at-write.write-by.ensures.1 c.written_as.ensures
+    packet_sent_lem _ _ at_size.size.ensures _ at-if1.if1.false at-epoch-frames.epoch-frames.ensures at-if2.if2.false (not-false _ at-if3.if3.false) at-packet-fields.packet-fields.ensures at-write.write-by.ensures.0 at-write.write-by.ensures.1 c.written_as.ensures
 
 pub packet-spec : {M : Type 1} → statement M
 packet-spec =
