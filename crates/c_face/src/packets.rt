@@ -112,7 +112,7 @@ fn put_values(values: Fields, fields: &mut [u8])
         (reserved / 256 % 256) as u8,
         (reserved % 256) as u8,
     ];
-    bytes::copy(&image, fields);
+    fields.copy_from_slice(&image);
 }
 
 // A reading by its number. Under 0 its values go into the lent bytes.

@@ -28,7 +28,7 @@ fn put_settings(sender: Sender, settings: &mut [u8])
     let next = next_epoch(sender);
     let wait = ground::one_if(table.wait);
     let image = [table.kind, count, next, wait, table.remembered];
-    bytes::copy(&image, settings);
+    settings.copy_from_slice(&image);
 }
 
 #[unsafe(no_mangle)]

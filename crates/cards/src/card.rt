@@ -10,32 +10,32 @@ use crate::{answers, owners, parts};
 use sender::{Board, Ranks, Sender};
 
 // A whole sender for each group, with a table of all slots.
-#[derive(Drop)]
+#[derive(Clone, Copy)]
 pub struct Card {
     pub owners: [u8; 64],
     pub first: Sender,
     pub second: Sender,
 }
 
-#[derive(Drop)]
+#[derive(Clone, Copy)]
 pub struct CardOutcome {
     pub card: Card,
     pub answer: Answer,
 }
 
-#[derive(Drop)]
+#[derive(Clone, Copy)]
 pub struct BoardOutcome {
     pub board: Board,
     pub answer: Answer,
 }
 
-#[derive(Drop)]
+#[derive(Clone, Copy)]
 pub struct RanksOutcome {
     pub ranks: Ranks,
     pub answer: Answer,
 }
 
-#[derive(Drop)]
+#[derive(Clone, Copy)]
 pub struct OwnedOutcome {
     pub owned: [u8; 64],
     pub answer: Answer,

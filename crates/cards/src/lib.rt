@@ -1,4 +1,6 @@
 // Two circuits on one card (02, 2026-06): two groups share the card's slots. 'Each slot is owned by at most one group; claim and release move it. Numbers, words, EOS and waits are per group.'
+#![tactic(auto)]
+
 mod answers;
 mod card;
 mod owners;

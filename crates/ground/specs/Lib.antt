@@ -6,6 +6,7 @@ pub mod Counting
 pub mod Distance
 pub mod Division
 pub mod Drawn
+pub mod Finding
 pub mod Finite
 pub mod Flags
 pub mod Opened

@@ -1,4 +1,6 @@
 // An epoch judged (01, 'Report of an epoch'): held, doubtful or sure, from the packets that rule it; and the order of its payload.
+#![tactic(auto)]
+
 mod blame;
 mod numbers;
 mod order;

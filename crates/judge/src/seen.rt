@@ -5,7 +5,7 @@ ghost use Rattle.judge.specs.Seen.{active_seen, eos_seen, lacking_seen, numbered
 pub(crate) use ground::{one_if, size_of};
 use packet::Word;
 
-#[derive(Drop)]
+#[derive(Clone, Copy)]
 pub struct Seen {
     // whether a ruling packet arrived whole, and whether it was read with 0
     pub whole: bool,

@@ -36,7 +36,7 @@ pub(crate) const UNSEEN: u8 = 6;
 pub(crate) const NUMBERS: u8 = 7;
 
 // What one walk over the ports finds.
-#[derive(Drop)]
+#[derive(Clone, Copy)]
 struct Tally {
     refused: bool,
     lacking: bool,

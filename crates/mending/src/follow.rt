@@ -5,7 +5,7 @@ ghost use Rattle.mending.specs.Laws.Sweeps.{no_keys, with_key};
 
 // begun: the port has had a line. v: the count less the place, modulo 16, of the last good line. place: that of the port's next line, modulo 16.
 // pending: broken lines in a row, which are the port's last ones. first, second, third: count less place of its last three lines, third the latest.
-#[derive(Drop)]
+#[derive(Clone, Copy)]
 pub struct Follow {
     pub begun: bool,
     pub v: u8,
@@ -135,7 +135,7 @@ pub(crate) fn is_last(f: Follow) -> bool
 }
 
 // What is remembered of a port's last three lines, third the latest: the places of their digits, or their numbers.
-#[derive(Drop)]
+#[derive(Clone, Copy)]
 pub(crate) struct Keys {
     pub first: usize,
     pub second: usize,

@@ -5,7 +5,7 @@ ghost use Rattle.mending.specs.Laws.Reads.{Bounds, dropped_to, is_unended, next_
 use recording::Record;
 
 // kept: it is a frame's. next: the place of the next line. end: where its bytes end. Of a frame: its port, its count, and the place of that digit.
-#[derive(Drop)]
+#[derive(Clone, Copy)]
 pub(crate) struct Read {
     pub next: usize,
     pub end: usize,

@@ -12,7 +12,7 @@ use crate::line::Read;
 use crate::{follow, line};
 
 // answer: 0, 13 or 4; under 13 and 4 there are no lengths.
-#[derive(Drop)]
+#[derive(Clone, Copy)]
 pub struct Lengths {
     pub mended: usize,
     pub notes: usize,

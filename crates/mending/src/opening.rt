@@ -7,7 +7,7 @@ use packet::kinds;
 use recording::{FirstLine, Settings};
 
 // answer: 0, 13 or 4. next: the place of the second line. ports, size: of the group. counted: its lines have an H4 count.
-#[derive(Drop)]
+#[derive(Clone, Copy)]
 pub(crate) struct Start {
     pub next: usize,
     pub ports: u32,

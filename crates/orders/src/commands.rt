@@ -4,7 +4,7 @@ ghost use Rattle.orders.specs.Orders.{outcome_by, stored_by};
 
 use cards::{Card, CardOutcome};
 
-#[derive(Drop)]
+#[derive(Clone, Copy)]
 pub enum Kind {
     Add,
     Remove,
@@ -12,7 +12,7 @@ pub enum Kind {
     Release,
 }
 
-#[derive(Drop)]
+#[derive(Clone, Copy)]
 pub struct Command {
     pub kind: Kind,
     pub group: u32,

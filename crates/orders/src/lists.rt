@@ -6,7 +6,7 @@ use crate::commands;
 use crate::commands::Command;
 use cards::{Answer, Card};
 
-#[derive(Drop)]
+#[derive(Clone, Copy)]
 pub struct Ordered {
     pub card: Card,
     pub answer: Answer,

@@ -47,7 +47,7 @@ pub fn write_fixed(epoch: u32, sq: u32, h4: &mut [u8]) -> Writing
     }
     let nibbles = fixed_nibbles(epoch as u8, sq as u8);
     let image = layout::h4_of(nibbles);
-    bytes::copy(&image, h4);
+    h4.copy_from_slice(&image);
     Writing::Done
 }
 

@@ -1,4 +1,6 @@
 // The control packets of virtual concatenation with LCAS (01, 'The control packet'; request 2026-01): control words, epochs and tags, the packet of H4 and of VC-12 written and read.
+#![tactic(auto)]
+
 pub mod counts;
 mod crc;
 mod fixed;

@@ -11,7 +11,7 @@ use crate::layout::{Fields, byte_of};
 use crate::shares::share_table;
 use crate::words::Word;
 
-#[derive(Drop)]
+#[derive(Clone, Copy)]
 pub enum Reading {
     Packet(Fields),
     Length,

@@ -6,7 +6,7 @@ ghost use Rattle.packet.specs.Ruling.{refused};
 use crate::reader::Reading;
 use crate::{kinds, reader, vc12};
 
-#[derive(Drop)]
+#[derive(Clone, Copy)]
 pub struct Ruling {
     // whether it was read with 0; only then the rest says something
     pub good: bool,

@@ -2,7 +2,7 @@
 ghost use Rattle.std.specs.Prelude.{◌≡◌, [], ◌∷◌};
 ghost use Rattle.packet.specs.Words.{FIXED, ADD, NORM, EOS, IDLE, DNU, word_of, nibble_of, assigned};
 
-#[derive(Drop)]
+#[derive(Clone, Copy)]
 pub struct Word(pub u8);
 
 impl Word {

@@ -7,7 +7,7 @@ use crate::layout::Fields;
 use crate::shares::share_table;
 use crate::words::Word;
 
-#[derive(Drop)]
+#[derive(Clone, Copy)]
 pub enum Writing {
     Done,
     Length,
@@ -50,6 +50,6 @@ pub fn write(fields: Fields, h4: &mut [u8]) -> Writing
     let table = share_table();
     let nibbles = layout::nibbles_of(&table, fields);
     let image = layout::h4_of(nibbles);
-    bytes::copy(&image, h4);
+    h4.copy_from_slice(&image);
     Writing::Done
 }

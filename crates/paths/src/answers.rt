@@ -3,7 +3,7 @@ ghost use Rattle.std.specs.Prelude.{◌≡◌};
 ghost use Rattle.ground.specs.Plain.{if◌then◌else◌};
 ghost use Rattle.paths.specs.Answers.{answer_of, are_short, number_of, sized};
 
-#[derive(Drop)]
+#[derive(Clone, Copy)]
 pub enum Answer {
     Done,
     Range,

@@ -6,7 +6,7 @@ ghost use Rattle.paths.specs.Checking.{accepts, agree, agrees_with, delays_apart
 use crate::answers::Answer;
 use crate::{answers, order};
 
-#[derive(Drop)]
+#[derive(Clone, Copy)]
 pub struct Checked {
     pub accepted: bool,
     pub answer: Answer,

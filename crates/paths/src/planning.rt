@@ -7,7 +7,7 @@ ghost use Rattle.paths.specs.Planning.{listed_plan, nothing, plan_of, proposed_p
 use crate::answers::Answer;
 use crate::{answers, order};
 
-#[derive(Drop)]
+#[derive(Clone, Copy)]
 pub struct Proposal {
     // the chosen candidates' numbers, rising, then 255
     pub paths: [u8; 64],
@@ -17,7 +17,7 @@ pub struct Proposal {
 }
 
 // The candidates in a row from a rank on: the rank, and their spread.
-#[derive(Drop)]
+#[derive(Clone, Copy)]
 struct Stretch {
     first: usize,
     spread: u32,

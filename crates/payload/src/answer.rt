@@ -8,7 +8,7 @@ ghost use Rattle.payload.specs.Spreading.{one_answer};
 // The longest payload of a member frame.
 pub const PAYLOAD_MOST: usize = 2340;
 
-#[derive(Drop)]
+#[derive(Clone, Copy)]
 pub enum Answer {
     Done,
     Range,

@@ -1,5 +1,7 @@
 // Payload order (01, 'Payload order'): a group frame spread over its members, and members joined into a group frame.
 // X members are ranked 0 to X-1, and P is the payload of a member frame in bytes.
+#![tactic(auto)]
+
 mod answer;
 mod block;
 mod copy;

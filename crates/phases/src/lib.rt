@@ -1,4 +1,6 @@
 // What concerns all ports at once (01, 'Beginning', 'Report of an epoch'): when receiving begins and stops, when an epoch is due, and the passing of an epoch.
+#![tactic(auto)]
+
 mod due;
 mod flags;
 mod passing;

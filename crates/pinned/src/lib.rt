@@ -1,1 +1,3 @@
 // No code: named rows that pin clauses of definitions, worked out apart. They stand in specs/.
+#![tactic(auto)]
+

@@ -28,7 +28,7 @@ fn put_cause(group: Group, state: &[[u8; 16]], ports: u8, out: &mut [u8])
     ensures { out.new ≡ cause_in group state.now ports }
 {
     let found = cause_of(group, state, ports);
-    bytes::copy(&found, out);
+    out.copy_from_slice(&found);
 }
 
 // Two bytes: the cause, and the lowest port to which its clause applies, 255 none.

@@ -99,7 +99,7 @@ fn put_record(given: Report, to: &mut [u8])
     ensures { to.new ≡ record_of given }
 {
     let bytes = record_of(given);
-    bytes::copy(&bytes, to);
+    to.copy_from_slice(&bytes);
 }
 
 // The report of the oldest epoch not yet reported, if it is due: its frames into the output, and what it says into the record.

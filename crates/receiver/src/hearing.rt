@@ -43,7 +43,7 @@ fn put_heard(group: Group, state: &[[u8; 16]], ports: u8, out: &mut [u8])
 {
     let table = packet::share_table();
     let said = heard_of(&table, group, state, ports);
-    bytes::copy(&said, out);
+    out.copy_from_slice(&said);
 }
 
 // Four bytes: 1, epoch, MST and RS-Ack; or four zeros.

@@ -1,5 +1,7 @@
 // The receiver (01, 'The receiver'): its start, the arrival of a frame, the fetching of a report, and what the host reads out.
 // Its state is lent rows of sixteen bytes, its frames stand in a lent store.
+#![tactic(auto)]
+
 mod arrival;
 mod blaming;
 mod fetching;

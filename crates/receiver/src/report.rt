@@ -10,7 +10,7 @@ use packet::{Ruling, kinds};
 use rows::Group;
 use store::marks;
 
-#[derive(Drop)]
+#[derive(Clone, Copy)]
 pub struct Report {
     // 0 none due, 1 held, 2 doubtful, 3 sure
     pub mark: u8,

@@ -12,7 +12,7 @@ use rows::Group;
 use step::answers;
 use store::marks;
 
-#[derive(Drop)]
+#[derive(Clone, Copy)]
 pub struct Carried {
     // 0, 5, 6 or 7; only under 0 the rest says something
     pub answer: u8,

@@ -10,7 +10,7 @@ use crate::pairs::{Awaited, Pairs, Settings};
 use crate::{line, pairs};
 use text::Number;
 
-#[derive(Drop)]
+#[derive(Clone, Copy)]
 pub enum FirstLine {
     Settings,
     Malformed,
@@ -20,7 +20,7 @@ pub enum FirstLine {
 }
 
 // What a first line says. settings, next: of a line with settings, and the place of the next line.
-#[derive(Drop)]
+#[derive(Clone, Copy)]
 pub struct First {
     pub settings: Settings,
     pub next: usize,

@@ -8,7 +8,7 @@ use packet::kinds;
 use text::Number;
 
 // A group's settings. hold_off, restore: the number of each port.
-#[derive(Drop)]
+#[derive(Clone, Copy)]
 pub struct Settings {
     pub hold_off: [u32; 64],
     pub restore: [u32; 64],
@@ -21,14 +21,14 @@ pub struct Settings {
 }
 
 // The two times of a port (2026-03).
-#[derive(Drop)]
+#[derive(Clone, Copy)]
 pub(crate) enum Timer {
     HoldOff,
     Restore,
 }
 
 // What the next field has to be.
-#[derive(Drop)]
+#[derive(Clone, Copy)]
 pub(crate) enum Awaited {
     // a pair's name
     Name,
@@ -41,7 +41,7 @@ pub(crate) enum Awaited {
 }
 
 // The settings as far as they are read.
-#[derive(Drop)]
+#[derive(Clone, Copy)]
 pub(crate) struct Pairs {
     pub settings: Settings,
     pub awaited: Awaited,

@@ -7,7 +7,7 @@ ghost use Rattle.recording.specs.Record.{record_in};
 use crate::record;
 use crate::record::Record;
 
-#[derive(Drop)]
+#[derive(Clone, Copy)]
 pub struct Reader<'a> {
     pub text: &'a [u8],
     pub at: usize,

@@ -10,7 +10,7 @@ use crate::line::Found;
 use text::Number;
 
 // What stands at a place of a recording.
-#[derive(Drop)]
+#[derive(Clone, Copy)]
 pub enum Record {
     // port, H4, flag, the place of the payload's digits, the place of the next line
     Frame(u32, u8, u8, usize, usize),

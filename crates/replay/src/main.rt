@@ -1,5 +1,7 @@
 // Replays a recording (2026-05) and prints what its receiver reports: the files that the arguments name, each a part of one recording and '-'
 // standard input, or standard input where none is named.
+#![tactic(auto)]
+
 ghost use Rattle.std.specs.Prelude.{◌≡◌, ◌≤◌, length};
 ghost use Rattle.replay_lines.specs.Deeds.{Carried, desk_with};
 ghost use Rattle.replay_lines.specs.Replay.{STORE};
@@ -14,7 +16,7 @@ const ROWS_MOST: usize = 321;
 const STORE_BYTES: usize = 65536;
 
 // at: the place of the text to which it has come.
-#[derive(Drop)]
+#[derive(Clone, Copy)]
 struct Done {
     replay: Replay,
     at: usize,
@@ -114,7 +116,7 @@ fn run_front(
     run_text(replay, &buffer[..end], last, rows, store, out)
 }
 
-#[derive(Drop)]
+#[derive(Clone, Copy)]
 struct Part {
     replay: Replay,
     kept: usize,

@@ -3,7 +3,7 @@ use Rattle.std.proofs.Common.{◌≡◌, ℕ, ◌+◌, ◌*◌, ◌<◌, ◌≤�
 use lib.ListN.{length-replicate}
 use lib.Seq.{slice, take-length}
 use Rattle.text.specs.Laws.Parted.{index_le}
-use Rattle.bytes.specs.Bytes.{index_of}
+use Rattle.ground.specs.Finding.{index_of}
 use Rattle.replay_lines.specs.declared.replay.Phase.{Phase}
 use Rattle.replay_lines.specs.declared.replay.Replay.{Replay}
 use Rattle.replay_lines.specs.declared.turns.Replayed.{Replayed}

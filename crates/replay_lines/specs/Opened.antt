@@ -1,6 +1,6 @@
 -- All that this crate and those below it define, opened under one name for examples that are computed. A new definition is named here, and nowhere else.
 use Rattle.std.specs.Prelude.{ℕ}
-use Rattle.bytes.specs.Bytes.{index_after, index_of}
+use Rattle.ground.specs.Finding.{index_after, index_of}
 use Rattle.recording.specs.Opened.{recording_open}
 use Rattle.receiver.specs.Opened.{receiver_open}
 use Rattle.replay_lines.specs.Deeds.{wants_within}

@@ -3,7 +3,7 @@ use Rattle.std.specs.Prelude.{ℕ, ◌+◌, ◌-◌, Bool, true, false, ◌&&◌
 use Rattle.std.proofs.Math.Seq.{slice}
 use Rattle.ground.specs.Plain.{if◌then◌else◌, ◌==◌, ◌<?◌, ◌≤?◌}
 use Rattle.ground.specs.Types.{Bytes, Rows}
-use Rattle.bytes.specs.Bytes.{index_of}
+use Rattle.ground.specs.Finding.{index_of}
 use Rattle.phases.specs.Sizes.{start_sized}
 use Rattle.receiver.specs.Cause.{cause_out}
 use Rattle.receiver.specs.Fetch.{fetch_of}

@@ -7,7 +7,7 @@ use crate::{lent, replay};
 use recording::{FirstLine, Settings};
 
 // answer: 0, or 13 or 4 and no lengths. store: the bytes of the receiver's store. out: those of an epoch's output.
-#[derive(Drop)]
+#[derive(Clone, Copy)]
 pub struct Lengths {
     pub store: usize,
     pub out: usize,

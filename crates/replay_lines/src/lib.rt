@@ -1,5 +1,7 @@
 // A recording run again at the desk (2026-05): each frame once, then reports until none is due, and what is printed of it. One call reads
 // one line or fetches one report, so that what it writes is bounded.
+#![tactic(auto)]
+
 mod changes;
 mod lengths;
 mod lent;

@@ -4,7 +4,7 @@ ghost use Rattle.replay_lines.specs.Replay.{beginning, next_line, output_of, sto
 
 use packet::kinds;
 
-#[derive(Drop)]
+#[derive(Clone, Copy)]
 pub enum Phase {
     // the first line is to come
     Settings,
@@ -18,7 +18,7 @@ pub enum Phase {
     Ended,
 }
 
-#[derive(Drop)]
+#[derive(Clone, Copy)]
 pub struct Replay {
     pub phase: Phase,
     // how many lines were read

@@ -16,7 +16,7 @@ use rows::group;
 
 // What a turn has done. answer: 0, or 9 where what is lent is too short, and then nothing is done. used: how many bytes of the text are used
 // now, the place to which it has come. wants: nothing more can be done without more of the text.
-#[derive(Drop)]
+#[derive(Clone, Copy)]
 pub struct Replayed {
     pub replay: Replay,
     pub answer: u8,

@@ -5,7 +5,7 @@ ghost use Rattle.reply.specs.Members.{has_hold_off, is_candidate, is_idle, is_re
 pub(crate) use ground::size_of;
 use packet::Word;
 
-#[derive(Drop)]
+#[derive(Clone, Copy)]
 pub struct Port {
     // the word and number of the last good packet; the word is 255 where there was none
     pub word: u8,

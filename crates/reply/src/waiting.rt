@@ -10,7 +10,7 @@ use crate::members::Port;
 use crate::{choosing, members};
 
 // What a report leaves of a port: its state, the number under which it has it, and at how many reports its timer has run.
-#[derive(Drop)]
+#[derive(Clone, Copy)]
 pub struct Standing {
     pub state: u8,
     pub number: u8,

@@ -3,7 +3,7 @@ ghost use Rattle.std.specs.Prelude.{◌≡◌, ◌+◌, ◌*◌, length};
 ghost use Rattle.rows.specs.Group.{group_at, group_of, group_row, put_group};
 ghost use Rattle.rows.specs.Rows.{row_in, put_row, rows_for};
 
-#[derive(Drop)]
+#[derive(Clone, Copy)]
 pub struct Group {
     // bytes of the row that nothing is in yet
     pub spare: [u8; 4],

@@ -4,7 +4,7 @@ ghost use Rattle.rows.specs.Member.{member_at, member_of, member_row, put_member
 
 use crate::group;
 
-#[derive(Drop)]
+#[derive(Clone, Copy)]
 pub struct Member {
     // bytes of the row that nothing is in yet
     pub spare: [u8; 4],

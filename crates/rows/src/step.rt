@@ -4,7 +4,7 @@ ghost use Rattle.rows.specs.Step.{step_at, step_of, step_row, put_step, with_nex
 
 use crate::group;
 
-#[derive(Drop)]
+#[derive(Clone, Copy)]
 pub struct Step {
     // bytes of the row that nothing is in yet
     pub spare: [u8; 4],

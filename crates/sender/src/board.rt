@@ -6,13 +6,13 @@ use crate::table;
 use crate::table::{Slot, State, Table};
 use packet::{Word, kinds};
 
-#[derive(Drop)]
+#[derive(Clone, Copy)]
 pub struct Row {
     pub word: Word,
     pub number: u8,
 }
 
-#[derive(Drop)]
+#[derive(Clone, Copy)]
 pub struct Board {
     pub rows: [Row; 64],
     pub count: u8,

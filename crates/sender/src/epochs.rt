@@ -13,7 +13,7 @@ use packet::{Fields, Writing, kinds};
 
 // outgoing: what goes out in this epoch's packets. ruling: what went out in the packets before, which rules this epoch's payload.
 // Before the first epoch starts, epoch is the number it will have.
-#[derive(Drop)]
+#[derive(Clone, Copy)]
 pub struct Sender {
     pub table: Table,
     pub outgoing: Board,
@@ -25,7 +25,7 @@ pub struct Sender {
     pub rs_ack: u8,
 }
 
-#[derive(Drop)]
+#[derive(Clone, Copy)]
 pub struct SenderOutcome {
     pub sender: Sender,
     pub answer: Answer,

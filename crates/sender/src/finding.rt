@@ -5,7 +5,7 @@ ghost use Rattle.sender.specs.Table.{holder_of, holds};
 use crate::table;
 use crate::table::Slot;
 
-#[derive(Drop)]
+#[derive(Clone, Copy)]
 pub enum Found {
     At(usize),
     Nothing,

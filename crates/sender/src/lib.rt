@@ -1,4 +1,6 @@
 // The sender: the table, its commands and reports (01, 'The sender's table'), the board that shows it, and the start of an epoch (01, 'Taking effect').
+#![tactic(auto)]
+
 mod board;
 mod commands;
 mod epochs;

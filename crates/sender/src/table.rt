@@ -2,7 +2,7 @@
 ghost use Rattle.std.specs.Prelude.{◌≡◌, ◌≤◌};
 ghost use Rattle.sender.specs.Table.{answer_number, is_add, is_active, is_member, members_of, slot_count};
 
-#[derive(Drop)]
+#[derive(Clone, Copy)]
 pub enum State {
     Idle,
     Add,
@@ -10,14 +10,14 @@ pub enum State {
     Dnu,
 }
 
-#[derive(Drop)]
+#[derive(Clone, Copy)]
 pub struct Slot {
     pub state: State,
     pub number: u8,
 }
 
 // wait: a wait is open. remembered: the RS-Ack that is remembered. kind: the kind of packet.
-#[derive(Drop)]
+#[derive(Clone, Copy)]
 pub struct Table {
     pub slots: [Slot; 64],
     pub count: u8,
@@ -26,7 +26,7 @@ pub struct Table {
     pub kind: u8,
 }
 
-#[derive(Drop)]
+#[derive(Clone, Copy)]
 pub enum Answer {
     Done,
     NoSlot,
@@ -53,7 +53,7 @@ impl Answer {
     }
 }
 
-#[derive(Drop)]
+#[derive(Clone, Copy)]
 pub struct Outcome {
     pub table: Table,
     pub answer: Answer,

@@ -1,11 +1,13 @@
 // Reads lines of commands from standard input to its end and writes what each is answered (01, 'Session').
+#![tactic(auto)]
+
 ghost use Rattle.std.specs.Prelude.{◌≡◌};
 ghost use Rattle.session_lines.specs.Session.{used_of};
 
 use libc::{STDIN_FILENO, STDOUT_FILENO};
 use session_lines::Session;
 
-#[derive(Drop)]
+#[derive(Clone, Copy)]
 struct Turn {
     session: Session,
     used: usize,
@@ -13,7 +15,7 @@ struct Turn {
 }
 
 // The session after some of the input, and whether to read on.
-#[derive(Drop)]
+#[derive(Clone, Copy)]
 struct Turned {
     session: Session,
     goes_on: bool,

@@ -8,7 +8,7 @@ use lib.Dec.{eqb}
 use lib.ListN.{length, take}
 use lib.Seq.{slice, length-slice}
 use borrow.Author.Tests.{le-leb, lt-leb}
-use Rattle.bytes.specs.Bytes.{index_of}
+use Rattle.ground.specs.Finding.{index_of}
 use Rattle.text.specs.declared.fields.Number.{Number}
 use Rattle.text.specs.Fields.{same_bytes}
 use Rattle.text.specs.Laws.Slices.{end_le, fields_last, fields_more, slice_end, slice_none}

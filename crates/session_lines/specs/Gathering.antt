@@ -1,7 +1,7 @@
 -- A line taken from the input, for any who read lines: a part of the input up to its first line end, behind what is kept already.
 use Rattle.std.specs.Prelude.{take}
 use Rattle.ground.specs.Types.{Bytes}
-use Rattle.bytes.specs.Bytes.{index_of}
+use Rattle.ground.specs.Finding.{index_of}
 use Rattle.session_lines.specs.declared.gathering.Gathered.{Gathered}
 use Rattle.session_lines.specs.declared.kept.Kept.{Kept}
 use Rattle.session_lines.specs.Kept.{keep_all}

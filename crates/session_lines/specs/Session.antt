@@ -2,7 +2,7 @@
 use Rattle.std.specs.Prelude.{Bool, [], ◌++◌, ℕ, ◌+◌, drop, length, take}
 use Rattle.ground.specs.Plain.{if◌then◌else◌, ◌<?◌}
 use Rattle.ground.specs.Types.{Bytes}
-use Rattle.bytes.specs.Bytes.{index_of}
+use Rattle.ground.specs.Finding.{index_of}
 use Rattle.sender.specs.declared.table.Table.{Table}
 use Rattle.sender.specs.Commands.{start_of}
 use Rattle.session_lines.specs.declared.kept.Kept.{Kept}

@@ -6,7 +6,7 @@ use crate::kept;
 use crate::kept::Kept;
 
 // kept: the line with what this part of the input has of it. used: how much of the part that is. ended: whether the line's end has come.
-#[derive(Drop)]
+#[derive(Clone, Copy)]
 pub struct Gathered {
     pub kept: Kept,
     pub used: usize,

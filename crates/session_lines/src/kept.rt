@@ -2,7 +2,7 @@
 ghost use Rattle.std.specs.Prelude.{◌≡◌, ◌≤◌, length, take};
 ghost use Rattle.session_lines.specs.Kept.{keep_all, keep_of, nothing_kept};
 
-#[derive(Drop)]
+#[derive(Clone, Copy)]
 pub struct Kept {
     pub bytes: [u8; 81],
     pub count: usize,

@@ -1,4 +1,6 @@
 // The text session of 01 over the sender's table: what a line means, what it is answered, and the input fed in parts cut anywhere.
+#![tactic(auto)]
+
 mod boards;
 mod gathering;
 mod kept;

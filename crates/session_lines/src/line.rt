@@ -6,7 +6,7 @@ ghost use Rattle.text.specs.Text.{fields_of};
 
 use text::Number;
 
-#[derive(Drop)]
+#[derive(Clone, Copy)]
 pub enum Line {
     Size(u32),
     Add(u32),

@@ -5,7 +5,7 @@ ghost use Rattle.session_lines.specs.Replies.{is_board, replied_of, reply_of, si
 use crate::line::Line;
 use sender::{Outcome, Table};
 
-#[derive(Drop)]
+#[derive(Clone, Copy)]
 pub struct Reply {
     pub table: Table,
     pub number: u8,

@@ -13,14 +13,14 @@ use packet::kinds;
 use sender::Table;
 
 // The table as the lines so far have left it, and the line that has begun.
-#[derive(Drop)]
+#[derive(Clone, Copy)]
 pub struct Session {
     pub table: Table,
     pub kept: Kept,
 }
 
 // What a part of the input has done. answer: 0, or 9 for an output buffer below OUTPUT_ROOM, and then nothing is used.
-#[derive(Drop)]
+#[derive(Clone, Copy)]
 pub struct Fed {
     pub session: Session,
     pub answer: u8,
@@ -33,7 +33,7 @@ pub const OUTPUT_ROOM: usize = 1095;
 
 const LINE_END: u8 = b'\n';
 
-#[derive(Drop)]
+#[derive(Clone, Copy)]
 struct Answered {
     pub table: Table,
     pub written: usize,

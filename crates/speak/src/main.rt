@@ -1,11 +1,13 @@
 // Reads lines of commands from standard input to its end and tells a listener what changes: slots in runs, or with --each each slot by itself.
+#![tactic(auto)]
+
 ghost use Rattle.std.specs.Prelude.{◌≡◌};
 ghost use Rattle.session_lines.specs.Session.{used_of};
 
 use libc::{STDIN_FILENO, STDOUT_FILENO};
 use speak_lines::Listener;
 
-#[derive(Drop)]
+#[derive(Clone, Copy)]
 struct Turn {
     listener: Listener,
     used: usize,
@@ -13,7 +15,7 @@ struct Turn {
 }
 
 // The listener after some of the input, and whether to read on.
-#[derive(Drop)]
+#[derive(Clone, Copy)]
 struct Turned {
     listener: Listener,
     goes_on: bool,

@@ -1,4 +1,6 @@
 // The session told to a listener: session_lines' lines and `epoch`, over crates/spoken.
+#![tactic(auto)]
+
 mod lines;
 mod listening;
 

@@ -12,7 +12,7 @@ use sender::{Board, Table};
 use session_lines::{Kept, Line};
 
 // The table as the lines so far have left it, the board that she holds, the line that has begun and its number, and whether slots are told in runs.
-#[derive(Drop)]
+#[derive(Clone, Copy)]
 pub struct Listener {
     pub table: Table,
     pub heard: Board,
@@ -22,7 +22,7 @@ pub struct Listener {
 }
 
 // What a part of the input has done. answer: 0, or 9 for an output buffer below spoken::SPEECH_ROOM, and then nothing is used.
-#[derive(Drop)]
+#[derive(Clone, Copy)]
 pub struct Heard {
     pub listener: Listener,
     pub answer: u8,

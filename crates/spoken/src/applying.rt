@@ -6,7 +6,7 @@ use crate::lists;
 use crate::lists::{Answer, Change, Changes, WaitChange};
 use sender::{Board, Row};
 
-#[derive(Drop)]
+#[derive(Clone, Copy)]
 pub struct Applied {
     pub board: Board,
     pub answer: Answer,

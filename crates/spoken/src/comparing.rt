@@ -7,7 +7,7 @@ use crate::lists;
 use crate::lists::{Answer, Change, Changes, WaitChange};
 use sender::{Board, Row};
 
-#[derive(Drop)]
+#[derive(Clone, Copy)]
 pub struct Compared {
     pub changes: Changes,
     pub answer: Answer,

@@ -1,4 +1,6 @@
 // The spoken board (02, 2026-10): 'From two whole boards, old and new, it produces the spoken changes'; 'Applying the changes to the old board gives the new one.'
+#![tactic(auto)]
+
 mod applying;
 mod comparing;
 mod lists;

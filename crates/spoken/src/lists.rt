@@ -6,14 +6,14 @@ use packet::Word;
 use sender::Row;
 
 // A slot, what it showed before and what it shows now.
-#[derive(Drop)]
+#[derive(Clone, Copy)]
 pub struct Change {
     pub slot: u8,
     pub old: Row,
     pub new: Row,
 }
 
-#[derive(Drop)]
+#[derive(Clone, Copy)]
 pub enum WaitChange {
     Same,
     Opened,
@@ -21,14 +21,14 @@ pub enum WaitChange {
 }
 
 // The first count of the list are changes. What stands behind them is not looked at.
-#[derive(Drop)]
+#[derive(Clone, Copy)]
 pub struct Changes {
     pub list: [Change; 64],
     pub count: u8,
     pub wait: WaitChange,
 }
 
-#[derive(Drop)]
+#[derive(Clone, Copy)]
 pub enum Answer {
     Done,
     Unfit,

@@ -7,7 +7,7 @@ use crate::lists::Change;
 use sender::Row;
 
 // From the first change of a run to its last. What lies between them they say.
-#[derive(Drop)]
+#[derive(Clone, Copy)]
 pub struct Run {
     pub first: Change,
     pub last: Change,

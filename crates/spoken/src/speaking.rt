@@ -10,7 +10,7 @@ use packet::Word;
 use sender::Row;
 
 // answer: 0, 9 for a buffer below SPEECH_ROOM, 2 for changes that fit no board or have a word with no name. written: how many bytes the lines take.
-#[derive(Drop)]
+#[derive(Clone, Copy)]
 pub struct Speech {
     pub answer: Answer,
     pub written: usize,

@@ -8,7 +8,7 @@ pub(crate) use ground::is_set;
 use packet::kinds;
 use rows::{Group, Step};
 
-#[derive(Drop)]
+#[derive(Clone, Copy)]
 pub struct Taken {
     // the port's step afterwards
     pub step: Step,

@@ -1,4 +1,6 @@
 // One frame of one port (01, 'The receiver'): the step rule, and what the frame does by the window and joining. All on numbers; nothing is stored here.
+#![tactic(auto)]
+
 pub mod answers;
 mod arrival;
 mod carried;

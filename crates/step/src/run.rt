@@ -5,7 +5,7 @@ ghost use Rattle.step.specs.Run.{begun_run, breaks_after, ends_packet, further_r
 use crate::starts;
 use packet::{counts, kinds};
 
-#[derive(Drop)]
+#[derive(Clone, Copy)]
 pub struct Run {
     // how many frames, up to the number that makes a step
     pub count: u8,

@@ -10,7 +10,7 @@ use lib.Dec.{eqb, ltb, eqb-suc-zero}
 use lib.ListN.{length, take, get_or}
 use lib.Seq.{slice, length-slice, length-take-le, take-suc}
 use borrow.Author.Tests.{eq-eqb, le-leb, le-ltb, lt-leb, lt-ltb, ltb-true, ne_eqb}
-use Rattle.bytes.specs.Bytes.{index_of}
+use Rattle.ground.specs.Finding.{index_of}
 use Rattle.ground.specs.Truth.{and_left, and_right}
 use Rattle.text.specs.declared.fields.Number.TheVariants.{Value, Unreadable}
 use Rattle.text.specs.Fields.{are_digits, digit_of, hex_of, number_of, same_bytes, value_of}

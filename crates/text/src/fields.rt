@@ -2,10 +2,10 @@
 ghost use Rattle.std.specs.Prelude.{◌≡◌, true, ◌+◌, ◌^◌, ◌≤◌, ◌<◌, length, take};
 ghost use Rattle.std.proofs.Math.Seq.{slice};
 ghost use Rattle.ground.specs.Plain.{◌<?◌};
-ghost use Rattle.bytes.specs.Bytes.{index_of};
+ghost use Rattle.ground.specs.Finding.{index_of};
 ghost use Rattle.text.specs.Fields.{are_digits, digit_of, hex_of, number_of, same_bytes, value_of};
 
-#[derive(Drop)]
+#[derive(Clone, Copy)]
 pub enum Number {
     Value(u32),
     Unreadable,

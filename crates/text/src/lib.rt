@@ -1,4 +1,6 @@
 // Lines of text, fields parted by tabs: fields read in a lent text, words and numbers put into a lent buffer.
+#![tactic(auto)]
+
 mod fields;
 mod hex;
 mod output;

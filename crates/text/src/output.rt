@@ -49,7 +49,7 @@ pub fn put_number(n: u8, mark: u8, out: &mut [u8], at: usize) -> usize
 }
 
 // The digits of a number and the mark behind them, from a start on to the end.
-#[derive(Drop)]
+#[derive(Clone, Copy)]
 struct Digits {
     bytes: [u8; 21],
     start: usize,

@@ -7,7 +7,7 @@ use packet::{Fields, Word, kinds};
 pub(crate) const PAYLOAD: u32 = 2;
 
 // What a port sends in an epoch.
-#[derive(Drop)]
+#[derive(Clone, Copy)]
 pub(crate) struct Sent {
     pub word: Word,
     pub number: u8,

@@ -9,7 +9,7 @@ use reply::Port;
 use rows::group;
 
 // The group that a row is about: how many ports it has, and the epoch that comes next.
-#[derive(Drop)]
+#[derive(Clone, Copy)]
 struct At {
     ports: u8,
     epoch: u8,

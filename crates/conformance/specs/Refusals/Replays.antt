@@ -4,7 +4,7 @@ use Rattle.std.proofs.Common.{◌∙◌, sym, arith, ne_eqb}
 use Rattle.std.proofs.lemmas.Bool.{false≢true}
 use Rattle.ground.specs.Flags.{one_if}
 use Rattle.ground.specs.Plain.{if◌then◌else◌, ◌==◌, ◌<?◌, ◌≤?◌}
-use Rattle.bytes.specs.Bytes.{index_of}
+use Rattle.ground.specs.Finding.{index_of}
 use Rattle.c_recordings.specs.Replays.{begin_answer_c, begin_state_c, bytes_of, last_c, lengths_answer_c, out_length_c, replay_of, store_length_c, turn_answer_c, turn_at_c, turn_out_c, turn_rows_c, turn_said_c, turn_state_c, turn_store_c, turn_wants_c, turn_written_c}
 use Rattle.conformance.specs.Refusals.Entries.{Call, Copes, Refusal, Unless, copes, done, stateful}
 use Rattle.conformance.specs.Refusals.Receivers.{start_ranged, times_in_range}

@@ -10,7 +10,7 @@ use Rattle.std.proofs.Math.Dec.{ltb}
 use Rattle.std.proofs.Math.ListN.{drop, length, length-append}
 use Rattle.std.proofs.Math.Seq.{slice, drop-append-add, drop-append_seam, drop-length, length-take-le}
 use borrow.Author.Tests.{ltb-false, ltb-true, ne_eqb}
-use Rattle.bytes.specs.Bytes.{index_of}
+use Rattle.ground.specs.Finding.{index_of}
 use Rattle.mending.specs.declared.line.Read.{Read}
 use Rattle.mending.specs.Laws.Layout.{frame_layout, line_placed, placed_at}
 use Rattle.mending.specs.Lines.{Line, digit_place, line_text, lines_with, record_of}

@@ -8,7 +8,7 @@ use native.Mathlib.Omega.{arith}
 use lib.ListN.{drop, get_or, length, take, take-append-drop}
 use Rattle.std.proofs.Math.Seq.{slice, length-slice}
 use borrow.Author.Tests.{eq-eqb, eqb-true, ltb-true}
-use Rattle.bytes.specs.Bytes.{index_after, index_of}
+use Rattle.ground.specs.Finding.{index_after, index_of}
 use Rattle.ground.specs.Truth.{and_left, and_right}
 use Rattle.recording.specs.Record.{flag_in, frame_by, is_frame, record_in}
 use Rattle.recording.specs.declared.record.Record.{Record}

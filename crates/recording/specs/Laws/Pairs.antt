@@ -3,7 +3,7 @@ use Rattle.std.specs.Prelude.{◌≡◌, refl, Bool, true, false, cond, List, []
 use Rattle.std.proofs.Common.{arith, le-leb, ltb-false, ltb-true}
 use Rattle.std.proofs.Math.Seq.{slice}
 use Rattle.std.proofs.lemmas.Bool.{lt-leb}
-use Rattle.bytes.specs.Bytes.{index_of}
+use Rattle.ground.specs.Finding.{index_of}
 use Rattle.recording.specs.declared.pairs.Pairs.{Pairs}
 use Rattle.recording.specs.Pairs.{field_in, pairs_from}
 use Rattle.text.specs.Laws.Slices.{fields_last, fields_more, first_le}

@@ -3,7 +3,7 @@ use Rattle.std.specs.Prelude.{◌≡◌, ℕ, suc, ◌+◌, ◌<◌, ◌≤◌, 
 use Rattle.std.proofs.Common.{sym, ap, ◌∙◌, append_assoc, le_of_suc-le-suc, not-suc-le-zero, arith, length-append, take-append-drop, drop_of_length-le, take_all, ltb-false, ltb-true}
 use Rattle.std.proofs.Math.Seq.{drop-append-add}
 use Rattle.std.proofs.lemmas.List.{drop-append-le}
-use Rattle.bytes.specs.Bytes.{index_after, index_of}
+use Rattle.ground.specs.Finding.{index_after, index_of}
 use Rattle.replay_lines.specs.Coming.{behind_of}
 use Rattle.text.specs.Laws.Lines.{Free, free_append, free_line, free_take, last_line, with_end_lem}
 use Rattle.text.specs.Text.{LINE-END, lines_of}

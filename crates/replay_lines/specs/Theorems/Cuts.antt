@@ -9,7 +9,7 @@ use native.Mathlib.Omega.{arith}
 use lib.ListN.{length-append, length-drop, length-replicate}
 use Rattle.std.proofs.Math.Seq.{slice, drop-length, drop-nil, take-append_seam}
 use borrow.Author.Tests.{le-leb, lt-leb, lt-ltb, ltb-false, ltb-true}
-use Rattle.bytes.specs.Bytes.{index_of}
+use Rattle.ground.specs.Finding.{index_of}
 use Rattle.ground.specs.Truth.{and-true}
 use Rattle.packet.specs.Kinds.{frames}
 use Rattle.receiver.specs.Fetch.{fetch_of}

@@ -5,7 +5,7 @@ use Rattle.std.proofs.Math.Logic.{inl, inr}
 use Rattle.std.proofs.Common.{⊎_elim, arith}
 use lib.ListN.{length-drop}
 use borrow.Author.Tests.{eqb-false, ltb-true}
-use Rattle.bytes.specs.Bytes.{index_of}
+use Rattle.ground.specs.Finding.{index_of}
 use Rattle.ground.specs.Truth.{or_right}
 use Rattle.recording.specs.Opening.{Opening}
 use Rattle.recording.specs.Opening.{Opening as O}

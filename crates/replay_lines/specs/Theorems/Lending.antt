@@ -2,7 +2,7 @@
 -- told, rows for 64 ports and room for what is printed no later turn of the group is answered 9 for want of room.
 use Rattle.std.specs.Prelude.{◌≡◌, ℕ, ◌≤◌, Bool, true, false, cond, ◌&&◌, List, length, ◌==◌, nat_le, nat_lt, refl}
 use Rattle.std.proofs.Common.{sym, ap, true≢false, arith}
-use Rattle.bytes.specs.Bytes.{index_of}
+use Rattle.ground.specs.Finding.{index_of}
 use Rattle.ground.specs.Plain.{◌==◌, ◌≤?◌}
 use Rattle.ground.specs.Truth.{and_left}
 use Rattle.recording.specs.Line.{MOST, found_of}

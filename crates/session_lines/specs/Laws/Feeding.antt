@@ -5,7 +5,7 @@ use Rattle.std.proofs.Common.{◌∙◌, arith, length-append, length-drop, leng
 use Rattle.std.proofs.Math.Bool.{true, false}
 use Rattle.std.proofs.Math.Dec.{ltb}
 use Rattle.std.proofs.Math.ListN.{length}
-use Rattle.bytes.specs.Bytes.{index_of}
+use Rattle.ground.specs.Finding.{index_of}
 use Rattle.session_lines.specs.declared.session.Fed.{Fed}
 use Rattle.session_lines.specs.declared.session.Session.{Session}
 use Rattle.session_lines.specs.Output.{ROOM}

@@ -1,7 +1,7 @@
 -- Bytes with no line end among them, and the lines of what follows them.
 use Rattle.std.specs.Prelude.{◌≡◌, refl, Bool, true, false, List, [], ◌∷◌, ◌++◌, ℕ, suc, ◌+◌, ◌<◌, eqb, length, take}
 use Rattle.std.proofs.Common.{ap, le_of_suc-le-suc, not-suc-le-zero, arith, eqb-true}
-use Rattle.bytes.specs.Bytes.{index_after, index_of}
+use Rattle.ground.specs.Finding.{index_after, index_of}
 use Rattle.text.specs.Text.{LINE-END, ahead, lines_of}
 
 abbrev pub Free : List ℕ → Type 0

@@ -1,7 +1,7 @@
 -- A text parted at its marks, piece by piece.
 use Rattle.std.specs.Prelude.{◌≡◌, refl, Bool, true, false, List, [], ◌∷◌, ℕ, suc, ◌≤◌, ◌<◌, eqb, length, take, drop}
 use Rattle.std.proofs.Common.{le_of_suc-le-suc, not-suc-le-zero, arith}
-use Rattle.bytes.specs.Bytes.{index_of, index_after}
+use Rattle.ground.specs.Finding.{index_of, index_after}
 use Rattle.text.specs.Text.{parted}
 
 pub index_le : (m : ℕ) (l : List ℕ) → index_of m l ≤ length l

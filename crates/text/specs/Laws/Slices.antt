@@ -5,7 +5,7 @@ use Prim.Native.Nat.{ℕ, zero, suc, ◌+◌, ◌-◌, ◌≤◌, ◌<◌}
 use native.Mathlib.Omega.{arith}
 use Rattle.std.proofs.Math.Seq.{slice, drop-drop, length-slice, take-nil}
 use Rattle.std.proofs.lemmas.List.{drop-append-le}
-use Rattle.bytes.specs.Bytes.{index_of}
+use Rattle.ground.specs.Finding.{index_of}
 use Rattle.text.specs.Laws.Parted.{index_le, parted_more, parted_none}
 use Rattle.text.specs.Text.{TAB, fields_of}
 

@@ -1,5 +1,5 @@
 use Rattle.std.proofs.Common.{◌≡◌, ◌+◌, drop, arith}
-use Rattle.bytes.specs.Bytes.{index_of}
+use Rattle.ground.specs.Finding.{index_of}
 use Rattle.replay_lines.specs.Laws.Placed.{turned_placed}
 use Rattle.replay_lines.specs.Turn.{skip_turn}
 use Rattle.replay_lines.proofs.Deciding.{end_all, end_is, end_none, end_there}

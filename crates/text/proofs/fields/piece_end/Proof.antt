@@ -2,7 +2,7 @@ use mathlib.Core.List.{List}
 use mathlib.Core.Path.{◌∙◌, ap}
 use Prim.Native.Nat.{ℕ, ◌+◌}
 use borrow.Author.Rules.{rules}
-use Rattle.bytes.specs.Bytes.{index_of, slice}
+use Rattle.ground.specs.Finding.{index_of, slice}
 use Rattle.text.proofs.Reading.{piece_none}
 use Rattle.text.specs.Laws.Slices.{end_le, slice_end}
 use Rattle.text.proofs.fields.piece_end.Statement.{statement}
