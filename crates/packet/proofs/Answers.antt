@@ -51,10 +51,10 @@ module _ (f : Fields) (s : List ℕ) where
   unfolding write_answer write_bytes
   write_field h b = rw (eq-eqb (length s) 16 h, b) (refl, refl)
 
-  pub write_done : length s ≡ 16 → fitting f ≡ true → (ns image t : List ℕ) → ns ≡ nibbles_of f → image ≡ h4_of ns → t ≡ take (length image) image ++ drop (length image) s
+  pub write_done : length s ≡ 16 → fitting f ≡ true → (ns image t : List ℕ) → ns ≡ nibbles_of f → image ≡ h4_of ns → t ≡ image
       → (Done ≡ write_answer f s) × (t ≡ write_bytes f s)
   unfolding write_answer write_bytes h4_of
-  write_done h b ns image t e g k = rw (eq-eqb (length s) 16 h, b) (refl, (k ∙ rw (g, e, drop_of_length-le s {i = 16} (omega arith)) refl))
+  write_done h b ns image t e g k = rw (eq-eqb (length s) 16 h, b) (refl, (k ∙ rw (g, e) refl))
 
 -- a fixed group's packet (request 2026-12)
 pub fixed_packet : (ns : List ℕ) (e q : ℕ) (f : Fields) → get_or ns 10 0 % 16 ≡ 0 → e ≡ byte_of (get_or ns 8 0) (get_or ns 9 0) → q ≡ byte_of (get_or ns 6 0) (get_or ns 7 0) → f ≡ fixed_fields e q
@@ -75,7 +75,7 @@ module _ (e q : ℕ) (s : List ℕ) where
   unfolding write_fixed_answer write_fixed_bytes
   fixed_sq h a b = rw (eq-eqb (length s) 16 h, lt-ltb e 256 a, le-ltb q 256 b) (refl, refl)
 
-  pub fixed_done : length s ≡ 16 → e < 256 → q < 256 → (ns image t : List ℕ) → ns ≡ fixed_nibbles e q → image ≡ h4_of ns → t ≡ take (length image) image ++ drop (length image) s
+  pub fixed_done : length s ≡ 16 → e < 256 → q < 256 → (ns image t : List ℕ) → ns ≡ fixed_nibbles e q → image ≡ h4_of ns → t ≡ image
       → (Done ≡ write_fixed_answer e q s) × (t ≡ write_fixed_bytes e q s)
   unfolding write_fixed_answer write_fixed_bytes h4_of
-  fixed_done h a b ns image t i g k = rw (eq-eqb (length s) 16 h, lt-ltb e 256 a, lt-ltb q 256 b) (refl, (k ∙ rw (g, i, drop_of_length-le s {i = 16} (omega arith)) refl))
+  fixed_done h a b ns image t i g k = rw (eq-eqb (length s) 16 h, lt-ltb e 256 a, lt-ltb q 256 b) (refl, (k ∙ rw (g, i) refl))

@@ -1,0 +1,7 @@
+use Rattle.std.proofs.Common.{refl, arith}
+use Rattle.packet.specs.Counts.{tag_by_low}
+use Rattle.packet.proofs.counts.tag_by_low.Goals as goal
+
+pub returns : goal.returns
+unfolding tag_by_low
+returns c = refl
