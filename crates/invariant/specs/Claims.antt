@@ -16,7 +16,7 @@ use Rattle.invariant.specs.Calls.{Fetch, Frame, Receiver, ReceiverCall, receiver
 -- of the epoch that a joined port is in the midst of: from its first frame, or the epoch joined at, up to the tag to come
 pub record Part (g : Group) (s : Step) (d : ℕ) : Type 0 where
   pub joined : flag_of s.joined ≡ true
-  pub joined_at_lem : frames g.kind * s.joined_at_lem ≤ d
+  pub joined_at : frames g.kind * s.joined_at ≤ d
   pub from : frames g.kind * (offset g s / frames g.kind) ≤ d
   pub upto : d < offset g s
 

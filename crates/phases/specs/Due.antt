@@ -11,7 +11,7 @@ use Rattle.store.specs.Marks.{first_mark}
 
 -- of a port: it is not readable, or 'has brought its sixteen frames or joined at a later epoch'
 unfoldable pub owes_nothing : (g : Group) (step : Step) (marks : Bytes) → Bool
-owes_nothing g step marks = not (readable g step) || first_mark marks || flag_of step.joined && flag_of step.joined_at_lem
+owes_nothing g step marks = not (readable g step) || first_mark marks || flag_of step.joined && flag_of step.joined_at
 
 -- 'It is due when every readable port has brought its sixteen frames or joined at a later epoch.'
 unfoldable pub brought : (g : Group) (s : Rows) (ports : ℕ) → Bool

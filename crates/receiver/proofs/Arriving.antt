@@ -118,7 +118,7 @@ marks_stay : (kind : ℕ) (row : List ℕ) (t : Taken) → (t.joins || t.kept &&
 unfolding marks_by
 marks_stay kind row t e = go t.joins t.kept (ends_epoch kind t.at) e
   where
-    go : (a b c : Bool) → (a || b && c) ≡ false → cond a (cut_from row t.step.joined_at_lem) (cond b (cond c (marked_at row (epochs_in kind t.at)) row) row) ≡ row
+    go : (a b c : Bool) → (a || b && c) ≡ false → cond a (cut_from row t.step.joined_at) (cond b (cond c (marked_at row (epochs_in kind t.at)) row) row) ≡ row
     go true b c e = absurd (true≢false e)
     go false true true e = absurd (true≢false e)
     go false true false e = refl

@@ -28,7 +28,7 @@ gathered_by kind pair counted tag h = if counted then set pair 0 (with_symbol ki
 -- joining at an epoch drops what the port had stored from that epoch on; the last frame of an epoch marks it
 unfoldable pub marks_by : (kind : ℕ) (marks : Bytes) (t : Taken) → Bytes
 marks_by kind marks t =
-    if t.joins then cut_from marks t.step.joined_at_lem else if t.kept then (if ends_epoch kind t.at then marked_at marks (epochs_in kind t.at) else marks) else marks
+    if t.joins then cut_from marks t.step.joined_at else if t.kept then (if ends_epoch kind t.at then marked_at marks (epochs_in kind t.at) else marks) else marks
 
 -- the port's rows after a frame
 unfoldable pub port_rows : (kind : ℕ) (s : Rows) (port : ℕ) (t : Taken) (h4 : ℕ) → Rows

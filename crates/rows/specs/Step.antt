@@ -14,7 +14,7 @@ step_of row =
       next = get_or row 3 0 * 256 + get_or row 4 0;
       joined = get_or row 5 0;
       ever_since = get_or row 6 0;
-      joined_at_lem = get_or row 7 0;
+      joined_at = get_or row 7 0;
       whole = get_or row 8 0;
       breaks = get_or row 9 0;
       odd = get_or row 10 0;
@@ -30,7 +30,7 @@ step_row s =
     ∷ (s.next % 256)
     ∷ s.joined
     ∷ s.ever_since
-    ∷ s.joined_at_lem
+    ∷ s.joined_at
     ∷ s.whole
     ∷ s.breaks
     ∷ s.odd
@@ -51,7 +51,7 @@ with_next q n =
       next = n;
       joined = q.joined;
       ever_since = q.ever_since;
-      joined_at_lem = q.joined_at_lem;
+      joined_at = q.joined_at;
       whole = q.whole;
       breaks = q.breaks;
       odd = q.odd;

@@ -7,7 +7,8 @@ use native.Mathlib.Omega.{arith}
 use lib.ListN.{length, take}
 use lib.Seq.{sets-eq, take-length}
 use borrow.Author.Tests.{le-ltb, lt-ltb}
-use Rattle.ground.specs.Finding.{index_of, slice}
+use Rattle.std.proofs.Math.Seq.{slice}
+use Rattle.ground.specs.Finding.{index_of}
 use Rattle.sender.specs.declared.board.Board.{Board}
 use Rattle.sender.specs.declared.table.Table.{Table}
 use Rattle.sender.specs.Board.{board_of}

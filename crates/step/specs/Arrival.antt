@@ -36,7 +36,7 @@ step_to s failed run joined since later =
       next = run.next;
       joined = joined;
       ever_since = since;
-      joined_at_lem = later;
+      joined_at = later;
       whole = s.whole;
       breaks = run.breaks;
       odd = run.odd;
@@ -47,7 +47,7 @@ abbrev pub lost : (s : Step) (failed : ℕ) (run : Run) → Step
 lost s failed run = step_to s failed run 0 0 0
 
 abbrev pub advanced : Step → Run → Step
-advanced s run = step_to s 0 run s.joined s.ever_since s.joined_at_lem
+advanced s run = step_to s 0 run s.joined s.ever_since s.joined_at
 
 abbrev pub joined_at : (s : Step) (run : Run) (later : ℕ) → Step
 joined_at s run later = step_to s 0 run 1 s.ever_since later

@@ -33,17 +33,17 @@ NoMark marks = (i : ℕ) → mark_in marks i ≡ false
 pub record Idle (s : Step) (marks : Bytes) : Type 0 where
   pub joined : s.joined ≡ 0
   pub ever_since : s.ever_since ≡ 0
-  pub joined_at_lem : s.joined_at_lem ≡ 0
+  pub joined_at : s.joined_at ≡ 0
   pub whole : s.whole ≡ 0
   pub empty : NoMark marks
 
 -- of a port that has joined
 pub record Joined (g : Group) (s : Step) (marks : Bytes) : Type 0 where
   pub reach : offset g s ≤ g.window
-  pub within : frames g.kind * s.joined_at_lem < g.window
-  pub passed : s.joined_at_lem ≢ 0 → frames g.kind * s.joined_at_lem < offset g s
+  pub within : frames g.kind * s.joined_at < g.window
+  pub passed : s.joined_at ≢ 0 → frames g.kind * s.joined_at < offset g s
   -- from the epoch joined at on, the epochs that are marked are those that the port has gone through
-  pub marked : (i : ℕ) → s.joined_at_lem ≤ i → mark_in marks i ≡ (end_of g i ≤? offset g s)
+  pub marked : (i : ℕ) → s.joined_at ≤ i → mark_in marks i ≡ (end_of g i ≤? offset g s)
 
 -- of a port in step ever since the beginning that has not joined yet: the window's first frame is less than W frames ahead of it
 pub record Waiting (g : Group) (s : Step) (marks : Bytes) : Type 0 where
@@ -69,6 +69,6 @@ pub record PortKept (g : Group) (s : Step) (marks : Bytes) : Type 0 where
   pub goes : flag_of s.joined ≡ true → Joined g s marks
   -- what is marked lies in the window
   pub inside : (i : ℕ) → mark_in marks i ≡ true → end_of g i ≤ g.window
-  pub at_once : flag_of s.joined ≡ false → s.joined_at_lem ≡ 0
+  pub at_once : flag_of s.joined ≡ false → s.joined_at ≡ 0
   pub waits : flag_of s.ever_since ≡ true → flag_of s.joined ≡ false → Waiting g s marks
-  pub early : flag_of s.ever_since ≡ true → s.joined_at_lem ≡ 0
+  pub early : flag_of s.ever_since ≡ true → s.joined_at ≡ 0

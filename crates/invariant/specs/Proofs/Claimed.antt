@@ -74,7 +74,7 @@ ack_claims g ack s marks d c =
       begun = c.begun;
       has =
           ⊎_elim (λ (m : mark_in marks (d / frames g.kind) ≡ true). inl m)
-          (λ (p : Part (with_ack g ack) s d). inr (record { joined = p.joined; joined_at_lem = p.joined_at_lem; from = p.from; upto = p.upto })) c.has;
+          (λ (p : Part (with_ack g ack) s d). inr (record { joined = p.joined; joined_at = p.joined_at; from = p.from; upto = p.upto })) c.has;
     }
 
 module _ (tag : ℕ) (bytes : List ℕ) (h4 : ℕ) where

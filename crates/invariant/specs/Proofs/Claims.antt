@@ -45,7 +45,7 @@ module _ (g : Group) (s : Step) (marks : List ℕ) (k : PortKept g s marks) (beg
       distance_passed g (passed_group g) s.next refl refl (ahead g s marks k begun due p.joined) in
       record {
         joined = p.joined;
-        joined_at_lem = later_back g.kind s.joined_at_lem d p.joined_at_lem;
+        joined_at = later_back g.kind s.joined_at d p.joined_at;
         from = part_back g.kind d (offset g s) (distance_in (passed_group g) s.next) near p.from;
         upto = let l = p.upto in omega arith;
       }
@@ -134,7 +134,7 @@ module _ (g : Group) (s : Step) (marks : List ℕ) (failed odd : Bool) (h : ℕ)
         (distance_next g s.next (let most = W.most in let l = low in let some = W.least in let more = frames_two g.kind in omega arith))
 
     part : flag_of s.joined ≡ true → frames g.kind * (offset g s / frames g.kind) ≤ d → d < offset g s → Part g s d
-    part j from upto = record { joined = j; joined_at_lem = later_part g.kind s.joined_at_lem d (offset g s) (k.goes j).passed from; from = from; upto = upto }
+    part j from upto = record { joined = j; joined_at = later_part g.kind s.joined_at d (offset g s) (k.goes j).passed from; from = from; upto = upto }
 
     -- what is claimed after a frame of a joined port, but for the frame itself: an epoch is marked with its last frame
     pub keeps_marked : flag_of s.joined ≡ true → d ≢ offset g s → mark_in (marks_by g.kind marks (keeps g s run e)) (d / frames g.kind) ≡ true
@@ -194,7 +194,7 @@ module _ (g : Group) (s : Step) (marks : List ℕ) (failed odd : Bool) (h : ℕ)
     unfolding joining
     joins_part start p =
         let epochs : frames g.kind * epochs_in g.kind (offset g s) ≡ offset g s = whole_epochs g.kind (offset g s) round (start_place g s.next start) in
-        let from : offset g s ≤ d = rw epochs at p.joined_at_lem in
+        let from : offset g s ≤ d = rw epochs at p.joined_at in
         let upto : d < offset g s + 1 = rw next_offset at p.upto in
         omega arith
 

@@ -125,7 +125,7 @@ reports = (refl, refl, refl, refl, refl, refl, refl, refl, refl, refl)
 abbrev joined : List (List ℕ)
 joined =
     put_step (receiving 1 0).rows 0
-    (record { spare = replicate 4 0; heard = 1; failed = 0; count = 32; next = 853; joined = 1; ever_since = 0; joined_at_lem = 0; whole = 0; breaks = 0; odd = 0; bits = 0 })
+    (record { spare = replicate 4 0; heard = 1; failed = 0; count = 32; next = 853; joined = 1; ever_since = 0; joined_at = 0; whole = 0; breaks = 0; odd = 0; bits = 0 })
 
 -- a frame after which no port is readable, flagged or not; none that is refused, none where receiving has not begun, and none that leaves another port readable
 stops :

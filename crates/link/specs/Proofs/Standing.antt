@@ -73,7 +73,7 @@ module _ (r : Road) where
     pub stepped : (p : ℕ) → p < r.ports → Stepped (coming p) (step_at m.rows p)
     pub live : (p : ℕ) → p < r.ports → Live p (coming p) (port_at m.rows p).gathering
     pub ever_since : (p : ℕ) → p < r.ports → (step_at m.rows p).ever_since ≡ 1
-    pub joined_at_lem : (p : ℕ) → p < r.ports → (step_at m.rows p).joined_at_lem ≡ 0
+    pub joined_at : (p : ℕ) → p < r.ports → (step_at m.rows p).joined_at ≡ 0
     -- none is further from the window than the window is wide
     pub behind : (p : ℕ) → p < r.ports → i * L r < coming p + r.window
     pub ahead : (p : ℕ) → p < r.ports → coming p ≤ i * L r + r.window

@@ -187,5 +187,5 @@ unfolding write_vc12_answer vc12_fits assigned
 written = refl
 
 pub vc12_refuses_all : (read : List ℕ → Reading) → ((frames : List ℕ) → read frames ≡ read_vc12_answer frames) → ((frames : List ℕ) → reading_number (read frames) ≢ 0) → ⊥
-vc12_refuses_all read meets refuses =
+vc12_refuses_all _ meets refuses =
     refuses (sent_of (nine NORM 0)) (ap reading_number (meets (sent_of (nine NORM 0)) ∙ vc12_back (nine NORM 0) (replicate 32 0) written))

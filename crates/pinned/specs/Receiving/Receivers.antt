@@ -47,7 +47,7 @@ starts =
     ∷ row "no count" (step_at opened 1).count 0 same
     ∷ row "not joined" (step_at opened 1).joined 0 same
     ∷ row "no whole packet" (step_at opened 1).whole 0 same
-    ∷ row "joined at no later epoch" (step_at opened 1).joined_at_lem 0 same
+    ∷ row "joined at no later epoch" (step_at opened 1).joined_at 0 same
     ∷ row "no break" (step_at opened 1).breaks 0 same
     ∷ row "no odd packet" (step_at opened 1).odd 0 same
     ∷ row "the kind" (group_at opened).kind 2 same
@@ -138,7 +138,7 @@ flagged_step =
       next = 0;
       joined = 1;
       ever_since = 0;
-      joined_at_lem = 0;
+      joined_at = 0;
       whole = 0;
       breaks = 0;
       odd = 0;

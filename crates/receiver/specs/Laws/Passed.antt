@@ -54,7 +54,7 @@ module _ (s : Step) (whole : Bool) where
   unfolding passed_step
   step_since = refl
 
-  pub step_later : (passed_step s whole).joined_at_lem ≡ s.joined_at_lem - 1
+  pub step_later : (passed_step s whole).joined_at ≡ s.joined_at - 1
   unfolding passed_step
   step_later = refl
 

@@ -38,7 +38,7 @@ module _ (g : Group) (s : Step) (marks : List ℕ) (k : PortKept g s marks) (beg
         failed_none = k.failed_none;
         failed_had = k.failed_had;
         count_had = k.count_had;
-        idle = λ b. record { joined = refl; ever_since = rw (off b); joined_at_lem = refl; whole = refl; empty = mark_none };
+        idle = λ b. record { joined = refl; ever_since = rw (off b); joined_at = refl; whole = refl; empty = mark_none };
         goes = λ e. absurd (false≢true e);
         inside = λ i m. absurd (false≢true (sym (mark_none i) ∙ m));
         at_once = λ e. refl;

@@ -28,7 +28,7 @@ module _ (g : Group) (s : Step) (marks : List ℕ) (k : PortKept g s marks) (beg
       rw (begun, on, e) refl
 
   -- so it has brought the epoch, or joined at a later one
-  has_brought : (flag_of s.joined || flag_of s.ever_since) ≡ true → (first_mark marks || flag_of s.joined && flag_of s.joined_at_lem) ≡ true
+  has_brought : (flag_of s.joined || flag_of s.ever_since) ≡ true → (first_mark marks || flag_of s.joined && flag_of s.joined_at) ≡ true
   unfolding owes_nothing
   has_brought e = rw (is_readable e) at due
 
@@ -36,12 +36,12 @@ module _ (g : Group) (s : Step) (marks : List ℕ) (k : PortKept g s marks) (beg
   pub ahead : flag_of s.joined ≡ true → frames g.kind ≤ offset g s
   ahead j =
       let o : Joined g s marks = k.goes j in
-      let later : s.joined_at_lem ≢ 0 → frames g.kind ≤ offset g s = λ n. one_ahead g.kind s.joined_at_lem (offset g s) n (o.passed n) in
+      let later : s.joined_at ≢ 0 → frames g.kind ≤ offset g s = λ n. one_ahead g.kind s.joined_at (offset g s) n (o.passed n) in
       ⊎_elim
       (λ (m : first_mark marks ≡ true).
-      ⊎_elim (λ (z : s.joined_at_lem ≡ 0). first_ended g.kind (offset g s) (sym (o.marked 0 (omega arith)) ∙ sym (first_mark_lem marks) ∙ m)) later (eq_or_ne s.joined_at_lem 0))
-      (λ (m : (flag_of s.joined && flag_of s.joined_at_lem) ≡ true). later (flag_on s.joined_at_lem (and_right (flag_of s.joined) (flag_of s.joined_at_lem) m)))
-      (or_cases (first_mark marks) (flag_of s.joined && flag_of s.joined_at_lem) (has_brought (rw j)))
+      ⊎_elim (λ (z : s.joined_at ≡ 0). first_ended g.kind (offset g s) (sym (o.marked 0 (omega arith)) ∙ sym (first_mark_lem marks) ∙ m)) later (eq_or_ne s.joined_at 0))
+      (λ (m : (flag_of s.joined && flag_of s.joined_at) ≡ true). later (flag_on s.joined_at (and_right (flag_of s.joined) (flag_of s.joined_at) m)))
+      (or_cases (first_mark marks) (flag_of s.joined && flag_of s.joined_at) (has_brought (rw j)))
 
   -- and one that waits to join lets no epoch pass
   has_joined : flag_of s.ever_since ≡ true → flag_of s.joined ≡ true
@@ -51,8 +51,8 @@ module _ (g : Group) (s : Step) (marks : List ℕ) (k : PortKept g s marks) (beg
       let o = k.waits e j in
       let brought : (flag_of s.joined || flag_of s.ever_since) ≡ true = rw (j, e) in
       absurd (⊎_elim (λ (m : first_mark marks ≡ true). false≢true (sym (o.empty 0) ∙ sym (first_mark_lem marks) ∙ m))
-      (λ (m : (flag_of s.joined && flag_of s.joined_at_lem) ≡ true). true≢false (sym (and_left (flag_of s.joined) (flag_of s.joined_at_lem) m) ∙ j))
-      (or_cases (first_mark marks) (flag_of s.joined && flag_of s.joined_at_lem) (has_brought brought))))
+      (λ (m : (flag_of s.joined && flag_of s.joined_at) ≡ true). true≢false (sym (and_left (flag_of s.joined) (flag_of s.joined_at) m) ∙ j))
+      (or_cases (first_mark marks) (flag_of s.joined && flag_of s.joined_at) (has_brought brought))))
       (true_or_false (flag_of s.joined))
 
   -- A port of which an epoch passes: its run and flags stay, its marks move up by one, and its next frame lies an epoch nearer to the oldest (`near`), by which what was marked up to there is so again.
@@ -86,10 +86,10 @@ module _ (g : Group) (s : Step) (marks : List ℕ) (k : PortKept g s marks) (beg
           let near : distance_in (passed_group g) s.next + frames g.kind ≡ offset g s = distance_passed g (passed_group g) s.next refl refl (ahead j) in
           record {
             reach = let r = o.reach in omega arith;
-            within = less_later g.kind s.joined_at_lem g.window o.within;
+            within = less_later g.kind s.joined_at g.window o.within;
             passed = λ n.
-                later_nearer g.kind s.joined_at_lem (offset g s) (distance_in (passed_group g) s.next) n
-                (o.passed (λ (z : s.joined_at_lem ≡ 0). n (let q = z in omega arith))) near;
+                later_nearer g.kind s.joined_at (offset g s) (distance_in (passed_group g) s.next) n
+                (o.passed (λ (z : s.joined_at ≡ 0). n (let q = z in omega arith))) near;
             marked = λ i l.
                 mark_passed marks k.row i
                 ∙ o.marked (i + 1) (omega arith)

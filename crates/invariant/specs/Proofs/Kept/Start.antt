@@ -35,7 +35,7 @@ fresh_kept g =
       failed_none = λ e. refl;
       failed_had = λ e. absurd (false≢true e);
       count_had = λ l. absurd (omega arith);
-      idle = λ b. record { joined = refl; ever_since = refl; joined_at_lem = refl; whole = refl; empty = mark_none };
+      idle = λ b. record { joined = refl; ever_since = refl; joined_at = refl; whole = refl; empty = mark_none };
       goes = λ e. absurd (false≢true e);
       inside = λ i m. absurd (false≢true (sym (mark_none i) ∙ m));
       at_once = λ e. refl;

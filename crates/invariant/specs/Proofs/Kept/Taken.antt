@@ -43,7 +43,7 @@ lost_kept g s marks failed run f r none k =
       failed_none = λ e. none (flag_on failed e);
       failed_had = λ e. refl;
       count_had = λ l. refl;
-      idle = λ b. record { joined = refl; ever_since = refl; joined_at_lem = refl; whole = (k.idle b).whole; empty = (k.idle b).empty };
+      idle = λ b. record { joined = refl; ever_since = refl; joined_at = refl; whole = (k.idle b).whole; empty = (k.idle b).empty };
       goes = never;
       inside = k.inside;
       at_once = λ e. refl;
@@ -98,7 +98,7 @@ module _ (g : Group) (s : Step) (marks : List ℕ) (W : Windowed g) (k : PortKep
             failed_none = never;
             failed_had = λ e. refl;
             count_had = λ l. refl;
-            idle = λ b. let i = k.idle b in record { joined = i.joined; ever_since = i.ever_since; joined_at_lem = i.joined_at_lem; whole = i.whole; empty = i.empty };
+            idle = λ b. let i = k.idle b in record { joined = i.joined; ever_since = i.ever_since; joined_at = i.joined_at; whole = i.whole; empty = i.empty };
             goes = λ e. clash (flag_of s.joined) e j;
             inside = k.inside;
             at_once = k.at_once;
@@ -152,7 +152,7 @@ module _ (g : Group) (s : Step) (marks : List ℕ) (W : Windowed g) (k : PortKep
             goes : Joined g s marks
             goes = k.goes j
 
-            with_marks_lem : (m : List ℕ) → Sixteen m → ((i : ℕ) → s.joined_at_lem ≤ i → mark_in m i ≡ leb (end_of g i) (d + 1)) → ((i : ℕ) → mark_in m i ≡ true → end_of g i ≤ g.window)
+            with_marks_lem : (m : List ℕ) → Sixteen m → ((i : ℕ) → s.joined_at ≤ i → mark_in m i ≡ leb (end_of g i) (d + 1)) → ((i : ℕ) → mark_in m i ≡ true → end_of g i ≤ g.window)
                 → PortKept g (advanced s run) m
             with_marks_lem m row marked inside =
                 record {
@@ -185,7 +185,7 @@ module _ (g : Group) (s : Step) (marks : List ℕ) (W : Windowed g) (k : PortKep
             go : (t : Bool) → ends_epoch g.kind d ≡ t → PortKept g (advanced s run) (cond t (marked_at marks (epochs_in g.kind d)) marks)
             go true e = with_marks_lem (marked_at marks (epochs_in g.kind d)) (sixteen_marked marks k.row (epochs_in g.kind d)) marked inside
               where
-                marked : (i : ℕ) → s.joined_at_lem ≤ i → mark_in (marked_at marks (epochs_in g.kind d)) i ≡ leb (end_of g i) (d + 1)
+                marked : (i : ℕ) → s.joined_at ≤ i → mark_in (marked_at marks (epochs_in g.kind d)) i ≡ leb (end_of g i) (d + 1)
                 marked i l =
                     ⊎_elim
                     (λ (a : 128 ≤ i).

@@ -43,7 +43,7 @@ unfolding tag_in distance_in
 ack_bits g ack s marks byte then same b =
     record {
       marked = λ d m. rw (same d) (b.marked d m);
-      under = λ d p. rw (same d) (b.under d (record { joined = p.joined; joined_at_lem = p.joined_at_lem; from = p.from; upto = p.upto }));
+      under = λ d p. rw (same d) (b.under d (record { joined = p.joined; joined_at = p.joined_at; from = p.from; upto = p.upto }));
     }
 
 -- an epoch passed
@@ -120,7 +120,7 @@ module _ (g : Group) (s : Step) (marks : List ℕ) (failed odd : Bool) (h : ℕ)
       unmarked : mark_in marks (offset g s / frames g.kind) ≡ false
       unmarked =
           let o = k.goes j in
-          o.marked (e / frames g.kind) (later_reached g.kind s.joined_at_lem e o.passed) ∙ still_comes g.kind e
+          o.marked (e / frames g.kind) (later_reached g.kind s.joined_at e o.passed) ∙ still_comes g.kind e
 
       ended : mark_in (marks_by g.kind marks (keeps g s run e)) (offset g s / frames g.kind) ≡ true → ends_epoch g.kind (offset g s) ≡ true
       unfolding keeps marks_by

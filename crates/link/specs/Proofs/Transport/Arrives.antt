@@ -65,7 +65,7 @@ pub record Goes (r : Road) (m : Moment) (coming : ℕ → ℕ) (i p : ℕ) (t : 
   pub stepped : Stepped r (coming p + 1) t.step
   pub counted : t.counted ≡ true
   pub ever_since : t.step.ever_since ≡ (step_at m.rows p).ever_since
-  pub joined_at_lem : t.step.joined_at_lem ≡ 0
+  pub joined_at : t.step.joined_at ≡ 0
   pub whole : t.step.whole ≡ (step_at m.rows p).whole
   pub joined : t.step.joined ≡ cond (ltb (i * L r) (coming p + 1)) 1 0
   pub marks_row : Sixteen (marks_by r.kind (marks_at m.rows p) t)
@@ -152,7 +152,7 @@ module _ (r : Road) (fair : Fair r) (m : Moment) (coming : ℕ → ℕ) (i : ℕ
         stepped = stepped_keeps r fair g p (coming p) s odd o.lined.kind_is b late even stepped_then (coming p - i * L r);
         counted = refl;
         ever_since = refl;
-        joined_at_lem = o.joined_at_lem p b;
+        joined_at = o.joined_at p b;
         whole = refl;
         joined = j ∙ rw (lt-ltb (i * L r) (coming p + 1) (omega arith)) refl;
         marks_row = kept_sixteen (coming p - i * L r);
@@ -173,7 +173,7 @@ module _ (r : Road) (fair : Fair r) (m : Moment) (coming : ℕ → ℕ) (i : ℕ
         stepped = stepped_joining r fair g p (coming p) s odd o.lined.kind_is b late even stepped_then 0;
         counted = refl;
         ever_since = refl;
-        joined_at_lem = none_in g.kind;
+        joined_at = none_in g.kind;
         whole = refl;
         joined = rw (lt-ltb (i * L r) (coming p + 1) (omega arith)) refl;
         marks_row = sixteen_cut row (o.marks_row p b) (epochs_in g.kind 0);
@@ -194,7 +194,7 @@ module _ (r : Road) (fair : Fair r) (m : Moment) (coming : ℕ → ℕ) (i : ℕ
         stepped = stepped_dropped r fair g p (coming p) s odd o.lined.kind_is b late even stepped_then;
         counted = refl;
         ever_since = refl;
-        joined_at_lem = o.joined_at_lem p b;
+        joined_at = o.joined_at p b;
         whole = refl;
         joined = j ∙ rw (le-ltb (i * L r) (coming p + 1) (omega arith)) refl;
         marks_row = o.marks_row p b;

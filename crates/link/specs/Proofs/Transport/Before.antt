@@ -311,7 +311,7 @@ module _ (r : Road) (f : Fair r) where
               stepped = λ q b. rw (step_begun q b) (stepped_begun q b);
               live = λ q b. rw (gathering_begun q b) (live q b);
               ever_since = λ q b. rw (step_begun q b) refl;
-              joined_at_lem = λ q b. rw (step_begun q b) refl;
+              joined_at = λ q b. rw (step_begun q b) refl;
               behind = λ q b. (let w = (none_behind q b).1 in let v = top_is in let a = next_soon in omega arith);
               ahead = λ q b. (let w = nobody_there q b in omega arith);
               marks_row = λ q b. rw (marks_begun q b) sixteen_none;

@@ -51,7 +51,7 @@ module _ (r : Road) (fair : Fair r) (m : Moment) (coming : ℕ → ℕ) (i : ℕ
   owes_is : (p : ℕ) → p < r.ports → owes_nothing (group_at m.rows) (step_at m.rows p) (marks_at m.rows p) ≡ leb (i * L r + L r) (coming p)
   unfolding owes_nothing
   owes_is p b =
-      rw (all_read p b, o.joined_at_lem p b, first_come p b, and-false (flag_of (step_at m.rows p).joined), or-false (leb (i * L r + L r) (coming p))) refl
+      rw (all_read p b, o.joined_at p b, first_come p b, and-false (flag_of (step_at m.rows p).joined), or-false (leb (i * L r + L r) (coming p))) refl
 
   brought_is : brought (group_at m.rows) m.rows r.ports ≡ every r.ports (λ p. leb (i * L r + L r) (coming p))
   unfolding brought

@@ -192,7 +192,7 @@ module _ (r : Road) (fair : Fair r) (m : Moment) (coming coming' : ℕ → ℕ) 
         stepped = stepped_after;
         live = live_after;
         ever_since = by_port (λ q. (step_at after.rows q).ever_since ≡ 1) (rw step_after (went.ever_since ∙ o.ever_since p b)) (λ q c d. rw (step_others q d) (o.ever_since q c));
-        joined_at_lem = by_port (λ q. (step_at after.rows q).joined_at_lem ≡ 0) (rw step_after went.joined_at_lem) (λ q c d. rw (step_others q d) (o.joined_at_lem q c));
+        joined_at = by_port (λ q. (step_at after.rows q).joined_at ≡ 0) (rw step_after went.joined_at) (λ q c d. rw (step_others q d) (o.joined_at q c));
         behind = by_port (λ q. i * L r < coming' q + r.window) (let e = f.next in let a = o.behind p b in omega arith) (λ q c d. rw (f.others q d) (o.behind q c));
         ahead = by_port (λ q. coming' q ≤ i * L r + r.window) (let e = f.next in omega arith) (λ q c d. rw (f.others q d) (o.ahead q c));
         marks_row = by_port (λ q. Sixteen (marks_at after.rows q)) (rw marks_after went.marks_row) (λ q c d. rw (marks_others q d) (o.marks_row q c));

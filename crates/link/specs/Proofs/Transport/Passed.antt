@@ -130,7 +130,7 @@ module _ (r : Road) (fair : Fair r) (m m' : Moment) (coming : ℕ → ℕ) (i : 
         stepped = λ p b. rw (t.steps p b) (stepped_passed r (coming p) (step_at m.rows p) (first_mark (marks_at m.rows p)) (o.stepped p b));
         live = λ p b. rw (t.gathering p b) (o.live p b);
         ever_since = λ p b. rw (t.steps p b) (step_since (step_at m.rows p) (first_mark (marks_at m.rows p)) ∙ o.ever_since p b);
-        joined_at_lem = λ p b. rw (t.steps p b) (step_later (step_at m.rows p) (first_mark (marks_at m.rows p)) ∙ rw (o.joined_at_lem p b) refl);
+        joined_at = λ p b. rw (t.steps p b) (step_later (step_at m.rows p) (first_mark (marks_at m.rows p)) ∙ rw (o.joined_at p b) refl);
         behind = λ p b.
             let h = all p b in
             let w : 0 < r.window = rw o.lined.window_is at wide in

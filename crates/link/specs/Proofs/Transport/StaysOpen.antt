@@ -51,7 +51,7 @@ module _ (r : Road) where
         stepped = λ p b. rw (a.steps p b) (o.stepped p b);
         live = λ p b. rw (a.gathering p b) (o.live p b);
         ever_since = λ p b. rw (a.steps p b) (o.ever_since p b);
-        joined_at_lem = λ p b. rw (a.steps p b) (o.joined_at_lem p b);
+        joined_at = λ p b. rw (a.steps p b) (o.joined_at p b);
         behind = o.behind;
         ahead = o.ahead;
         marks_row = λ p b. rw (a.marks p b) (o.marks_row p b);
