@@ -15,8 +15,14 @@ NAME = r"[^\s(){}.;,@\"«»⟦⟧]+"
 TRIVIAL = re.compile(r"^(omega arith|search rules|refl|tt|\(\))$")
 
 
+OWN = {}
+if os.path.exists(os.path.join(os.path.dirname(os.path.realpath(__file__)), "names.tsv")):
+    with open(os.path.join(os.path.dirname(os.path.realpath(__file__)), "names.tsv"), encoding="utf-8") as it:
+        OWN = dict(line.rstrip("\n").split("\t") for line in it)
+
+
 def norm(n):
-    return re.sub(r"^(overflow|bounds|slice_bounds|nonzero)[-_]", "", n).replace("_", "-")
+    return re.sub(r"^(overflow|bounds|slice_bounds|nonzero)[-_]", "", n).replace("_", "-").lower()
 
 
 def blocks(text):
@@ -78,6 +84,9 @@ class Walk:
         self.arms = {p[0]: a for p, a in zip(data["places"], data["arms"]) if a}
         self.params = []
         self.left = []
+        self.locals = {}
+        self.today = {p[0]: n for p, n in zip(data["places"], data["places_by_name"])}
+        self.spelled = {norm(p): p for p in self.today}
 
     def chain(self, place):
         out = []
@@ -91,7 +100,7 @@ class Walk:
         if not rest:
             return None
         f = norm(rest[0])
-        if f == "start":
+        if f == "start" and len(rest) > 1 and rest[1] in ("args", "requires"):
             rest = rest[1:]
             f = norm(rest[0]) if rest else ""
         if f == "args" and len(rest) > 1:
@@ -102,8 +111,8 @@ class Walk:
             elif a not in self.params and a.replace("-", "_") in self.params:
                 a = a.replace("-", "_")
             return "c." + ".".join([f, a] + rest[2:])
-        if f in ("args", "requires", "ranges", "utf8", "type-inv"):
-            return "c." + ".".join(rest)
+        if f in ("args", "requires", "ranges", "utf8", "type-inv", "well-formed"):
+            return "c." + ".".join([f.replace("-", "_")] + rest[1:])
         best = None
         for g in dict.fromkeys((f, re.sub(r"-lem$", "", f), re.sub(r"(?<=[a-z-])\d+$", "", f), {"copy": "copy-from-slice"}.get(f, f))):
             for i, p in enumerate(chain):
@@ -165,6 +174,10 @@ class Walk:
                         changed = True
                         break
         names = "|".join(re.escape(a) for a in sorted(alias, key=len, reverse=True))
+        for local, at in self.locals.items():
+            if at in chain:
+                deep = "c" + ".before" * chain.index(at)
+                text = re.sub(r"(?<![\w.'-])" + re.escape(local) + r" (?:" + names + r")(?:\.before)*(?![\w.'-])", "\0" + local + " " + deep + "\1", text)
 
         def turn(m):
             n = alias[m[1]] + len(re.findall(r"\.before(?![\w'-])", m[2]))
@@ -172,10 +185,12 @@ class Walk:
             r = self.path(chain, n, rest)
             return r if r is not None else m[0]
 
-        text = re.sub(r"(?<![\w.'-])(" + names + r")((?:\." + NAME + r")+)", turn, text)
+        parts = re.split("(\0[^\1]*\1)", text)
+        text = "".join(p[1:-1] if p[:1] == "\0" else re.sub(r"(?<![\w.'-])(" + names + r")((?:\." + NAME + r")+)", turn, p) for p in parts)
         for a, p in steps.items():
             text = re.sub(r"(?<![\w.'-])" + re.escape(a) + r"(?=\.)", p, text)
-        return text
+        made = {p[2][1] for p in self.places.values()} | {a[0] for a in self.arms.values()}
+        return re.sub(r"(?<=\.)[a-z][\w']*(?:-[\w']+)+", lambda m: m[0] if m[0] in made else OWN.get(m[0], m[0]), text)
 
 
 def params_of(crate, module):
@@ -222,6 +237,9 @@ def turn(crate, folder, data):
     module = os.path.relpath(folder, os.path.join(crate, "proofs")).replace(os.sep, ".")
     cname = os.path.basename(os.path.abspath(crate))
     w.params = params_of(crate, module)
+    for m in re.finditer(r"(?m)^(" + NAME + r") : (?:\(" + NAME + r" : )?tie\.(?!Need-|invariant-|decreases-)(" + NAME + r")", text):
+        if norm(m[2]) in w.spelled:
+            w.locals[m[1]] = w.spelled[norm(m[2])]
     comments = []
     for line in text.split("\n"):
         if line.startswith("--"):
@@ -313,6 +331,20 @@ def turn(crate, folder, data):
             continue
         if re.search(r"\btie\.(After|Else|Then|In|At)-", whole) and re.fullmatch(r"test\d+", name):
             continue
+        if name in w.locals:
+            place = w.locals[name]
+            m = re.search(r"(?m)^" + re.escape(name) + r" (" + NAME + r")((?: " + NAME + r")*) =", whole)
+            cut = m.start() if m else len(whole)
+            sig, eq = whole[:cut], whole[cut:]
+            k = re.search(r"\((" + NAME + r") : tie\." + NAME + r"[^)]*\)", sig)
+            if k:
+                sig = sig[: k.start()] + "(\2 : goal.\3)" + w.body(sig[k.end():], k[1], place)
+                sig = sig.replace("\2", "c").replace("\3", w.today[place])
+            else:
+                sig = re.sub(r"tie\." + NAME + r"(?: (?:invariant|decreases)-" + NAME + r")*", "goal." + w.today[place], sig, count=1)
+            if m:
+                eq = name + " c" + m[2] + " =" + w.body(eq[m.end() - cut:], m[1], place)
+            whole = sig + eq
         if "tie." in whole:
             w.left.append("local on a context: " + name)
         locals_.append("".join(n + "\n" for n in note) + whole)

@@ -1,0 +1,21 @@
+use mathlib.Core.Path.{◌≡◌, refl}
+use Prim.Native.Nat.{◌≤◌, ◌-◌}
+use native.Mathlib.Numerals.{add-one}
+use native.Mathlib.Omega.{arith}
+use lib.Dec.{leb}
+use lib.ListN.{length}
+use Rattle.ground.specs.Counting.Words.{every}
+use Rattle.paths.specs.Answers.{are_short}
+use Rattle.paths.specs.Paths.{delay_at}
+use borrow.Author.Rules.{rules}
+use Rattle.paths.proofs.answers.are_short.Goals as goal
+
+pub loop-i-init : goal.loop-i-init
+loop-i-init c = (omega arith, refl)
+
+pub loop-i-preserved : goal.loop-i-preserved
+loop-i-preserved c = (omega arith, rw (c.loop-i.invariant.1, add-one))
+
+pub returns : goal.returns
+unfolding are_short
+returns c = let e : c.loop-i.i ≡ length c.args.delays.now = omega arith in rw e at c.loop-i.invariant.1

@@ -1,0 +1,7 @@
+use Rattle.payload.proofs.Blocks.{block_turned}
+use borrow.Author.Rules.{rules}
+use Rattle.payload.proofs.block.lay_eight.Goals as goal
+
+pub returns : goal.returns
+returns c =
+    block_turned 8 16 c.args.x c.args.place c.args.j c.args.r c.args.q c.eight_rows-t.result c.args.out.now _ c.eight_rows-t.ensures c.write.ensures

@@ -1,0 +1,7 @@
+use Rattle.payload.proofs.Blocks.{block_turned}
+use borrow.Author.Rules.{rules}
+use Rattle.payload.proofs.block.lay_wide.Goals as goal
+
+pub returns : goal.returns
+returns c =
+    block_turned 16 16 c.args.x c.args.place c.args.j c.args.r c.args.q c.sixteen_wide-t.result c.args.out.now _ c.sixteen_wide-t.ensures c.write.ensures

@@ -1,0 +1,15 @@
+-- The invariant: the first l rows are read.
+use mathlib.Core.Path.{◌≡◌, ap}
+use Prim.Native.Nat.{ℕ, ◌≤◌, ◌+◌, ◌-◌, ◌*◌}
+use native.Mathlib.Omega.{arith}
+use lib.ListN.{length, get_or}
+use Rattle.payload.specs.Inner.Block.{Rows}
+use Rattle.payload.specs.Joining.{ranked_byte}
+use Rattle.payload.proofs.Blocks.{RowIn, row_in_lem, rows_none, row_more}
+use Rattle.payload.proofs.block.read_ranked.Given as goal
+
+abbrev pub invariant-loop-l : goal.invariant-loop-l
+invariant-loop-l l = (l.l ≤ l.h) × Rows l.l l.w (ranked_byte l.p l.members) l.r l.j l.initial.q l.q
+
+abbrev pub decreases-loop-l : goal.decreases-loop-l
+decreases-loop-l l = l.h - l.l

@@ -1,0 +1,32 @@
+use Prim.Native.Nat.{◌≤◌, ◌<◌, ◌-◌, ◌+◌, ◌*◌}
+use mathlib.Core.Path.{◌≡◌}
+use native.Mathlib.Omega.{arith}
+use lib.ListN.{get_or}
+use Rattle.ground.specs.Drawn.{Filling, filling_none, filling_more}
+use Rattle.payload.proofs.Areas.{in_frame}
+use Rattle.payload.proofs.plain.member.Goals as goal
+
+inside : (c : goal.In-loop-j)
+    → c.loop-j.j * c.args.x + c.args.r < c.args.x * c.args.p
+inside c = in_frame _ _ c.loop-j.j _ (omega arith) (omega arith)
+
+pub loop-j-init : goal.loop-j-init
+loop-j-init c = (omega arith, filling_none _ _ _)
+
+pub overflow_mul-to : goal.overflow_mul-to
+overflow_mul-to c = omega (arith, inside c)
+
+pub overflow_add-to : goal.overflow_add-to
+overflow_add-to c = omega (arith, inside c)
+
+pub bounds-frame-j : goal.bounds-frame-j
+bounds-frame-j c = omega (arith, inside c.before)
+
+pub loop-j-preserved : goal.loop-j-preserved
+loop-j-preserved c = (omega arith, filling_more c.loop-j.invariant.1)
+
+pub shape_of-to : goal.shape_of-to
+shape_of-to c = c.loop-j.invariant.1.len
+
+pub returns : goal.returns
+returns c = let e : c.loop-j.j ≡ c.args.p = omega arith in rw (← e) c.loop-j.invariant.1.is

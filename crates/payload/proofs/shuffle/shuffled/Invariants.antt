@@ -1,0 +1,15 @@
+-- The invariant: the first 2 i bytes are in place.
+use mathlib.Core.Path.{◌≡◌, refl}
+use Prim.Native.Nat.{◌≤◌, ◌+◌, ◌-◌, ◌*◌, ◌/◌, ◌%◌}
+use native.Mathlib.Omega.{arith}
+use lib.ListN.{length, get_or}
+use borrow.Author.Rules.{rules}
+use Rattle.ground.specs.Drawn.{Filling, filling_none, filling_all}
+use Rattle.payload.proofs.Shuffles.{two_more}
+use Rattle.payload.proofs.shuffle.shuffled.Given as goal
+
+abbrev pub invariant-loop-i : goal.invariant-loop-i
+invariant-loop-i l = (length l.initial.s ≡ 128) × (l.i ≤ 64) × Filling 0 (2 * l.i) (λ k. get_or l.q (k % 2 * 64 + k / 2) 0) l.initial.s l.s
+
+abbrev pub decreases-loop-i : goal.decreases-loop-i
+decreases-loop-i l = 64 - l.i

@@ -1,0 +1,21 @@
+-- Under 0 the members are those of the frame spread, and under 4 and 9 they stay: one case for each answer.
+-- The answer 0 says that both lengths are X P, which the work requires (`whole-fits`).
+use mathlib.Core.Path.{refl, sym, ◌∙◌}
+use lib.ListN.{length}
+use native.Mathlib.Omega.{arith}
+use Rattle.payload.specs.Laws.Fits.{whole_fits}
+use Rattle.payload.proofs.spread.Goals as goal
+
+pub spread-requires : goal.spread-requires
+spread-requires c =
+    let f = whole_fits c.args.x c.args.p (length c.args.frame.now) (length c.args.members.now) (sym c.whole.ensures ∙ c.in-Done.is) in
+    (f.from_is, f.to_is)
+
+pub returns-in-Done : goal.returns-in-Done
+returns-in-Done c = rw (sym c.whole.ensures ∙ c.in-Done.is) (refl, c.spread.ensures)
+
+pub returns-in-Range : goal.returns-in-Range
+returns-in-Range c = rw (sym c.whole.ensures ∙ c.in-Range.is) (refl, refl)
+
+pub returns-in-Length : goal.returns-in-Length
+returns-in-Length c = rw (sym c.whole.ensures ∙ c.in-Length.is) (refl, refl)

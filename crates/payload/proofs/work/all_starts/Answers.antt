@@ -1,0 +1,24 @@
+use mathlib.Core.Path.{◌≡◌, refl}
+use Prim.Native.Nat.{◌≤◌, ◌-◌, ◌*◌}
+use native.Mathlib.Nat.{mul-le-mul, zero-add}
+use native.Mathlib.Omega.{arith}
+use lib.ListN.{length}
+use Rattle.ground.specs.Drawn.{Filling, filling_none, filling_more, filling_all}
+use borrow.Author.Rules.{rules}
+use Rattle.payload.proofs.work.all_starts.Goals as goal
+
+pub loop-r-init : goal.loop-r-init
+loop-r-init c = (refl, omega arith, filling_none _ _ _)
+
+pub overflow_mul-starts : goal.overflow_mul-starts
+overflow_mul-starts c =
+    let few : c.loop-r.r ≤ 64 = omega arith in
+    omega (arith, mul-le-mul few c.requires)
+
+pub loop-r-preserved : goal.loop-r-preserved
+loop-r-preserved c = (c.loop-r.invariant.0, omega arith, rw zero-add at (filling_more c.loop-r.invariant.2))
+
+pub returns : goal.returns
+returns c =
+    let e : c.loop-r.r ≡ 64 = omega arith in
+    filling_all (rw e at c.loop-r.invariant.2) c.loop-r.invariant.0

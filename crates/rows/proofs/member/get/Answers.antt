@@ -1,0 +1,7 @@
+use borrow.Author.Rules.{rules}
+use Rattle.rows.specs.Member.{member_at}
+use Rattle.rows.proofs.member.get.Goals as goal
+
+pub returns : goal.returns
+unfolding member_at
+returns c = rw (c.member_of.ensures, c.row_in-row.ensures)
