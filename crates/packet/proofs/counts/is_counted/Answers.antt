@@ -1,4 +1,4 @@
-use Rattle.std.proofs.Common.{refl, rules}
+use Rattle.std.proofs.Common.{refl}
 use Rattle.packet.specs.Counts.{h4_counts}
 use Rattle.packet.proofs.counts.is_counted.Goals as goal
 

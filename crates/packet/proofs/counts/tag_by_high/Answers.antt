@@ -1,4 +1,4 @@
-use Rattle.std.proofs.Common.{refl, arith}
+use Rattle.std.proofs.Common.{refl}
 use Rattle.packet.specs.Counts.{tag_by_high}
 use Rattle.packet.proofs.counts.tag_by_high.Goals as goal
 

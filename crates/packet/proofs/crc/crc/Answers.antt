@@ -1,5 +1,5 @@
 -- `crc` meets its contract: the shares of the seven bytes that the data nibbles make, joined (`seven`).
-use Rattle.std.proofs.Common.{◌∙◌, arith}
+use Rattle.std.proofs.Common.{◌∙◌}
 use Rattle.packet.specs.ByTable.{crc_with}
 use Rattle.packet.specs.Shares.{byte_at, share_in}
 use Rattle.packet.proofs.Joining.{seven}

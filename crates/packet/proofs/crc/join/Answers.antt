@@ -1,5 +1,4 @@
 -- `join` meets its contract: an entry of the table for each of seven bytes, joined in the definition's order.
-use Rattle.std.proofs.Common.{rules}
 use Rattle.packet.specs.Shares.{share_in}
 use Rattle.packet.proofs.Joining.{from_first}
 use Rattle.packet.proofs.crc.join.Goals as goal

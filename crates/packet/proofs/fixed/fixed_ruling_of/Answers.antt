@@ -1,5 +1,5 @@
 -- `fixed_ruling_of` meets its contract: an answer of reading a case, and only a packet rules.
-use Rattle.std.proofs.Common.{refl, arith}
+use Rattle.std.proofs.Common.{refl}
 use Rattle.packet.specs.Fixed.{fixed_ruling_of}
 use Rattle.packet.proofs.fixed.fixed_ruling_of.Goals as goal
 

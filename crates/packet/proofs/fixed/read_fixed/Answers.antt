@@ -1,4 +1,4 @@
-use Rattle.std.proofs.Common.{refl, arith, eq-eqb, ne_eqb}
+use Rattle.std.proofs.Common.{refl, eq-eqb, ne_eqb}
 use Rattle.packet.specs.Fixed.{read_fixed_answer}
 use Rattle.packet.proofs.fixed.read_fixed.Goals as goal
 

@@ -1,5 +1,5 @@
 -- `read_fixed_nibbles` meets its contract: another word than FIXED is refused, else number and epoch are put together of their nibbles.
-use Rattle.std.proofs.Common.{refl, arith, ne_eqb}
+use Rattle.std.proofs.Common.{refl, ne_eqb}
 use Rattle.packet.specs.Fixed.{read_fixed_nibbles}
 use Rattle.packet.proofs.Answers.{fixed_packet}
 use Rattle.packet.proofs.fixed.read_fixed_nibbles.Goals as goal

@@ -1,6 +1,5 @@
 -- `write_fixed` meets its contract: 9, 8, and under 0 the sixteen H4 bytes. Each exit cites one law of Answers over plain numbers, in the order of the tests.
 use Rattle.packet.proofs.Answers.{fixed_done, fixed_epoch, fixed_length, fixed_sq}
-use Rattle.std.proofs.Common.{arith}
 use Rattle.packet.proofs.fixed.write_fixed.Goals as goal
 
 pub returns-then-h4-ne16 : goal.returns-then-h4-ne16

@@ -1,4 +1,4 @@
-use Rattle.std.proofs.Common.{refl, arith, eq-eqb, ne_eqb}
+use Rattle.std.proofs.Common.{refl, eq-eqb, ne_eqb}
 use Rattle.packet.specs.Kinds.{epochs_in, frames, epochs}
 use Rattle.packet.proofs.kinds.epochs_in.Goals as goal
 

@@ -1,4 +1,4 @@
-use Rattle.std.proofs.Common.{refl, arith}
+use Rattle.std.proofs.Common.{refl}
 use Rattle.packet.specs.Kinds.{mst_fails}
 use Rattle.packet.proofs.kinds.mst_fails.Goals as goal
 

@@ -1,4 +1,4 @@
-use Rattle.std.proofs.Common.{refl, arith}
+use Rattle.std.proofs.Common.{refl}
 use Rattle.packet.specs.Kinds.{starts_epoch}
 use Rattle.packet.proofs.kinds.starts_epoch.Goals as goal
 

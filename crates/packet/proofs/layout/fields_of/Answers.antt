@@ -1,5 +1,5 @@
 -- `fields_of` meets its contract: each field of the nibbles at its places; what is asked for is that places lie in the row and sums fit.
-use Rattle.std.proofs.Common.{◌%◌, get_or, arith}
+use Rattle.std.proofs.Common.{◌%◌, get_or}
 use Rattle.packet.specs.Layout.{fields_of}
 use Rattle.packet.proofs.layout.fields_of.Goals as goal
 

@@ -1,4 +1,3 @@
-use Rattle.std.proofs.Common.{arith}
 use Rattle.packet.proofs.Answers.{sealed_nibbles}
 use Rattle.packet.proofs.layout.nibbles_of.Goals as goal
 

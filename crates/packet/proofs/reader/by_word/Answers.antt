@@ -1,5 +1,4 @@
-use Rattle.std.proofs.Common.{sym, ◌∙◌, arith}
-use borrow.Author.Tests.{not-true, not-false}
+use Rattle.std.proofs.Common.{sym, ◌∙◌}
 use Rattle.packet.proofs.Answers.{by_fixed, by_unassigned, by_packet}
 use Rattle.packet.proofs.reader.by_word.Goals as goal
 

@@ -1,5 +1,5 @@
 -- `highs_of` meets its contract: the high nibble of each of sixteen bytes.
-use Rattle.std.proofs.Common.{refl, arith}
+use Rattle.std.proofs.Common.{refl}
 use Rattle.packet.specs.Layout.{highs_of}
 use Rattle.packet.proofs.reader.highs_of.Goals as goal
 

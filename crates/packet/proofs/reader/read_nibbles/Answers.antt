@@ -1,5 +1,5 @@
 -- `read_nibbles` meets its contract: sixteen nibbles are read as the eight bytes that they make (`by_bytes`).
-use Rattle.std.proofs.Common.{◌∙◌, arith}
+use Rattle.std.proofs.Common.{◌∙◌}
 use Rattle.packet.proofs.Eight.{by_bytes}
 use Rattle.packet.proofs.reader.read_nibbles.Goals as goal
 

@@ -1,4 +1,4 @@
-use Rattle.std.proofs.Common.{rules, eq-eqb, ne_eqb}
+use Rattle.std.proofs.Common.{eq-eqb, ne_eqb}
 use Rattle.packet.specs.ByTable.{read_row_with}
 use Rattle.packet.proofs.ruling.read_row.Goals as goal
 

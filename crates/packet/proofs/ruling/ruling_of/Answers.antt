@@ -1,5 +1,5 @@
 -- `ruling_of` meets its contract: an answer of reading a case, and only a packet rules.
-use Rattle.std.proofs.Common.{refl, arith}
+use Rattle.std.proofs.Common.{refl}
 use Rattle.packet.specs.ByTable.{ruling_with}
 use Rattle.packet.proofs.ruling.ruling_of.Goals as goal
 

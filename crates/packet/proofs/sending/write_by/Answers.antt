@@ -1,4 +1,4 @@
-use Rattle.std.proofs.Common.{arith, rules, eq-eqb, ne_eqb}
+use Rattle.std.proofs.Common.{eq-eqb, ne_eqb}
 use Rattle.packet.specs.Sent.{sent_answer, sent_bytes}
 use Rattle.packet.proofs.sending.write_by.Goals as goal
 

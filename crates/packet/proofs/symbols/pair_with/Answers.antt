@@ -1,4 +1,4 @@
-use Rattle.std.proofs.Common.{refl, rules, eq-eqb, ne_eqb}
+use Rattle.std.proofs.Common.{refl, eq-eqb, ne_eqb}
 use Rattle.packet.specs.Symbols.{entry_with}
 use Rattle.packet.proofs.symbols.pair_with.Goals as goal
 

@@ -1,4 +1,3 @@
-use Rattle.std.proofs.Common.{arith}
 use Rattle.packet.proofs.OneNumber.{brought_none, brought_one}
 use Rattle.packet.proofs.vc12.brought.Goals as goal
 

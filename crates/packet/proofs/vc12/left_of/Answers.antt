@@ -1,5 +1,5 @@
-use Rattle.std.proofs.Common.{◌≤◌, refl, arith}
-use Rattle.packet.proofs.OneNumber.{Divided, divided_all, divided_more, divided_none}
+use Rattle.std.proofs.Common.{refl, arith}
+use Rattle.packet.proofs.OneNumber.{divided_all, divided_more, divided_none}
 use Rattle.packet.proofs.vc12.left_of.Goals as goal
 
 pub loop-k-init : goal.loop-k-init

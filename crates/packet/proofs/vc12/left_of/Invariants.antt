@@ -1,6 +1,6 @@
 -- The invariant: the bits from the highest down to the k-th are brought down.
-use Rattle.std.proofs.Common.{◌≤◌, refl, arith}
-use Rattle.packet.proofs.OneNumber.{Divided, divided_all, divided_more, divided_none}
+use Rattle.std.proofs.Common.{◌≤◌}
+use Rattle.packet.proofs.OneNumber.{Divided}
 use Rattle.packet.proofs.vc12.left_of.Given as goal
 
 abbrev pub invariant-loop-k : goal.invariant-loop-k

@@ -1,4 +1,4 @@
-use Rattle.std.proofs.Common.{◌≡◌, ℕ, ◌-◌, ◌*◌, ◌≤◌, refl, ap, ◌∙◌, arith}
+use Rattle.std.proofs.Common.{◌≡◌, ℕ, ◌*◌, refl, ap, ◌∙◌, arith}
 use Rattle.ground.specs.Bits.{number as spelt}
 use Rattle.ground.specs.Table.{tabulate}
 use Rattle.packet.specs.Vc12.{row_bits}

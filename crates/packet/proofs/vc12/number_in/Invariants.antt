@@ -1,9 +1,8 @@
 -- The invariant: the number that the first entries spell.
-use Rattle.std.proofs.Common.{◌≡◌, ℕ, ◌-◌, ◌*◌, ◌≤◌, refl, ap, ◌∙◌, arith}
+use Rattle.std.proofs.Common.{◌≡◌, ◌-◌, ◌*◌, ◌≤◌}
 use Rattle.ground.specs.Bits.{number as spelt}
 use Rattle.ground.specs.Table.{tabulate}
-use Rattle.packet.specs.Vc12.{row_bits}
-use Rattle.packet.proofs.OneNumber.{entry_more, entry_bit, spelt_lt}
+use Rattle.packet.proofs.OneNumber.{entry_bit}
 use Rattle.packet.proofs.vc12.number_in.Given as goal
 
 abbrev pub invariant-loop-k : goal.invariant-loop-k

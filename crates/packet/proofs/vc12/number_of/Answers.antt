@@ -1,4 +1,4 @@
-use Rattle.std.proofs.Common.{◌≡◌, ℕ, ◌-◌, ◌≤◌, get_or, refl, ap, ◌∙◌, arith}
+use Rattle.std.proofs.Common.{◌≡◌, ℕ, get_or, refl, ap, ◌∙◌, arith}
 use Rattle.ground.specs.Bits.{odd}
 use Rattle.ground.specs.Bits.{number as spelt}
 use Rattle.ground.specs.Table.{tabulate}

@@ -1,10 +1,8 @@
 -- The invariant: the number that the first frames spell.
-use Rattle.std.proofs.Common.{◌≡◌, ℕ, ◌-◌, ◌≤◌, get_or, refl, ap, ◌∙◌, arith}
+use Rattle.std.proofs.Common.{◌≡◌, ◌-◌, ◌≤◌, get_or}
 use Rattle.ground.specs.Bits.{odd}
 use Rattle.ground.specs.Bits.{number as spelt}
 use Rattle.ground.specs.Table.{tabulate}
-use Rattle.packet.specs.Vc12.{lowest_of}
-use Rattle.packet.proofs.OneNumber.{spelt_lt, spelt_more}
 use Rattle.packet.proofs.vc12.number_of.Given as goal
 
 abbrev pub invariant-loop-k : goal.invariant-loop-k

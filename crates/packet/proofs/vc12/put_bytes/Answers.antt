@@ -1,7 +1,6 @@
-use Rattle.std.proofs.Common.{◌≡◌, ◌-◌, ◌≤◌, length, arith}
-use Rattle.ground.specs.Bits.{bits}
-use Rattle.ground.specs.Drawn.{Filling, filling_all, filling_none}
-use Rattle.packet.specs.Vc12.{frame_byte, vc12_bytes}
+use Rattle.std.proofs.Common.{◌≡◌, arith}
+use Rattle.ground.specs.Drawn.{filling_all, filling_none}
+use Rattle.packet.specs.Vc12.{vc12_bytes}
 use Rattle.packet.proofs.OneNumber.{filling_next}
 use Rattle.packet.proofs.vc12.put_bytes.Goals as goal
 

@@ -1,9 +1,8 @@
 -- The invariant: the first k bytes are written.
-use Rattle.std.proofs.Common.{◌≡◌, ◌-◌, ◌≤◌, length, arith}
+use Rattle.std.proofs.Common.{◌≡◌, ◌-◌, ◌≤◌, length}
 use Rattle.ground.specs.Bits.{bits}
-use Rattle.ground.specs.Drawn.{Filling, filling_all, filling_none}
-use Rattle.packet.specs.Vc12.{frame_byte, vc12_bytes}
-use Rattle.packet.proofs.OneNumber.{filling_next}
+use Rattle.ground.specs.Drawn.{Filling}
+use Rattle.packet.specs.Vc12.{frame_byte}
 use Rattle.packet.proofs.vc12.put_bytes.Given as goal
 
 abbrev pub invariant-loop-k : goal.invariant-loop-k

@@ -1,4 +1,3 @@
-use Rattle.std.proofs.Common.{arith}
 use Rattle.packet.proofs.OneNumber.{read_right, read_wrong}
 use Rattle.packet.proofs.vc12.read_number.Goals as goal
 

@@ -1,4 +1,3 @@
-use Rattle.std.proofs.Common.{arith}
 use Rattle.packet.proofs.OneNumber.{read_bytes, read_length}
 use Rattle.packet.proofs.vc12.read_vc12.Goals as goal
 

@@ -1,4 +1,3 @@
-use Rattle.std.proofs.Common.{arith}
 use Rattle.packet.proofs.OneNumber.{read_row_lem}
 use Rattle.packet.proofs.vc12.read_vc12_row.Goals as goal
 

@@ -1,6 +1,5 @@
 -- `write_vc12` meets its contract: 9, 8, and under 0 the bytes of 32 frames.
-use Rattle.std.proofs.Common.{sym, ◌∙◌, arith}
-use borrow.Author.Tests.{not-true, not-false}
+use Rattle.std.proofs.Common.{sym, ◌∙◌}
 use Rattle.packet.specs.Laws.Bounds.{vc12_bounds}
 use Rattle.packet.proofs.OneNumber.{write_done, write_field, write_length}
 use Rattle.packet.proofs.vc12.write_vc12.Goals as goal

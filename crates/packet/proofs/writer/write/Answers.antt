@@ -1,6 +1,5 @@
 -- `write` meets its contract: 9, 8, and under 0 the sixteen H4 bytes. Each exit cites one law of Answers over plain numbers, in the order of the tests.
-use Rattle.std.proofs.Common.{sym, ◌∙◌, arith}
-use borrow.Author.Tests.{not-true, not-false}
+use Rattle.std.proofs.Common.{sym, ◌∙◌}
 use Rattle.packet.specs.Laws.Bounds.{bounds}
 use Rattle.packet.proofs.Answers.{write_length, write_field, write_done}
 use Rattle.packet.proofs.writer.write.Goals as goal

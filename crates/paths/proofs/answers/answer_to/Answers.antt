@@ -1,5 +1,4 @@
 use Rattle.paths.specs.Answers.{answer_of}
-use borrow.Author.Rules.{rules}
 use Rattle.paths.proofs.answers.answer_to.Goals as goal
 
 pub returns-then-is_sized : goal.returns-then-is_sized

@@ -1,13 +1,8 @@
 use mathlib.Core.Path.{◌≡◌, refl}
-use Prim.Native.Nat.{◌≤◌, ◌-◌}
 use native.Mathlib.Numerals.{add-one}
 use native.Mathlib.Omega.{arith}
-use lib.Dec.{leb}
 use lib.ListN.{length}
-use Rattle.ground.specs.Counting.Words.{every}
 use Rattle.paths.specs.Answers.{are_short}
-use Rattle.paths.specs.Paths.{delay_at}
-use borrow.Author.Rules.{rules}
 use Rattle.paths.proofs.answers.are_short.Goals as goal
 
 pub loop-i-init : goal.loop-i-init

@@ -1,14 +1,10 @@
 -- `are_short` meets its contract. By the loop: whether the first i delays are at most 4,095.
-use mathlib.Core.Path.{◌≡◌, refl}
+use mathlib.Core.Path.{◌≡◌}
 use Prim.Native.Nat.{◌≤◌, ◌-◌}
-use native.Mathlib.Numerals.{add-one}
-use native.Mathlib.Omega.{arith}
 use lib.Dec.{leb}
 use lib.ListN.{length}
 use Rattle.ground.specs.Counting.Words.{every}
-use Rattle.paths.specs.Answers.{are_short}
 use Rattle.paths.specs.Paths.{delay_at}
-use borrow.Author.Rules.{rules}
 use Rattle.paths.proofs.answers.are_short.Given as goal
 
 abbrev pub invariant-loop-i : goal.invariant-loop-i

@@ -1,11 +1,7 @@
 use mathlib.Core.Path.{◌≡◌, refl}
-use Prim.Native.Nat.{◌≤◌, ◌-◌}
 use native.Mathlib.Numerals.{add-one}
 use native.Mathlib.Omega.{arith}
-use Rattle.ground.specs.Counting.Words.{every}
-use Rattle.paths.specs.Checking.{agree, agrees_with}
-use Rattle.paths.specs.Paths.{path_at}
-use borrow.Author.Rules.{rules}
+use Rattle.paths.specs.Checking.{agrees_with}
 use Rattle.paths.proofs.checking.agrees.Goals as goal
 
 pub loop-b-init : goal.loop-b-init

@@ -1,12 +1,9 @@
 -- `agrees` meets its contract. By the loop: whether the a-th path of the set agrees with each of the first b.
-use mathlib.Core.Path.{◌≡◌, refl}
+use mathlib.Core.Path.{◌≡◌}
 use Prim.Native.Nat.{◌≤◌, ◌-◌}
-use native.Mathlib.Numerals.{add-one}
-use native.Mathlib.Omega.{arith}
 use Rattle.ground.specs.Counting.Words.{every}
-use Rattle.paths.specs.Checking.{agree, agrees_with}
+use Rattle.paths.specs.Checking.{agree}
 use Rattle.paths.specs.Paths.{path_at}
-use borrow.Author.Rules.{rules}
 use Rattle.paths.proofs.checking.agrees.Given as goal
 
 abbrev pub invariant-loop-b : goal.invariant-loop-b

@@ -3,7 +3,6 @@
 use mathlib.Core.Path.{sym, ◌∙◌}
 use native.Mathlib.Omega.{arith}
 use Rattle.paths.proofs.Answering.{check_done, check_range, done_sizes}
-use borrow.Author.Rules.{rules}
 use Rattle.paths.proofs.checking.check.Goals as goal
 
 pub overflow_sub-window : goal.overflow_sub-window

@@ -1,6 +1,5 @@
 use mathlib.Core.Path.{refl}
 use borrow.Author.Tests.{le-ltb, lt-ltb}
-use borrow.Author.Rules.{rules}
 use Rattle.paths.proofs.checking.delays_apart.Goals as goal
 
 pub returns-then-x-y : goal.returns-then-x-y

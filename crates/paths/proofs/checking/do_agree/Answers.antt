@@ -1,6 +1,5 @@
 use mathlib.Core.Path.{refl}
 use Rattle.paths.specs.Checking.{agree}
-use borrow.Author.Rules.{rules}
 use Rattle.paths.proofs.checking.do_agree.Goals as goal
 
 pub returns : goal.returns

@@ -1,12 +1,9 @@
 use mathlib.Core.Path.{◌≡◌, refl}
-use Prim.Native.Nat.{◌≤◌, ◌-◌}
 use native.Mathlib.Numerals.{add-one}
 use native.Mathlib.Omega.{arith}
 use lib.ListN.{length}
 use borrow.Author.Tests.{eq-eqb, ne_eqb}
-use Rattle.ground.specs.Counting.Words.{every}
-use Rattle.paths.specs.Checking.{accepts, entry_fits}
-use borrow.Author.Rules.{rules}
+use Rattle.paths.specs.Checking.{accepts}
 use Rattle.paths.proofs.checking.is_accepted.Goals as goal
 
 pub returns-then-set-k : goal.returns-then-set-k

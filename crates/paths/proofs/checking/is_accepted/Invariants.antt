@@ -1,13 +1,9 @@
 -- `is_accepted` meets its contract: a set of another size is refused at once. By the loop: whether each of the first a paths fits.
-use mathlib.Core.Path.{◌≡◌, refl}
+use mathlib.Core.Path.{◌≡◌}
 use Prim.Native.Nat.{◌≤◌, ◌-◌}
-use native.Mathlib.Numerals.{add-one}
-use native.Mathlib.Omega.{arith}
 use lib.ListN.{length}
-use borrow.Author.Tests.{eq-eqb, ne_eqb}
 use Rattle.ground.specs.Counting.Words.{every}
-use Rattle.paths.specs.Checking.{accepts, entry_fits}
-use borrow.Author.Rules.{rules}
+use Rattle.paths.specs.Checking.{entry_fits}
 use Rattle.paths.proofs.checking.is_accepted.Given as goal
 
 abbrev pub invariant-loop-a : goal.invariant-loop-a

@@ -1,14 +1,10 @@
 use mathlib.Core.Path.{◌≡◌, refl}
-use Prim.Native.Nat.{◌+◌, ◌≤◌, ◌-◌}
+use Prim.Native.Nat.{◌+◌, ◌≤◌}
 use native.Mathlib.Omega.{arith}
-use lib.ListN.{length}
 use Rattle.ground.specs.Counting.Laws.Numbers.{count_fits, count_more}
-use Rattle.ground.specs.Counting.Words.{count as count_of}
 use Rattle.paths.specs.Laws.Listing.{length_listed}
-use Rattle.paths.specs.Planning.{in_stretch, listed_plan, padded}
-use Rattle.paths.specs.Planning.{listed as listed_to}
+use Rattle.paths.specs.Planning.{in_stretch, listed_plan}
 use Rattle.paths.proofs.Growing.{listed_more}
-use borrow.Author.Rules.{rules}
 use Rattle.paths.proofs.planning.listed.Goals as goal
 
 pub loop-i-init : goal.loop-i-init

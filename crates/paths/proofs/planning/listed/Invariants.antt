@@ -1,15 +1,10 @@
 -- `listed` meets its contract. By the loop: of the first i candidates those in the stretch are listed, and so many are counted.
-use mathlib.Core.Path.{◌≡◌, refl}
-use Prim.Native.Nat.{◌+◌, ◌≤◌, ◌-◌}
-use native.Mathlib.Omega.{arith}
+use mathlib.Core.Path.{◌≡◌}
+use Prim.Native.Nat.{◌≤◌, ◌-◌}
 use lib.ListN.{length}
-use Rattle.ground.specs.Counting.Laws.Numbers.{count_fits, count_more}
 use Rattle.ground.specs.Counting.Words.{count as count_of}
-use Rattle.paths.specs.Laws.Listing.{length_listed}
-use Rattle.paths.specs.Planning.{in_stretch, listed_plan, padded}
+use Rattle.paths.specs.Planning.{in_stretch, padded}
 use Rattle.paths.specs.Planning.{listed as listed_to}
-use Rattle.paths.proofs.Growing.{listed_more}
-use borrow.Author.Rules.{rules}
 use Rattle.paths.proofs.planning.listed.Given as goal
 
 abbrev pub invariant-loop-i : goal.invariant-loop-i

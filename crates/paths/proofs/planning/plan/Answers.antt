@@ -3,7 +3,6 @@
 use mathlib.Core.Path.{sym, ◌∙◌}
 use native.Mathlib.Omega.{arith}
 use Rattle.paths.proofs.Answering.{done_sizes, plan_done, plan_range}
-use borrow.Author.Rules.{rules}
 use Rattle.paths.proofs.planning.plan.Goals as goal
 
 pub overflow_sub-window : goal.overflow_sub-window

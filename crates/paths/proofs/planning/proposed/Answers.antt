@@ -1,7 +1,6 @@
 -- `proposed` meets its contract: the tightest stretch listed, or nothing where it is too wide. Each exit cites one law, with what the calls before it give.
 use native.Mathlib.Omega.{arith}
 use Rattle.paths.proofs.Answering.{proposed_none, proposed_some, stretch_fits}
-use borrow.Author.Rules.{rules}
 use Rattle.paths.proofs.planning.proposed.Goals as goal
 
 pub listed-requires : goal.listed-requires

@@ -1,9 +1,6 @@
 use mathlib.Core.Path.{◌≡◌, ◌∙◌}
-use Prim.Native.Nat.{◌≤◌, ◌-◌}
 use native.Mathlib.Numerals.{add-one}
 use native.Mathlib.Omega.{arith}
-use Rattle.paths.specs.Planning.{tightest}
-use borrow.Author.Rules.{rules}
 use Rattle.paths.proofs.planning.tightest.Goals as goal
 
 pub loop-first-init : goal.loop-first-init

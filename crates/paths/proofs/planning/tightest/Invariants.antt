@@ -1,10 +1,7 @@
 -- `tightest` meets its contract. By the loop: the tightest of the stretches with the first so many starts.
-use mathlib.Core.Path.{◌≡◌, ◌∙◌}
+use mathlib.Core.Path.{◌≡◌}
 use Prim.Native.Nat.{◌≤◌, ◌-◌}
-use native.Mathlib.Numerals.{add-one}
-use native.Mathlib.Omega.{arith}
 use Rattle.paths.specs.Planning.{tightest}
-use borrow.Author.Rules.{rules}
 use Rattle.paths.proofs.planning.tightest.Given as goal
 
 abbrev pub invariant-loop-first : goal.invariant-loop-first
