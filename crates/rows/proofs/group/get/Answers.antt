@@ -1,4 +1,3 @@
-use borrow.Author.Rules.{rules}
 use Rattle.rows.specs.Group.{group_at}
 use Rattle.rows.proofs.group.get.Goals as goal
 

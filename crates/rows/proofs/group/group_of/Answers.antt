@@ -1,6 +1,5 @@
 -- `group_of` meets its contract: twelve bytes by their places, three pairs of them as numbers, and the four spare ones as they stand (`rest`).
 use native.Mathlib.Omega.{arith}
-use borrow.Author.Rules.{rules}
 use Rattle.rows.specs.Laws.Records.{rest}
 use Rattle.rows.specs.Group.{group_of}
 use Rattle.rows.proofs.group.group_of.Goals as goal

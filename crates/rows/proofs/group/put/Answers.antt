@@ -1,4 +1,3 @@
-use borrow.Author.Rules.{rules}
 use Rattle.rows.specs.Group.{put_group}
 use Rattle.rows.proofs.group.put.Goals as goal
 

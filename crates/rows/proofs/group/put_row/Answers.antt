@@ -1,5 +1,4 @@
 use mathlib.Core.Path.{refl}
-use borrow.Author.Rules.{rules}
 use native.Mathlib.Omega.{arith}
 use Rattle.rows.specs.Laws.Rows.{put_beyond}
 use Rattle.rows.specs.Rows.{put_row}

@@ -1,4 +1,3 @@
-use borrow.Author.Rules.{rules}
 use native.Mathlib.Omega.{arith}
 use Rattle.rows.specs.Laws.Rows.{row_within, row_beyond}
 use Rattle.rows.proofs.group.row_in.Goals as goal

@@ -1,4 +1,3 @@
-use borrow.Author.Rules.{rules}
 use Rattle.rows.specs.Member.{member_at}
 use Rattle.rows.proofs.member.get.Goals as goal
 

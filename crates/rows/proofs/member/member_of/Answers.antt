@@ -1,6 +1,5 @@
 -- `member_of` meets its contract: twelve bytes by their places, three pairs of them as numbers, and the four spare ones as they stand (`rest`).
 use native.Mathlib.Omega.{arith}
-use borrow.Author.Rules.{rules}
 use Rattle.rows.specs.Laws.Records.{rest}
 use Rattle.rows.specs.Member.{member_of}
 use Rattle.rows.proofs.member.member_of.Goals as goal

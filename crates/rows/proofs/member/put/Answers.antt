@@ -1,4 +1,3 @@
-use borrow.Author.Rules.{rules}
 use Rattle.rows.specs.Member.{put_member}
 use Rattle.rows.proofs.member.put.Goals as goal
 

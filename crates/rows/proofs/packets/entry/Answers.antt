@@ -1,5 +1,4 @@
 use mathlib.Core.Path.{refl}
-use borrow.Author.Rules.{rules}
 use Rattle.rows.specs.Laws.Bytes.{entry_none}
 use Rattle.rows.specs.Packets.{entry_in, packets_at}
 use Rattle.rows.proofs.packets.entry.Goals as goal

@@ -1,4 +1,3 @@
-use borrow.Author.Rules.{rules}
 use Rattle.rows.specs.Packets.{marks_at}
 use Rattle.rows.proofs.packets.marks.Goals as goal
 

@@ -1,5 +1,4 @@
 -- `put` meets its contract: a port's two packets into its two rows.
-use borrow.Author.Rules.{rules}
 use Rattle.rows.specs.Packets.{put_packets}
 use Rattle.rows.proofs.packets.put.Goals as goal
 

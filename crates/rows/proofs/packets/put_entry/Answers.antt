@@ -1,6 +1,5 @@
 -- `put_entry` meets its contract: inside the row the entry is put; past the row, or past the state, all stays. Each exit cites one law.
 use Rattle.rows.specs.Laws.Bytes.{entry_put, entry_past, entry_beyond}
-use borrow.Author.Rules.{rules}
 use Rattle.rows.proofs.packets.put_entry.Goals as goal
 
 pub returns-then-at-lt16 : goal.returns-then-at-lt16

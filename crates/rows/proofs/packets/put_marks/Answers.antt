@@ -1,4 +1,3 @@
-use borrow.Author.Rules.{rules}
 use Rattle.rows.specs.Packets.{put_marks}
 use Rattle.rows.proofs.packets.put_marks.Goals as goal
 

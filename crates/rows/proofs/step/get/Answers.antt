@@ -1,4 +1,3 @@
-use borrow.Author.Rules.{rules}
 use Rattle.rows.specs.Step.{step_at}
 use Rattle.rows.proofs.step.get.Goals as goal
 

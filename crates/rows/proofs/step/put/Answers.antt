@@ -1,4 +1,3 @@
-use borrow.Author.Rules.{rules}
 use Rattle.rows.specs.Step.{put_step}
 use Rattle.rows.proofs.step.put.Goals as goal
 

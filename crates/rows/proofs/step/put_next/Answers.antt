@@ -1,7 +1,6 @@
 -- `put_next` meets its contract: the two bytes of the tag to come are put into the port's row; past the state all stays.
 use mathlib.Core.Path.{refl}
 use Rattle.rows.specs.Laws.Bytes.{next_put, next_beyond}
-use borrow.Author.Rules.{rules}
 use Rattle.rows.proofs.step.put_next.Goals as goal
 
 pub returns-then-at-state : goal.returns-then-at-state
