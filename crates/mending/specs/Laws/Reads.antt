@@ -182,6 +182,9 @@ module _ (ports size at : ℕ) (l : Line) where
           let d : (at + place) - 4 ≡ at + (length l.bytes - (size + size + 4)) = omega arith in
           rw (line_end, d) refl
       go (Malformed next) e i = rw line_end refl
+      go Long e i = elim i [ ]
+      go Unfinished e i = elim i [ ]
+      go End e i = elim i [ ]
 
   -- and it lies as the code asks
   found_place : 4 ≤ place_of (line_record ports size at (at + length (line_text l)) l.bytes)
@@ -204,6 +207,9 @@ module _ (ports size at : ℕ) (l : Line) where
       go : (r : Record) → IsLine r → next_of (placed_at at (at + length (line_text l)) r) ≡ at + length (line_text l)
       go (Frame port h4 flag place next) i = refl
       go (Malformed next) i = refl
+      go Long i = elim i [ ]
+      go Unfinished i = elim i [ ]
+      go End i = elim i [ ]
 
 -- what is found is the record of the line at the place
 pub record FoundAt (ports size at : ℕ) (text : List ℕ) (back : ℕ) (r : Record) : Type 0 where
@@ -224,6 +230,9 @@ line_ended ports size at n line = go (line_record ports size at n line) (is_line
     go : (r : Record) → IsLine r → is_unended r ≡ false
     go (Frame port h4 flag place next) i = refl
     go (Malformed next) i = refl
+    go Long i = elim i [ ]
+    go Unfinished i = elim i [ ]
+    go End i = elim i [ ]
 
 module _ (ports size at : ℕ) (text : List ℕ) (h : at < length text) where
   some : eqb (length (drop at text)) 0 ≡ false

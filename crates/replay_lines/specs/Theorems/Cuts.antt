@@ -346,6 +346,9 @@ module _ (out : List ℕ) (line left kind ports size window : ℕ) (rows : List 
         go : (x : Record) → line_record ports size 0 n l ≡ x → IsLine x → Keeps out last reading (called last reading)
         go (Frame port h4 flag place next) e frame = frame_keeps port h4 flag place next e
         go (Malformed next) e malformed = malformed_keeps next e
+        go Long e none = elim none [ ]
+        go Unfinished e none = elim none [ ]
+        go End e none = elim none [ ]
 
   -- what stands at the beginning of the text
   now_nothing : (last : Bool) → (length text == 0) ≡ true → T.now_in reading.replay text last ≡ End
@@ -621,6 +624,9 @@ module _ (out : List ℕ) (line left kind ports size window : ℕ) (rows : List 
       no_line_lem : (x : Record) → IsLine x → T.now_in (host_in Reading).replay text true ≢ x
       no_line_lem (Frame port h4 flag place next) frame e = false≢true (rw (t, e) at w)
       no_line_lem (Malformed next) malformed e = false≢true (rw (t, e) at w)
+      no_line_lem Long none e = elim none [ ]
+      no_line_lem Unfinished none e = elim none [ ]
+      no_line_lem End none e = elim none [ ]
 
       go : (a b c : Bool) → (length text == 0) ≡ a → nat_lt (index_of LINE-END text) (length text) ≡ b → nat_lt MOST (length text) ≡ c → Closed (called true (host_in Reading))
       go true b c ea eb ec =
