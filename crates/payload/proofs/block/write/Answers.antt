@@ -6,12 +6,9 @@ use Rattle.ground.specs.Drawn.{Drawing, drawing_none}
 use Rattle.payload.specs.Inner.Area.{area}
 use Rattle.payload.specs.Inner.Block.{line_byte}
 use Rattle.payload.proofs.Areas.{area_no_line}
-use Rattle.payload.proofs.Blocks.{RunIn, run_in, line_more}
+use Rattle.payload.proofs.Blocks.{run_in, line_more}
 use Rattle.payload.proofs.Frames.{member_in}
 use Rattle.payload.proofs.block.write.Goals as goal
-
-inside : (c : goal.In-loop-i) → RunIn ((c.args.j + c.args.w) * c.args.x) ((c.args.j + c.loop-i.i) * c.args.x + c.args.r) (c.args.j + c.loop-i.i) c.args.h
-inside c = run_in _ _ _ _ _ _ _ (le_refl _) c.requires.0 c.requires.1 c.loop-i-test.true
 
 pub loop-i-init : goal.loop-i-init
 loop-i-init c = (omega arith, drawing_none _ _ _ (area_no_line _ _ _ _ _))
@@ -20,20 +17,20 @@ pub overflow_mul-i : goal.overflow_mul-i
 overflow_mul-i c = let t = member_in c.args.w c.args.h c.loop-i.i c.loop-i-test.true in omega arith
 
 pub overflow_add-j : goal.overflow_add-j
-overflow_add-j c = let s = inside c in omega arith
+overflow_add-j c = let s = run_in c.args.x c.args.j c.args.w c.loop-i.i c.args.r c.args.h _ (le_refl _) c.requires.0 c.requires.1 c.loop-i-test.true in omega arith
 
 pub overflow_mul-j : goal.overflow_mul-j
-overflow_mul-j c = let s = inside c in omega arith
+overflow_mul-j c = let s = run_in c.args.x c.args.j c.args.w c.loop-i.i c.args.r c.args.h _ (le_refl _) c.requires.0 c.requires.1 c.loop-i-test.true in omega arith
 
 pub overflow_add-j-in-loop-i : goal.overflow_add-j-in-loop-i
-overflow_add-j-in-loop-i c = let s = inside c in omega arith
+overflow_add-j-in-loop-i c = let s = run_in c.args.x c.args.j c.args.w c.loop-i.i c.args.r c.args.h _ (le_refl _) c.requires.0 c.requires.1 c.loop-i-test.true in omega arith
 
 pub overflow_add-place : goal.overflow_add-place
-overflow_add-place c = let s = inside c in omega arith
+overflow_add-place c = let s = run_in c.args.x c.args.j c.args.w c.loop-i.i c.args.r c.args.h _ (le_refl _) c.requires.0 c.requires.1 c.loop-i-test.true in omega arith
 
 pub by_bytes-requires : goal.by_bytes-requires
 by_bytes-requires c =
-    let s = inside c.before in
+    let s = run_in c.args.x c.args.j c.args.w c.loop-i.i c.args.r c.args.h _ (le_refl _) c.requires.0 c.requires.1 c.loop-i-test.true in
     let t = member_in c.args.w c.args.h c.loop-i.i c.loop-i-test.true in
     omega (arith, c.loop-i.invariant.1.len)
 

@@ -1,5 +1,6 @@
 -- `join` meets its contract: members that lie one after the other start at multiples of p (`joined-started`).
-use Prim.Native.Nat.{◌<◌, ◌≤◌, ◌*◌}
+use mathlib.Core.Path.{◌≡◌}
+use Prim.Native.Nat.{ℕ, ◌<◌, ◌≤◌, ◌*◌}
 use native.Mathlib.Nat.{mul-le-mul_right}
 use native.Mathlib.Omega.{arith}
 use lib.ListN.{length}
@@ -8,23 +9,23 @@ use Rattle.payload.proofs.Fronts.{starts_at, joined_started}
 use borrow.Author.Rules.{rules}
 use Rattle.payload.proofs.over.join.Goals as goal
 
-three : (c : goal.Start) → 3 * c.args.p ≤ length c.args.members.now
-three c = omega (arith, mul-le-mul_right c.args.p c.requires.0, c.requires.3)
+three : (x p n : ℕ) → 3 ≤ x → n ≡ x * p → 3 * p ≤ n
+three x p n some is = omega (arith, mul-le-mul_right p some, is)
 
 pub overflow_mul-starts : goal.overflow_mul-starts
-overflow_mul-starts c = omega (arith, three c.before.before)
+overflow_mul-starts c = omega (arith, three c.args.x c.args.p (length c.args.members.now) c.requires.0 c.requires.3)
 
 pub overflow_mul-starts-2 : goal.overflow_mul-starts-2
-overflow_mul-starts-2 c = omega (arith, three c.before.before)
+overflow_mul-starts-2 c = omega (arith, three c.args.x c.args.p (length c.args.members.now) c.requires.0 c.requires.3)
 
 pub overflow_mul-starts-3 : goal.overflow_mul-starts-3
-overflow_mul-starts-3 c = omega (arith, three c.before.before)
+overflow_mul-starts-3 c = omega (arith, three c.args.x c.args.p (length c.args.members.now) c.requires.0 c.requires.3)
 
 pub overflow_mul-starts-4 : goal.overflow_mul-starts-4
-overflow_mul-starts-4 c = omega (arith, three c.before.before)
+overflow_mul-starts-4 c = omega (arith, three c.args.x c.args.p (length c.args.members.now) c.requires.0 c.requires.3)
 
 pub overflow_mul-starts-5 : goal.overflow_mul-starts-5
-overflow_mul-starts-5 c = omega (arith, three c.before.before)
+overflow_mul-starts-5 c = omega (arith, three c.args.x c.args.p (length c.args.members.now) c.requires.0 c.requires.3)
 
 pub join_from-requires : goal.join_from-requires
 join_from-requires c =

@@ -9,31 +9,24 @@ use Rattle.payload.proofs.Fronts.{over_all, started_rest}
 use borrow.Author.Rules.{rules}
 use Rattle.payload.proofs.over.join_from.Goals as goal
 
-last : (c : goal.Start) → BlockIn c.args.x c.args.p 0 (c.args.p - 2) c.args.x 2
-last c = block_in c.args.x c.args.p 0 (c.args.p - 2) c.args.x 2 (omega (arith, c.requires.0)) (omega arith) (omega arith) (omega (arith, c.requires.2))
-
-within-store : (c : goal.Start) → c.args.p ≤ length c.args.store.now
-within-store c =
-    let b : 0 < c.args.x = omega (arith, c.requires.0) in
-    omega (arith, c.requires.4 0 b)
+last : (x p : ℕ) → 3 ≤ x → 34 ≤ p → BlockIn x p 0 (p - 2) x 2
+last x p some long = block_in x p 0 (p - 2) x 2 (omega arith) (omega arith) (omega arith) (omega arith)
 
 pub slice_bounds-join_from-count : goal.slice_bounds-join_from-count
-slice_bounds-join_from-count c = omega (arith, within-store c.before.before.before.before.before.before.before)
-
--- LEFT no goal slice-bounds-join-from-start
--- part-join-from-start : tie.Need-slice-bounds-join-from-start
--- part-join-from-start c = omega (arith, within-store c.before.before.before.before.before.before.before)
+slice_bounds-join_from-count c =
+    let b : 0 < c.args.x = omega (arith, c.requires.0) in
+    omega (arith, c.requires.2, c.requires.4 0 b)
 
 pub overflow_mul-n : goal.overflow_mul-n
-overflow_mul-n c = omega (arith, (last c.before.before.before.before.before.before.before.before).lines, c.requires.5)
+overflow_mul-n c = omega (arith, (last c.args.x c.args.p c.requires.0 c.requires.2).lines, c.requires.5)
 
 pub overflow_add-place : goal.overflow_add-place
-overflow_add-place c = omega (arith, (last c.before.before.before.before.before.before.before.before).lines, c.requires.5)
+overflow_add-place c = omega (arith, (last c.args.x c.args.p c.requires.0 c.requires.2).lines, c.requires.5)
 
 pub join_from-requires : goal.join_from-requires
 join_from-requires c =
     let n : ℕ = c.args.p - 2 in
-    (c.requires.3, λ r b. omega (arith, length_rest n c.args.store.now, c.requires.4 r b, c.requires.2), omega (arith, (last c.before.before.before.before.before.before.before.before.before).lines, c.most_lines.ensures.len, c.requires.5, c.requires.2))
+    (c.requires.3, λ r b. omega (arith, length_rest n c.args.store.now, c.requires.4 r b, c.requires.2), omega (arith, (last c.args.x c.args.p c.requires.0 c.requires.2).lines, c.most_lines.ensures.len, c.requires.5, c.requires.2))
 
 pub returns : goal.returns
 returns c =

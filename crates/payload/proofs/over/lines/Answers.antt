@@ -13,11 +13,10 @@ use borrow.Author.Rules.{rules}
 use Rattle.payload.proofs.over.lines.Goals as goal
 
 -- eight bytes of the sixteenth line end within the two lines behind it
-inside : (c : goal.After-start-j)
-    → c.args.place + c.start-j.result * c.args.x + 15 * c.args.x + 8 ≤ c.args.place + c.args.x * c.args.p
-inside c =
-    let b = block_in c.args.x c.args.p 0 (c.start-j.result + 15) c.args.x 3 (omega (arith, c.requires.0)) (omega arith) (omega arith) (omega (arith, c.start-j.ensures, c.requires.2, c.requires.3)) in
-    omega (arith, b.lines, c.requires.0)
+inside : (place x p n j c : ℕ) → 3 ≤ x → 16 ≤ n → n + 2 ≤ p → j ≡ min c (n - 16) → place + j * x + 15 * x + 8 ≤ place + x * p
+inside place x p n j c some least long is =
+    let b = block_in x p 0 (j + 15) x 3 (omega arith) (omega arith) (omega arith) (omega arith) in
+    omega (arith, b.lines)
 
 pub few_of-own-requires : goal.few_of-own-requires
 few_of-own-requires c =
@@ -42,14 +41,14 @@ read_started-requires c =
     )
 
 pub overflow_mul-j : goal.overflow_mul-j
-overflow_mul-j c = omega (arith, inside c.before.before.before.before, c.requires.6)
+overflow_mul-j c = omega (arith, inside c.args.place c.args.x c.args.p c.args.n c.start-j.result c.loop-c.c c.requires.0 c.requires.2 c.requires.3 c.start-j.ensures, c.requires.6)
 
 pub overflow_add-place : goal.overflow_add-place
-overflow_add-place c = omega (arith, inside c.before.before.before.before, c.requires.6)
+overflow_add-place c = omega (arith, inside c.args.place c.args.x c.args.p c.args.n c.start-j.result c.loop-c.c c.requires.0 c.requires.2 c.requires.3 c.start-j.ensures, c.requires.6)
 
 pub lay-requires : goal.lay-requires
 lay-requires c =
-    (omega (arith, c.requires.0), c.requires.1, omega (arith, inside c.before.before.before.before.before, c.requires.6, c.loop-c.invariant.1.len))
+    (omega (arith, c.requires.0), c.requires.1, omega (arith, inside c.args.place c.args.x c.args.p c.args.n c.start-j.result c.loop-c.c c.requires.0 c.requires.2 c.requires.3 c.start-j.ensures, c.requires.6, c.loop-c.invariant.1.len))
 
 pub overflow_add-c : goal.overflow_add-c
 overflow_add-c c =
@@ -67,7 +66,7 @@ loop-c-preserved c =
     let rows = own_rows_lem c.args.x c.args.starts.now c.few_of-own.result c.few_of-own.ensures 8 16 j c.args.store.now _ _ c.requires.1 (omega arith) c.read_started.ensures in (
       omega arith,
       over_lines c.args.x j (min i c.args.n) (min (i + 16) c.args.n) (c.args.place + j * c.args.x + 15 * c.args.x + 8) m _ _ _ pos low (omega (arith, c.requires.2)) rows c.loop-c.invariant.1 c.lay.ensures
-          (mul-le-mul_right c.args.x low) (inside c.before.before.before.before.before.before.before.before),
+          (mul-le-mul_right c.args.x low) (inside c.args.place c.args.x c.args.p c.args.n j i c.requires.0 c.requires.2 c.requires.3 e),
     )
 
 pub shape_of-out : goal.shape_of-out

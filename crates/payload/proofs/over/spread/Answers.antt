@@ -13,26 +13,26 @@ use borrow.Author.Rules.{rules}
 use Rattle.payload.proofs.over.spread.Goals as goal
 
 -- one of the last two lines
-line : (c : goal.Start) (i : ℕ) → i < 2 → (c.args.p - 2 + i) * c.args.x + c.args.x ≤ length c.args.frame.now
-line c i b = omega (arith, member_in c.args.p c.args.x (c.args.p - 2 + i) (omega (arith, c.requires.2)), c.requires.3, mul_comm c.args.x c.args.p)
+line : (x p n i : ℕ) → 18 ≤ p → n ≡ x * p → i < 2 → (p - 2 + i) * x + x ≤ n
+line x p n i long is b = omega (arith, member_in p x (p - 2 + i) (omega arith), is, mul_comm x p)
 
 pub columns-requires : goal.columns-requires
 columns-requires c =
     (c.requires.0, c.requires.1, omega (arith, c.requires.2), omega (arith, c.requires.2), c.requires.3, c.requires.4)
 
 pub overflow_mul-n : goal.overflow_mul-n
-overflow_mul-n c = omega (arith, line c.before.before.before.before.before.before 0 (omega arith))
+overflow_mul-n c = omega (arith, line c.args.x c.args.p (length c.args.frame.now) 0 c.requires.2 c.requires.3 (omega arith))
 
 pub column-requires : goal.column-requires
 column-requires c =
-    (omega (arith, c.requires.2), omega (arith, line c.before.before.before.before.before.before.before 0 (omega arith)), omega (arith, c.requires.4, mul_comm c.args.x c.args.p))
+    (omega (arith, c.requires.2), omega (arith, line c.args.x c.args.p (length c.args.frame.now) 0 c.requires.2 c.requires.3 (omega arith)), omega (arith, c.requires.4, mul_comm c.args.x c.args.p))
 
 pub overflow_mul-n-2 : goal.overflow_mul-n-2
-overflow_mul-n-2 c = omega (arith, line c.before.before.before.before.before.before.before.before.before.before 1 (omega arith))
+overflow_mul-n-2 c = omega (arith, line c.args.x c.args.p (length c.args.frame.now) 1 c.requires.2 c.requires.3 (omega arith))
 
 pub column-requires-2 : goal.column-requires-2
 column-requires-2 c =
-    (omega (arith, c.requires.2), omega (arith, line c.before.before.before.before.before.before.before.before.before.before.before 1 (omega arith)), omega (arith, c.requires.4, mul_comm c.args.x c.args.p))
+    (omega (arith, c.requires.2), omega (arith, line c.args.x c.args.p (length c.args.frame.now) 1 c.requires.2 c.requires.3 (omega arith)), omega (arith, c.requires.4, mul_comm c.args.x c.args.p))
 
 pub returns : goal.returns
 returns c =

@@ -7,24 +7,20 @@ use Rattle.payload.specs.Inner.Area.{area}
 use Rattle.payload.proofs.Areas.{in_frame, area_no_line, line_of, column_more}
 use Rattle.payload.proofs.plain.column.Goals as goal
 
-inside : (c : goal.In-loop-j)
-    → c.loop-j.j * c.args.x + c.args.r < c.args.x * c.args.p
-inside c = in_frame _ _ c.loop-j.j _ (omega arith) (omega arith)
-
 pub loop-j-init : goal.loop-j-init
 loop-j-init c = (omega arith, drawing_none _ _ _ (area_no_line _ _ 0 _ 1))
 
 pub overflow_mul-out : goal.overflow_mul-out
-overflow_mul-out c = omega (arith, inside c.before)
+overflow_mul-out c = omega (arith, in_frame c.args.x c.args.p c.loop-j.j c.args.r (omega arith) (omega arith))
 
 pub overflow_add-out-in-loop-j : goal.overflow_add-out-in-loop-j
-overflow_add-out-in-loop-j c = omega (arith, inside c.before)
+overflow_add-out-in-loop-j c = omega (arith, in_frame c.args.x c.args.p c.loop-j.j c.args.r (omega arith) (omega arith))
 
 pub overflow_add-out-in-loop-j-2 : goal.overflow_add-out-in-loop-j-2
-overflow_add-out-in-loop-j-2 c = omega (arith, inside c.before)
+overflow_add-out-in-loop-j-2 c = omega (arith, in_frame c.args.x c.args.p c.loop-j.j c.args.r (omega arith) (omega arith))
 
 pub bounds-out-place : goal.bounds-out-place
-bounds-out-place c = omega (arith, inside c.before)
+bounds-out-place c = omega (arith, in_frame c.args.x c.args.p c.loop-j.j c.args.r (omega arith) (omega arith))
 
 pub loop-j-preserved : goal.loop-j-preserved
 loop-j-preserved c =

@@ -7,17 +7,14 @@ use Rattle.payload.specs.Order.{member_byte}
 use Rattle.payload.proofs.Frames.{member_in, member_more}
 use Rattle.payload.proofs.plain.spread.Goals as goal
 
-inside : (c : goal.In-loop-r) → c.loop-r.r * c.args.p + c.args.p ≤ c.args.x * c.args.p
-inside c = member_in _ _ c.loop-r.r (omega arith)
-
 pub loop-r-init : goal.loop-r-init
 loop-r-init c = (omega arith, rw zero-mul (filling_none _ _ _))
 
 pub overflow_mul-r : goal.overflow_mul-r
-overflow_mul-r c = omega (arith, inside c)
+overflow_mul-r c = omega (arith, member_in c.args.x c.args.p c.loop-r.r (omega arith))
 
 pub member-requires : goal.member-requires
-member-requires c = omega (arith, inside c.before)
+member-requires c = omega (arith, member_in c.args.x c.args.p c.loop-r.r (omega arith))
 
 pub loop-r-preserved : goal.loop-r-preserved
 loop-r-preserved c =
