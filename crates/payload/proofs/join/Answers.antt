@@ -1,8 +1,7 @@
 -- Under 0 the frame is the joined one, and under 4 and 9 it stays: one case for each answer.
--- The answer 0 says that both lengths are X P, which the work requires (`whole-fits`).
+-- The answer 0 says that both lengths are X P, which the work requires (`whole_fits`).
 use mathlib.Core.Path.{refl, sym, ◌∙◌}
 use lib.ListN.{length}
-use native.Mathlib.Omega.{arith}
 use Rattle.payload.specs.Laws.Fits.{whole_fits}
 use Rattle.payload.proofs.join.Goals as goal
 

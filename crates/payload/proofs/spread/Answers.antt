@@ -1,8 +1,7 @@
 -- Under 0 the members are those of the frame spread, and under 4 and 9 they stay: one case for each answer.
--- The answer 0 says that both lengths are X P, which the work requires (`whole-fits`).
+-- The answer 0 says that both lengths are X P, which the work requires (`whole_fits`).
 use mathlib.Core.Path.{refl, sym, ◌∙◌}
 use lib.ListN.{length}
-use native.Mathlib.Omega.{arith}
 use Rattle.payload.specs.Laws.Fits.{whole_fits}
 use Rattle.payload.proofs.spread.Goals as goal
 

@@ -1,8 +1,7 @@
 -- Under 0 the member is the one of the frame's rank r, and under 4 and 9 it stays: one case for each answer.
--- The answer 0 says that the frame has X P bytes and the member P, which the work requires (`one-fits`).
+-- The answer 0 says that the frame has X P bytes and the member P, which the work requires (`one_fits`).
 use mathlib.Core.Path.{refl, sym, ◌∙◌}
 use lib.ListN.{length}
-use native.Mathlib.Omega.{arith}
 use Rattle.payload.specs.Laws.Fits.{one_fits}
 use Rattle.payload.proofs.spread_one.Goals as goal
 

@@ -1,5 +1,5 @@
 -- 4 for a size out of range, then 9 unless the frame ends within the output and every member within the store: the definition's cases in its order.
--- Only a right size makes X P small enough to be worked out, and X no more than the starts that are given (`sizes`, `frame-most`).
+-- Only a right size makes X P small enough to be worked out, and X no more than the starts that are given (`sizes`, `frame_most`).
 use mathlib.Core.Path.{sym, ◌∙◌}
 use native.Mathlib.Omega.{arith}
 use Rattle.payload.specs.Laws.Fits.{sizes, frame_most}

@@ -1,8 +1,6 @@
-use Prim.Native.Nat.{◌≤◌, ◌-◌}
 use mathlib.Core.Path.{◌≡◌, refl}
 use native.Mathlib.Omega.{arith}
 use native.Mathlib.Numerals.{add-one}
-use Rattle.payload.specs.Joining.{starts_fit}
 use Rattle.payload.proofs.answer.starts_fit.Goals as goal
 
 pub loop-r-init : goal.loop-r-init

@@ -1,8 +1,6 @@
 -- The invariant: the starts of the ranks below r fit.
 use Prim.Native.Nat.{◌≤◌, ◌-◌}
-use mathlib.Core.Path.{◌≡◌, refl}
-use native.Mathlib.Omega.{arith}
-use native.Mathlib.Numerals.{add-one}
+use mathlib.Core.Path.{◌≡◌}
 use Rattle.payload.specs.Joining.{starts_fit}
 use Rattle.payload.proofs.answer.starts_fit.Given as goal
 

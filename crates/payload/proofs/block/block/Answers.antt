@@ -1,10 +1,9 @@
--- A block is read as h rows of w bytes, turned and laid into the frame: those bytes of the frame are then the definition's (`block-is`).
--- One exit for each of the three sizes; every row lies within the members (`ranked-in`) and every line within the frame (`block_in`).
+-- A block is read as h rows of w bytes, turned and laid into the frame: those bytes of the frame are then the definition's (`block_is`).
+-- One exit for each of the three sizes; every row lies within the members (`ranked_in`) and every line within the frame (`block_in`).
 use mathlib.Core.Path.{◌≡◌}
 use native.Mathlib.Omega.{arith}
 use Rattle.payload.specs.Joining.{ranked_byte}
 use Rattle.payload.proofs.Blocks.{block_in, block_is, ranked_in}
-use borrow.Author.Rules.{rules}
 use Rattle.payload.proofs.block.block.Goals as goal
 
 pub read_ranked-requires : goal.read_ranked-requires

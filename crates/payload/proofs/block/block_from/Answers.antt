@@ -1,10 +1,9 @@
--- A block is read as h rows of 16 bytes, each from its member's start, turned and laid: those bytes of the frame are the definition's (`block-is`).
+-- A block is read as h rows of 16 bytes, each from its member's start, turned and laid: those bytes of the frame are the definition's (`block_is`).
 -- One exit for each of the two sizes.
 use mathlib.Core.Path.{◌≡◌, refl}
 use native.Mathlib.Omega.{arith}
 use Rattle.payload.specs.Joining.{started_byte}
 use Rattle.payload.proofs.Blocks.{block_is}
-use borrow.Author.Rules.{rules}
 use Rattle.payload.proofs.block.block_from.Goals as goal
 
 pub read_started-requires : goal.read_started-requires

@@ -1,10 +1,8 @@
 use mathlib.Core.Path.{◌≡◌, ◌∙◌}
-use Prim.Native.Nat.{◌≤◌, ◌-◌, ◌+◌, min}
+use Prim.Native.Nat.{◌-◌, ◌+◌, min}
 use native.Mathlib.Omega.{arith}
-use Rattle.ground.specs.Drawn.{Drawing, drawing_none}
-use Rattle.payload.specs.Inner.Area.{area}
+use Rattle.ground.specs.Drawn.{drawing_none}
 use Rattle.payload.specs.Joining.{ranked_byte}
-use Rattle.payload.specs.Order.{group_byte}
 use Rattle.payload.proofs.Areas.{area_no_line}
 use Rattle.payload.proofs.Blocks.{block_in, lines_more}
 use Rattle.payload.proofs.block.columns.Goals as goal

@@ -1,14 +1,10 @@
 -- `columns_from` meets its contract: the columns are drawn, sixteen lines at a time (`lines_more`).
 -- The invariant: of the columns the lines below c are drawn.
-use mathlib.Core.Path.{◌≡◌}
 use Prim.Native.Nat.{◌≤◌, ◌-◌, ◌+◌, min}
-use native.Mathlib.Omega.{arith}
-use Rattle.ground.specs.Drawn.{Drawing, drawing_none}
+use Rattle.ground.specs.Drawn.{Drawing}
 use Rattle.payload.specs.Inner.Area.{area}
 use Rattle.payload.specs.Joining.{started_byte}
 use Rattle.payload.specs.Order.{group_byte}
-use Rattle.payload.proofs.Areas.{area_no_line}
-use Rattle.payload.proofs.Blocks.{block_in, lines_more}
 use Rattle.payload.proofs.block.columns_from.Given as goal
 
 abbrev pub invariant-loop-c : goal.invariant-loop-c

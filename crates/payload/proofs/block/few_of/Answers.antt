@@ -1,10 +1,7 @@
 use mathlib.Core.Path.{◌≡◌, refl}
-use Prim.Native.Nat.{◌≤◌, ◌-◌, min}
 use native.Mathlib.Nat.{zero-add}
 use native.Mathlib.Omega.{arith}
-use lib.ListN.{length, get_or}
-use Rattle.ground.specs.Drawn.{Filling, filling_none, filling_more, filling_all}
-use borrow.Author.Rules.{rules}
+use Rattle.ground.specs.Drawn.{filling_none, filling_more, filling_all}
 use Rattle.payload.proofs.block.few_of.Goals as goal
 
 pub loop-r-init : goal.loop-r-init

@@ -1,11 +1,8 @@
 -- The invariant: the first r starts are in place.
-use mathlib.Core.Path.{◌≡◌, refl}
+use mathlib.Core.Path.{◌≡◌}
 use Prim.Native.Nat.{◌≤◌, ◌-◌, min}
-use native.Mathlib.Nat.{zero-add}
-use native.Mathlib.Omega.{arith}
 use lib.ListN.{length, get_or}
-use Rattle.ground.specs.Drawn.{Filling, filling_none, filling_more, filling_all}
-use borrow.Author.Rules.{rules}
+use Rattle.ground.specs.Drawn.{Filling}
 use Rattle.payload.proofs.block.few_of.Given as goal
 
 abbrev pub invariant-loop-r : goal.invariant-loop-r

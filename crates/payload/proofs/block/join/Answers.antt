@@ -1,8 +1,7 @@
 use mathlib.Core.Path.{◌≡◌, ◌∙◌}
-use Prim.Native.Nat.{ℕ, ◌≤◌, ◌-◌, ◌+◌, ◌*◌, min}
+use Prim.Native.Nat.{ℕ, ◌-◌, ◌+◌, ◌*◌, min}
 use native.Mathlib.Omega.{arith}
-use Rattle.ground.specs.Drawn.{Drawing, drawing_none, fill_at_all}
-use Rattle.payload.specs.Inner.Area.{area}
+use Rattle.ground.specs.Drawn.{drawing_none, fill_at_all}
 use Rattle.payload.specs.Joining.{ranked_byte}
 use Rattle.payload.specs.Order.{group_byte}
 use Rattle.payload.proofs.Areas.{area_no_line}

@@ -1,15 +1,10 @@
 -- `join` meets its contract: the frame is drawn, a tile at a time. The last tile may start before c, and draw some lines a second time (`lines_more`).
 -- The invariant: the lines below c are drawn.
-use mathlib.Core.Path.{◌≡◌, ◌∙◌}
-use Prim.Native.Nat.{ℕ, ◌≤◌, ◌-◌, ◌+◌, ◌*◌, min}
-use native.Mathlib.Omega.{arith}
-use Rattle.ground.specs.Drawn.{Drawing, drawing_none, fill_at_all}
+use Prim.Native.Nat.{◌≤◌, ◌-◌, ◌+◌, min}
+use Rattle.ground.specs.Drawn.{Drawing}
 use Rattle.payload.specs.Inner.Area.{area}
 use Rattle.payload.specs.Joining.{ranked_byte}
 use Rattle.payload.specs.Order.{group_byte}
-use Rattle.payload.proofs.Areas.{area_no_line}
-use Rattle.payload.proofs.Blocks.{block_in, lines_more}
-use Rattle.payload.proofs.Frames.{ranks_all}
 use Rattle.payload.proofs.block.join.Given as goal
 
 abbrev pub invariant-loop-c : goal.invariant-loop-c

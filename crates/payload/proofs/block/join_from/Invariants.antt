@@ -1,15 +1,10 @@
--- `join_from` meets its contract: the frame is drawn, h columns at a time (`columns-more`).
+-- `join_from` meets its contract: the frame is drawn, h columns at a time (`columns_more`).
 -- The invariant: the ranks below c are in their columns.
-use mathlib.Core.Path.{◌≡◌}
 use Prim.Native.Nat.{◌≤◌, ◌-◌, ◌+◌, min}
-use native.Mathlib.Omega.{arith}
-use Rattle.ground.specs.Drawn.{Drawing, drawing_none}
+use Rattle.ground.specs.Drawn.{Drawing}
 use Rattle.payload.specs.Inner.Area.{area}
 use Rattle.payload.specs.Joining.{started_byte}
 use Rattle.payload.specs.Order.{group_byte}
-use Rattle.payload.proofs.Areas.{area_no_column}
-use Rattle.payload.proofs.Blocks.{block_in, columns_more}
-use Rattle.payload.proofs.Frames.{ranks_all}
 use Rattle.payload.proofs.block.join_from.Given as goal
 
 abbrev pub invariant-loop-c : goal.invariant-loop-c

@@ -1,5 +1,4 @@
 use Rattle.payload.proofs.Blocks.{block_turned}
-use borrow.Author.Rules.{rules}
 use Rattle.payload.proofs.block.lay_eight.Goals as goal
 
 pub returns : goal.returns

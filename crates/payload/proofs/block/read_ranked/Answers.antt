@@ -1,8 +1,7 @@
 use mathlib.Core.Path.{◌≡◌, ap}
-use Prim.Native.Nat.{ℕ, ◌≤◌, ◌+◌, ◌-◌, ◌*◌}
+use Prim.Native.Nat.{ℕ, ◌+◌, ◌*◌}
 use native.Mathlib.Omega.{arith}
-use lib.ListN.{length, get_or}
-use Rattle.payload.specs.Inner.Block.{Rows}
+use lib.ListN.{get_or}
 use Rattle.payload.specs.Joining.{ranked_byte}
 use Rattle.payload.proofs.Blocks.{row_in_lem, rows_none, row_more}
 use Rattle.payload.proofs.block.read_ranked.Goals as goal

@@ -1,11 +1,7 @@
 -- The invariant: the first l rows are read.
-use mathlib.Core.Path.{◌≡◌, ap}
-use Prim.Native.Nat.{ℕ, ◌≤◌, ◌+◌, ◌-◌, ◌*◌}
-use native.Mathlib.Omega.{arith}
-use lib.ListN.{length, get_or}
+use Prim.Native.Nat.{◌≤◌, ◌-◌}
 use Rattle.payload.specs.Inner.Block.{Rows}
 use Rattle.payload.specs.Joining.{ranked_byte}
-use Rattle.payload.proofs.Blocks.{RowIn, row_in_lem, rows_none, row_more}
 use Rattle.payload.proofs.block.read_ranked.Given as goal
 
 abbrev pub invariant-loop-l : goal.invariant-loop-l

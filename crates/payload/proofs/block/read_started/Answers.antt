@@ -1,8 +1,7 @@
 use mathlib.Core.Path.{◌≡◌, ap}
-use Prim.Native.Nat.{ℕ, ◌≤◌, ◌+◌, ◌-◌}
+use Prim.Native.Nat.{ℕ, ◌+◌}
 use native.Mathlib.Omega.{arith}
 use lib.ListN.{get_or}
-use Rattle.payload.specs.Inner.Block.{Rows}
 use Rattle.payload.specs.Joining.{started_byte}
 use Rattle.payload.proofs.Blocks.{rows_none, row_more}
 use Rattle.payload.proofs.Frames.{member_in}

@@ -1,12 +1,7 @@
 -- The invariant: the first l rows are read.
-use mathlib.Core.Path.{◌≡◌, ap}
-use Prim.Native.Nat.{ℕ, ◌≤◌, ◌+◌, ◌-◌}
-use native.Mathlib.Omega.{arith}
-use lib.ListN.{get_or}
+use Prim.Native.Nat.{◌≤◌, ◌-◌}
 use Rattle.payload.specs.Inner.Block.{Rows}
 use Rattle.payload.specs.Joining.{started_byte}
-use Rattle.payload.proofs.Blocks.{rows_none, row_more}
-use Rattle.payload.proofs.Frames.{member_in}
 use Rattle.payload.proofs.block.read_started.Given as goal
 
 abbrev pub invariant-loop-l : goal.invariant-loop-l

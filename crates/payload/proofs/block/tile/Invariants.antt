@@ -1,14 +1,10 @@
--- `tile` meets its contract: the lines are drawn, h columns at a time. The last h may start before c, and be drawn in part a second time (`columns-more`).
+-- `tile` meets its contract: the lines are drawn, h columns at a time. The last h may start before c, and be drawn in part a second time (`columns_more`).
 -- The invariant: the ranks below c are in their columns.
-use mathlib.Core.Path.{◌≡◌, ◌∙◌}
 use Prim.Native.Nat.{◌≤◌, ◌-◌, ◌+◌, min}
-use native.Mathlib.Omega.{arith}
-use Rattle.ground.specs.Drawn.{Drawing, drawing_none}
+use Rattle.ground.specs.Drawn.{Drawing}
 use Rattle.payload.specs.Inner.Area.{area}
 use Rattle.payload.specs.Joining.{ranked_byte}
 use Rattle.payload.specs.Order.{group_byte}
-use Rattle.payload.proofs.Areas.{area_no_column}
-use Rattle.payload.proofs.Blocks.{block_in, columns_more}
 use Rattle.payload.proofs.block.tile.Given as goal
 
 abbrev pub invariant-loop-c : goal.invariant-loop-c

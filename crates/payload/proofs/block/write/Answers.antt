@@ -1,10 +1,7 @@
 use mathlib.Core.Path.{◌≡◌}
-use Prim.Native.Nat.{◌≤◌, ◌+◌, ◌-◌, ◌*◌}
 use native.Mathlib.Nat.{le_refl}
 use native.Mathlib.Omega.{arith}
-use Rattle.ground.specs.Drawn.{Drawing, drawing_none}
-use Rattle.payload.specs.Inner.Area.{area}
-use Rattle.payload.specs.Inner.Block.{line_byte}
+use Rattle.ground.specs.Drawn.{drawing_none}
 use Rattle.payload.proofs.Areas.{area_no_line}
 use Rattle.payload.proofs.Blocks.{run_in, line_more}
 use Rattle.payload.proofs.Frames.{member_in}

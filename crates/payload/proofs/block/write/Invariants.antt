@@ -1,14 +1,8 @@
 -- The invariant: the first i lines of the block are in their lines of the frame.
-use mathlib.Core.Path.{◌≡◌}
-use Prim.Native.Nat.{◌≤◌, ◌+◌, ◌-◌, ◌*◌}
-use native.Mathlib.Nat.{le_refl}
-use native.Mathlib.Omega.{arith}
-use Rattle.ground.specs.Drawn.{Drawing, drawing_none}
+use Prim.Native.Nat.{◌≤◌, ◌-◌}
+use Rattle.ground.specs.Drawn.{Drawing}
 use Rattle.payload.specs.Inner.Area.{area}
 use Rattle.payload.specs.Inner.Block.{line_byte}
-use Rattle.payload.proofs.Areas.{area_no_line}
-use Rattle.payload.proofs.Blocks.{RunIn, run_in, line_more}
-use Rattle.payload.proofs.Frames.{member_in}
 use Rattle.payload.proofs.block.write.Given as goal
 
 abbrev pub invariant-loop-i : goal.invariant-loop-i

@@ -1,8 +1,6 @@
-use Prim.Native.Nat.{◌≤◌, ◌-◌, ◌+◌}
 use mathlib.Core.Path.{◌≡◌}
 use native.Mathlib.Omega.{arith}
-use lib.ListN.{get_or}
-use Rattle.ground.specs.Drawn.{Filling, filling_none, filling_more}
+use Rattle.ground.specs.Drawn.{filling_none, filling_more}
 use Rattle.payload.proofs.copy.by_bytes.Goals as goal
 
 pub loop-j-init : goal.loop-j-init

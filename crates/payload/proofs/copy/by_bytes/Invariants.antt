@@ -1,9 +1,7 @@
 -- The invariant: the first j bytes are in place.
 use Prim.Native.Nat.{◌≤◌, ◌-◌, ◌+◌}
-use mathlib.Core.Path.{◌≡◌}
-use native.Mathlib.Omega.{arith}
 use lib.ListN.{get_or}
-use Rattle.ground.specs.Drawn.{Filling, filling_none, filling_more}
+use Rattle.ground.specs.Drawn.{Filling}
 use Rattle.payload.proofs.copy.by_bytes.Given as goal
 
 abbrev pub invariant-loop-j : goal.invariant-loop-j

@@ -1,5 +1,4 @@
 use Rattle.payload.proofs.Deals.{dealt_by}
-use borrow.Author.Rules.{rules}
 use Rattle.payload.proofs.deal.dealt.Goals as goal
 
 pub returns : goal.returns

@@ -1,9 +1,6 @@
 use mathlib.Core.Path.{◌≡◌, refl}
-use Prim.Native.Nat.{◌≤◌, ◌-◌}
 use native.Mathlib.Omega.{arith}
-use lib.ListN.{length, length-set}
-use borrow.Author.Rules.{rules}
-use Rattle.payload.specs.Inner.Deal.{Pairs}
+use lib.ListN.{length-set}
 use Rattle.payload.proofs.Deals.{pairs_none, pair_more}
 use Rattle.payload.proofs.deal.pairs.Goals as goal
 

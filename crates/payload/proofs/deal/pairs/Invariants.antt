@@ -1,11 +1,8 @@
 -- The invariant: the first i pairs are put together.
-use mathlib.Core.Path.{◌≡◌, refl}
+use mathlib.Core.Path.{◌≡◌}
 use Prim.Native.Nat.{◌≤◌, ◌-◌}
-use native.Mathlib.Omega.{arith}
-use lib.ListN.{length, length-set}
-use borrow.Author.Rules.{rules}
+use lib.ListN.{length}
 use Rattle.payload.specs.Inner.Deal.{Pairs}
-use Rattle.payload.proofs.Deals.{pairs_none, pair_more}
 use Rattle.payload.proofs.deal.pairs.Given as goal
 
 abbrev pub invariant-loop-i : goal.invariant-loop-i

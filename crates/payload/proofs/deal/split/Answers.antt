@@ -1,8 +1,6 @@
 use mathlib.Core.Path.{◌≡◌, refl}
-use Prim.Native.Nat.{◌≤◌, ◌<◌, ◌-◌}
+use Prim.Native.Nat.{◌<◌}
 use native.Mathlib.Omega.{arith}
-use borrow.Author.Rules.{rules}
-use Rattle.payload.specs.Inner.Deal.{Split}
 use Rattle.payload.proofs.Deals.{split_none, split_more}
 use Rattle.payload.proofs.deal.split.Goals as goal
 

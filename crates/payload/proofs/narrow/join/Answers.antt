@@ -1,15 +1,13 @@
 use mathlib.Core.Path.{◌≡◌, refl, ◌∙◌}
-use Prim.Native.Nat.{ℕ, ◌≤◌, ◌-◌, ◌+◌, ◌*◌, min}
+use Prim.Native.Nat.{ℕ, ◌+◌, ◌*◌, min}
 use native.Mathlib.Omega.{arith}
-use Rattle.ground.specs.Drawn.{Drawing, drawing_none, fill_at_all}
-use Rattle.payload.specs.Inner.Area.{area}
+use Rattle.ground.specs.Drawn.{drawing_none, fill_at_all}
 use Rattle.payload.specs.Joining.{ranked_byte}
 use Rattle.payload.specs.Order.{group_byte}
 use Rattle.payload.proofs.Areas.{area_no_line}
 use Rattle.payload.proofs.Blocks.{block_in, block_is, lines_more, ranked_in}
 use Rattle.payload.proofs.Evens.{even_size}
 use Rattle.payload.proofs.Frames.{ranks_all}
-use borrow.Author.Rules.{rules}
 use Rattle.payload.proofs.narrow.join.Goals as goal
 
 pub loop-c-init : goal.loop-c-init

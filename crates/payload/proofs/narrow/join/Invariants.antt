@@ -1,17 +1,10 @@
 -- `join` meets its contract: the frame is drawn, w lines at a time. The last w may start before c, and draw some lines a second time (`lines_more`).
 -- The invariant: the lines below c are drawn.
-use mathlib.Core.Path.{◌≡◌, refl, ◌∙◌}
-use Prim.Native.Nat.{ℕ, ◌≤◌, ◌-◌, ◌+◌, ◌*◌, min}
-use native.Mathlib.Omega.{arith}
-use Rattle.ground.specs.Drawn.{Drawing, drawing_none, fill_at_all}
+use Prim.Native.Nat.{◌≤◌, ◌-◌, ◌+◌, min}
+use Rattle.ground.specs.Drawn.{Drawing}
 use Rattle.payload.specs.Inner.Area.{area}
 use Rattle.payload.specs.Joining.{ranked_byte}
 use Rattle.payload.specs.Order.{group_byte}
-use Rattle.payload.proofs.Areas.{area_no_line}
-use Rattle.payload.proofs.Blocks.{block_in, block_is, lines_more, ranked_in}
-use Rattle.payload.proofs.Evens.{even_size}
-use Rattle.payload.proofs.Frames.{ranks_all}
-use borrow.Author.Rules.{rules}
 use Rattle.payload.proofs.narrow.join.Given as goal
 
 abbrev pub invariant-loop-c : goal.invariant-loop-c

@@ -1,11 +1,10 @@
--- A block turned is w whole lines of the frame, which lie there as one run of 128 bytes (`lines-run`); a line's bytes are the block's columns
--- (`block-turned`).
+-- A block turned is w whole lines of the frame, which lie there as one run of 128 bytes (`lines_run`); a line's bytes are the block's columns
+-- (`block_turned`).
 use mathlib.Core.Path.{sym}
 use Prim.Native.Nat.{◌<◌}
 use native.Mathlib.Omega.{arith}
 use Rattle.payload.proofs.Blocks.{block_turned}
 use Rattle.payload.proofs.Evens.{even_size, lines_run}
-use borrow.Author.Rules.{rules}
 use Rattle.payload.proofs.narrow.lay.Goals as goal
 
 pub by_bytes-requires : goal.by_bytes-requires

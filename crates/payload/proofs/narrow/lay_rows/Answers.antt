@@ -1,11 +1,10 @@
--- A block turned is a run for each member; written, each member's bytes are its column of the lines read (`block-turned`).
--- Two, four and eight members go apart with the sizes 64, 32 and 16, the only ones allowed (`even-two`, `even-four`, `even-eight`).
+-- A block turned is a run for each member; written, each member's bytes are its column of the lines read (`block_turned`).
+-- Two, four and eight members go apart with the sizes 64, 32 and 16, the only ones allowed (`even_two`, `even_four`, `even_eight`).
 use mathlib.Core.Path.{ap, ◌∙◌}
 use Prim.Native.Nat.{ℕ, ◌*◌}
 use native.Mathlib.Omega.{arith}
 use Rattle.payload.proofs.Blocks.{block_turned}
 use Rattle.payload.proofs.Evens.{even_two, even_four, even_eight, rows_as}
-use borrow.Author.Rules.{rules}
 use Rattle.payload.proofs.narrow.lay_rows.Goals as goal
 
 pub write-requires : goal.write-requires

@@ -1,9 +1,8 @@
--- One shuffle turns two rows of 64, two turn four of 32, three turn eight of 16: no other sizes can be given (`even-two`, `even-four`, `even-eight`).
+-- One shuffle turns two rows of 64, two turn four of 32, three turn eight of 16: no other sizes can be given (`even_two`, `even_four`, `even_eight`).
 use mathlib.Core.Path.{sym, ap₂, ◌∙◌}
 use Prim.Native.Nat.{ℕ}
 use Rattle.payload.specs.Inner.Block.{turned}
 use Rattle.payload.proofs.Evens.{even_two, even_four, even_eight}
-use borrow.Author.Rules.{rules}
 use Rattle.payload.proofs.narrow.lines_of.Goals as goal
 
 pub returns-then-x-eq2 : goal.returns-then-x-eq2

@@ -1,17 +1,15 @@
 use mathlib.Core.Path.{◌≡◌, refl, sym, ◌∙◌}
-use Prim.Native.Nat.{ℕ, ◌≤◌, ◌-◌, ◌+◌, ◌*◌, min}
+use Prim.Native.Nat.{ℕ, ◌+◌, ◌*◌, min}
 use native.Mathlib.Nat.{mul_comm}
 use native.Mathlib.Omega.{arith}
 use lib.ListN.{replicate}
-use Rattle.ground.specs.Drawn.{Drawing, drawing_none, fill_at_all}
-use Rattle.payload.specs.Inner.Area.{area}
+use Rattle.ground.specs.Drawn.{drawing_none, fill_at_all}
 use Rattle.payload.specs.Joining.{ranked_byte}
 use Rattle.payload.specs.Order.{group_byte}
 use Rattle.payload.proofs.Areas.{area_no_column}
 use Rattle.payload.proofs.Blocks.{block_in, block_is, columns_more}
 use Rattle.payload.proofs.Evens.{even_size, run_rows}
 use Rattle.payload.proofs.Frames.{ranks_all, spread_by_lines}
-use borrow.Author.Rules.{rules}
 use Rattle.payload.proofs.narrow.spread.Goals as goal
 
 pub loop-c-init : goal.loop-c-init

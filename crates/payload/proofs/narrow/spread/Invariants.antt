@@ -1,19 +1,10 @@
--- `spread` meets its contract: the members are drawn, h bytes of all at a time, as lines of the frame are joined (`columns-more`, `spread-by-lines`).
+-- `spread` meets its contract: the members are drawn, h bytes of all at a time, as lines of the frame are joined (`columns_more`, `spread_by_lines`).
 -- The invariant: of every member the bytes below c are drawn.
-use mathlib.Core.Path.{◌≡◌, refl, sym, ◌∙◌}
-use Prim.Native.Nat.{ℕ, ◌≤◌, ◌-◌, ◌+◌, ◌*◌, min}
-use native.Mathlib.Nat.{mul_comm}
-use native.Mathlib.Omega.{arith}
-use lib.ListN.{replicate}
-use Rattle.ground.specs.Drawn.{Drawing, drawing_none, fill_at_all}
+use Prim.Native.Nat.{◌≤◌, ◌-◌, ◌+◌, min}
+use Rattle.ground.specs.Drawn.{Drawing}
 use Rattle.payload.specs.Inner.Area.{area}
 use Rattle.payload.specs.Joining.{ranked_byte}
 use Rattle.payload.specs.Order.{group_byte}
-use Rattle.payload.proofs.Areas.{area_no_column}
-use Rattle.payload.proofs.Blocks.{block_in, block_is, columns_more}
-use Rattle.payload.proofs.Evens.{even_size, run_rows}
-use Rattle.payload.proofs.Frames.{ranks_all, spread_by_lines}
-use borrow.Author.Rules.{rules}
 use Rattle.payload.proofs.narrow.spread.Given as goal
 
 abbrev pub invariant-loop-c : goal.invariant-loop-c

@@ -1,14 +1,11 @@
 use mathlib.Core.Path.{◌≡◌, ◌∙◌}
-use Prim.Native.Nat.{ℕ, ◌≤◌, ◌-◌, ◌+◌, min}
+use Prim.Native.Nat.{ℕ, ◌+◌, min}
 use native.Mathlib.Nat.{mul_comm}
 use native.Mathlib.Omega.{arith}
-use Rattle.ground.specs.Drawn.{Drawing, drawing_none}
-use Rattle.payload.specs.Inner.Area.{area}
+use Rattle.ground.specs.Drawn.{drawing_none}
 use Rattle.payload.specs.Joining.{ranked_byte}
-use Rattle.payload.specs.Order.{group_byte}
 use Rattle.payload.proofs.Areas.{area_no_column}
 use Rattle.payload.proofs.Blocks.{block_in, some_is, columns_more}
-use borrow.Author.Rules.{rules}
 use Rattle.payload.proofs.over.columns.Goals as goal
 
 pub loop-c-init : goal.loop-c-init

@@ -1,16 +1,10 @@
--- `columns` meets its contract: sixteen bytes of all members at a time, as lines of the frame are joined (`columns-more`).
+-- `columns` meets its contract: sixteen bytes of all members at a time, as lines of the frame are joined (`columns_more`).
 -- The invariant: of every member the bytes below c are drawn.
-use mathlib.Core.Path.{◌≡◌, ◌∙◌}
-use Prim.Native.Nat.{ℕ, ◌≤◌, ◌-◌, ◌+◌, min}
-use native.Mathlib.Nat.{mul_comm}
-use native.Mathlib.Omega.{arith}
-use Rattle.ground.specs.Drawn.{Drawing, drawing_none}
+use Prim.Native.Nat.{◌≤◌, ◌-◌, ◌+◌, min}
+use Rattle.ground.specs.Drawn.{Drawing}
 use Rattle.payload.specs.Inner.Area.{area}
 use Rattle.payload.specs.Joining.{ranked_byte}
 use Rattle.payload.specs.Order.{group_byte}
-use Rattle.payload.proofs.Areas.{area_no_column}
-use Rattle.payload.proofs.Blocks.{block_in, some_is, columns_more}
-use borrow.Author.Rules.{rules}
 use Rattle.payload.proofs.over.columns.Given as goal
 
 abbrev pub invariant-loop-c : goal.invariant-loop-c

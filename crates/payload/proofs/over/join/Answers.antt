@@ -1,4 +1,4 @@
--- `join` meets its contract: members that lie one after the other start at multiples of p (`joined-started`).
+-- `join` meets its contract: members that lie one after the other start at multiples of p (`joined_started`).
 use mathlib.Core.Path.{◌≡◌}
 use Prim.Native.Nat.{ℕ, ◌<◌, ◌≤◌, ◌*◌}
 use native.Mathlib.Nat.{mul-le-mul_right}
@@ -6,7 +6,6 @@ use native.Mathlib.Omega.{arith}
 use lib.ListN.{length}
 use Rattle.payload.proofs.Frames.{member_in}
 use Rattle.payload.proofs.Fronts.{starts_at, joined_started}
-use borrow.Author.Rules.{rules}
 use Rattle.payload.proofs.over.join.Goals as goal
 
 three : (x p n : ℕ) → 3 ≤ x → n ≡ x * p → 3 * p ≤ n

@@ -1,12 +1,10 @@
--- `join_from` meets its contract: a front of all lines but two, and those two behind it (`over-all`).
+-- `join_from` meets its contract: a front of all lines but two, and those two behind it (`over_all`).
 use Prim.Native.Nat.{ℕ, ◌<◌, ◌≤◌, ◌-◌}
 use native.Mathlib.Omega.{arith}
-use lib.ListN.{length}
 use Rattle.payload.specs.Joining.{started_byte}
 use Rattle.payload.specs.Laws.Shifts.{length_rest, store_from}
 use Rattle.payload.proofs.Blocks.{BlockIn, block_in}
 use Rattle.payload.proofs.Fronts.{over_all, started_rest}
-use borrow.Author.Rules.{rules}
 use Rattle.payload.proofs.over.join_from.Goals as goal
 
 last : (x p : ℕ) → 3 ≤ x → 34 ≤ p → BlockIn x p 0 (p - 2) x 2

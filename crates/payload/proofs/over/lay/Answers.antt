@@ -1,7 +1,6 @@
 use Prim.Native.Nat.{◌<◌}
 use native.Mathlib.Omega.{arith}
 use Rattle.payload.proofs.Fronts.{over_turned}
-use borrow.Author.Rules.{rules}
 use Rattle.payload.proofs.over.lay.Goals as goal
 
 pub shape_of-out : goal.shape_of-out

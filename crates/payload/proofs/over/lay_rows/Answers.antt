@@ -1,5 +1,4 @@
 use Rattle.payload.proofs.Blocks.{some_turned}
-use borrow.Author.Rules.{rules}
 use Rattle.payload.proofs.over.lay_rows.Goals as goal
 
 pub returns : goal.returns

@@ -3,13 +3,10 @@ use Prim.Native.Nat.{ℕ, ◌≤◌, ◌<◌, ◌-◌, ◌+◌, ◌*◌, min}
 use native.Mathlib.Nat.{mul-le-mul_right}
 use native.Mathlib.Omega.{arith}
 use lib.ListN.{length}
-use Rattle.payload.specs.Inner.Front.{Front}
 use Rattle.payload.specs.Joining.{started_byte}
-use Rattle.payload.specs.Order.{group_byte}
 use Rattle.payload.proofs.Blocks.{block_in}
 use Rattle.payload.proofs.Fronts.{front_none, over_lines}
 use Rattle.payload.proofs.Starts.{own_count, own_in_lem, own_rows_lem}
-use borrow.Author.Rules.{rules}
 use Rattle.payload.proofs.over.lines.Goals as goal
 
 -- eight bytes of the sixteenth line end within the two lines behind it

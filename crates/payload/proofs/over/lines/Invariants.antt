@@ -1,17 +1,9 @@
--- `lines` meets its contract: sixteen lines at a time, from where the front may be shorter than it is (`over-lines`).
+-- `lines` meets its contract: sixteen lines at a time, from where the front may be shorter than it is (`over_lines`).
 -- The invariant: a front of the lines below c.
-use mathlib.Core.Path.{◌≡◌}
-use Prim.Native.Nat.{ℕ, ◌≤◌, ◌<◌, ◌-◌, ◌+◌, ◌*◌, min}
-use native.Mathlib.Nat.{mul-le-mul_right}
-use native.Mathlib.Omega.{arith}
-use lib.ListN.{length}
+use Prim.Native.Nat.{◌≤◌, ◌-◌, ◌+◌, ◌*◌, min}
 use Rattle.payload.specs.Inner.Front.{Front}
 use Rattle.payload.specs.Joining.{started_byte}
 use Rattle.payload.specs.Order.{group_byte}
-use Rattle.payload.proofs.Blocks.{block_in}
-use Rattle.payload.proofs.Fronts.{front_none, over_lines}
-use Rattle.payload.proofs.Starts.{own_count, own_in_lem, own_rows_lem}
-use borrow.Author.Rules.{rules}
 use Rattle.payload.proofs.over.lines.Given as goal
 
 abbrev pub invariant-loop-c : goal.invariant-loop-c

@@ -1,12 +1,8 @@
 -- The invariant: the first l lines are read, and the next one begins where the place has run to.
-use mathlib.Core.Path.{◌≡◌, ap}
-use Prim.Native.Nat.{ℕ, ◌≤◌, ◌+◌, ◌-◌, ◌*◌, ◌%◌}
-use native.Mathlib.Nat.{mul-le-mul_right}
-use native.Mathlib.Omega.{arith}
-use lib.ListN.{length, get_or}
+use mathlib.Core.Path.{◌≡◌}
+use Prim.Native.Nat.{◌≤◌, ◌+◌, ◌-◌, ◌*◌, ◌%◌}
 use Rattle.payload.specs.Inner.Block.{Rows}
 use Rattle.payload.specs.Joining.{ranked_byte}
-use Rattle.payload.proofs.Blocks.{rows_none, row_more}
 use Rattle.payload.proofs.over.read.Given as goal
 
 abbrev pub invariant-loop-l : goal.invariant-loop-l

@@ -1,4 +1,4 @@
--- `spread` meets its contract: the frame's lines are joined, two of them by themselves (`rank-more`, `spread-by-lines`).
+-- `spread` meets its contract: the frame's lines are joined, two of them by themselves (`rank_more`, `spread_by_lines`).
 use mathlib.Core.Path.{◌≡◌, refl, ◌∙◌}
 use Prim.Native.Nat.{ℕ, ◌+◌, ◌-◌, ◌*◌, ◌≤◌, ◌<◌}
 use native.Mathlib.Nat.{mul_comm}
@@ -9,7 +9,6 @@ use Rattle.payload.specs.Inner.Area.{area}
 use Rattle.payload.specs.Joining.{ranked_byte}
 use Rattle.payload.specs.Order.{group_byte}
 use Rattle.payload.proofs.Frames.{member_in, rank_more, ranks_all, spread_by_lines}
-use borrow.Author.Rules.{rules}
 use Rattle.payload.proofs.over.spread.Goals as goal
 
 -- one of the last two lines

@@ -1,11 +1,8 @@
 use mathlib.Core.Path.{◌≡◌}
-use Prim.Native.Nat.{ℕ, ◌≤◌, ◌-◌, ◌+◌, ◌*◌, min}
+use Prim.Native.Nat.{ℕ, ◌+◌, ◌*◌, min}
 use native.Mathlib.Omega.{arith}
-use Rattle.payload.specs.Inner.Front.{Front}
 use Rattle.payload.specs.Joining.{started_byte}
-use Rattle.payload.specs.Order.{group_byte}
 use Rattle.payload.proofs.Fronts.{front_none, over_three}
-use borrow.Author.Rules.{rules}
 use Rattle.payload.proofs.over.three.Goals as goal
 
 pub loop-c-init : goal.loop-c-init

@@ -1,13 +1,9 @@
--- `three` meets its contract: 32 lines at a time, as sixteen lines of six bytes (`over-three`).
+-- `three` meets its contract: 32 lines at a time, as sixteen lines of six bytes (`over_three`).
 -- The invariant: a front of the lines below c.
-use mathlib.Core.Path.{◌≡◌}
-use Prim.Native.Nat.{ℕ, ◌≤◌, ◌-◌, ◌+◌, ◌*◌, min}
-use native.Mathlib.Omega.{arith}
+use Prim.Native.Nat.{◌≤◌, ◌-◌, ◌+◌, ◌*◌, min}
 use Rattle.payload.specs.Inner.Front.{Front}
 use Rattle.payload.specs.Joining.{started_byte}
 use Rattle.payload.specs.Order.{group_byte}
-use Rattle.payload.proofs.Fronts.{front_none, over_three}
-use borrow.Author.Rules.{rules}
 use Rattle.payload.proofs.over.three.Given as goal
 
 abbrev pub invariant-loop-c : goal.invariant-loop-c

@@ -1,11 +1,8 @@
 -- The invariant: the first l lines are right, and the next one begins where the place has run to.
 use mathlib.Core.Path.{◌≡◌}
 use Prim.Native.Nat.{◌≤◌, ◌+◌, ◌-◌, ◌*◌, ◌/◌, ◌%◌}
-use native.Mathlib.Nat.{mul-le-mul_right}
-use native.Mathlib.Omega.{arith}
 use lib.ListN.{get_or}
 use Rattle.payload.specs.Inner.Front.{Front}
-use Rattle.payload.proofs.Fronts.{front_none, over_more}
 use Rattle.payload.proofs.over.write.Given as goal
 
 abbrev pub invariant-loop-l : goal.invariant-loop-l

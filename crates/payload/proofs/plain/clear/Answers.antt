@@ -1,9 +1,8 @@
-use Prim.Native.Nat.{◌≤◌, ◌-◌}
 use mathlib.Core.Path.{◌≡◌, refl}
 use native.Mathlib.Nat.{zero-add}
 use native.Mathlib.Omega.{arith}
 use lib.ListN.{length}
-use Rattle.ground.specs.Drawn.{Filling, filling_none, filling_more, filling_all}
+use Rattle.ground.specs.Drawn.{filling_none, filling_more, filling_all}
 use Rattle.payload.proofs.plain.clear.Goals as goal
 
 pub loop-j-init : goal.loop-j-init

@@ -1,10 +1,7 @@
 -- The invariant: the first j bytes are zero.
 use Prim.Native.Nat.{◌≤◌, ◌-◌}
-use mathlib.Core.Path.{◌≡◌, refl}
-use native.Mathlib.Nat.{zero-add}
-use native.Mathlib.Omega.{arith}
 use lib.ListN.{length}
-use Rattle.ground.specs.Drawn.{Filling, filling_none, filling_more, filling_all}
+use Rattle.ground.specs.Drawn.{Filling}
 use Rattle.payload.proofs.plain.clear.Given as goal
 
 abbrev pub invariant-loop-j : goal.invariant-loop-j

@@ -1,8 +1,7 @@
-use Prim.Native.Nat.{◌≤◌, ◌<◌, ◌-◌, ◌+◌, ◌*◌, ◌/◌}
+use Prim.Native.Nat.{◌<◌, ◌+◌}
 use mathlib.Core.Path.{◌≡◌}
 use native.Mathlib.Omega.{arith}
-use lib.ListN.{get_or}
-use Rattle.ground.specs.Drawn.{Drawing, drawing_none, drawing_put}
+use Rattle.ground.specs.Drawn.{drawing_none, drawing_put}
 use Rattle.payload.specs.Inner.Area.{area}
 use Rattle.payload.proofs.Areas.{in_frame, area_no_line, line_of, column_more}
 use Rattle.payload.proofs.plain.column.Goals as goal

@@ -1,11 +1,8 @@
 -- The invariant: the first j bytes are in their places.
-use Prim.Native.Nat.{◌≤◌, ◌<◌, ◌-◌, ◌+◌, ◌*◌, ◌/◌}
-use mathlib.Core.Path.{◌≡◌}
-use native.Mathlib.Omega.{arith}
+use Prim.Native.Nat.{◌≤◌, ◌-◌, ◌+◌, ◌/◌}
 use lib.ListN.{get_or}
-use Rattle.ground.specs.Drawn.{Drawing, drawing_none, drawing_put}
+use Rattle.ground.specs.Drawn.{Drawing}
 use Rattle.payload.specs.Inner.Area.{area}
-use Rattle.payload.proofs.Areas.{in_frame, area_no_line, line_of, column_more}
 use Rattle.payload.proofs.plain.column.Given as goal
 
 abbrev pub invariant-loop-j : goal.invariant-loop-j

@@ -1,9 +1,6 @@
-use Prim.Native.Nat.{◌≤◌, ◌-◌}
 use mathlib.Core.Path.{◌≡◌, refl}
 use native.Mathlib.Omega.{arith}
-use Rattle.ground.specs.Drawn.{Drawing, drawing_none}
-use Rattle.payload.specs.Inner.Area.{area}
-use Rattle.payload.specs.Order.{group_byte}
+use Rattle.ground.specs.Drawn.{drawing_none}
 use Rattle.payload.specs.Joining.{started_byte}
 use Rattle.payload.proofs.Areas.{area_no_column}
 use Rattle.payload.proofs.Frames.{rank_more, ranks_all}

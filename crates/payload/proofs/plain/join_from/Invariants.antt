@@ -1,14 +1,10 @@
--- `join_from` meets its contract: the frame is drawn, a member at a time (`rank-more`).
+-- `join_from` meets its contract: the frame is drawn, a member at a time (`rank_more`).
 -- The invariant: the members of the ranks below r are in their columns.
 use Prim.Native.Nat.{◌≤◌, ◌-◌}
-use mathlib.Core.Path.{◌≡◌, refl}
-use native.Mathlib.Omega.{arith}
-use Rattle.ground.specs.Drawn.{Drawing, drawing_none}
+use Rattle.ground.specs.Drawn.{Drawing}
 use Rattle.payload.specs.Inner.Area.{area}
 use Rattle.payload.specs.Order.{group_byte}
 use Rattle.payload.specs.Joining.{started_byte}
-use Rattle.payload.proofs.Areas.{area_no_column}
-use Rattle.payload.proofs.Frames.{rank_more, ranks_all}
 use Rattle.payload.proofs.plain.join_from.Given as goal
 
 abbrev pub invariant-loop-r : goal.invariant-loop-r

@@ -1,9 +1,7 @@
-use Prim.Native.Nat.{◌≤◌, ◌-◌, ◌+◌, ◌*◌, ◌/◌, ◌%◌}
 use mathlib.Core.Path.{◌≡◌}
 use native.Mathlib.Nat.{zero-mul}
 use native.Mathlib.Omega.{arith}
-use Rattle.ground.specs.Drawn.{Filling, filling_none, filling_all}
-use Rattle.payload.specs.Order.{member_byte}
+use Rattle.ground.specs.Drawn.{filling_none, filling_all}
 use Rattle.payload.proofs.Frames.{member_in, member_more}
 use Rattle.payload.proofs.plain.spread.Goals as goal
 

@@ -1,12 +1,8 @@
--- `spread` meets its contract: the members are filled, one behind the other (`member-more`).
+-- `spread` meets its contract: the members are filled, one behind the other (`member_more`).
 -- The invariant: the members of the ranks below r are in place.
-use Prim.Native.Nat.{◌≤◌, ◌-◌, ◌+◌, ◌*◌, ◌/◌, ◌%◌}
-use mathlib.Core.Path.{◌≡◌}
-use native.Mathlib.Nat.{zero-mul}
-use native.Mathlib.Omega.{arith}
-use Rattle.ground.specs.Drawn.{Filling, filling_none, filling_all}
+use Prim.Native.Nat.{◌≤◌, ◌-◌, ◌*◌, ◌/◌, ◌%◌}
+use Rattle.ground.specs.Drawn.{Filling}
 use Rattle.payload.specs.Order.{member_byte}
-use Rattle.payload.proofs.Frames.{member_in, member_more}
 use Rattle.payload.proofs.plain.spread.Given as goal
 
 abbrev pub invariant-loop-r : goal.invariant-loop-r

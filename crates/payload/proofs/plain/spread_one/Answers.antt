@@ -1,5 +1,4 @@
 use lib.ListN.{length}
-use native.Mathlib.Omega.{arith}
 use Rattle.payload.proofs.Frames.{one_ranked, one_rankless}
 use Rattle.payload.proofs.plain.spread_one.Goals as goal
 

@@ -1,5 +1,4 @@
 use Rattle.payload.proofs.Deals.{dealt_all}
-use native.Mathlib.Omega.{arith}
 use Rattle.payload.proofs.shuffle.most_rows.Goals as goal
 
 pub returns : goal.returns

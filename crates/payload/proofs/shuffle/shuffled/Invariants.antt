@@ -1,11 +1,8 @@
 -- The invariant: the first 2 i bytes are in place.
-use mathlib.Core.Path.{◌≡◌, refl}
+use mathlib.Core.Path.{◌≡◌}
 use Prim.Native.Nat.{◌≤◌, ◌+◌, ◌-◌, ◌*◌, ◌/◌, ◌%◌}
-use native.Mathlib.Omega.{arith}
 use lib.ListN.{length, get_or}
-use borrow.Author.Rules.{rules}
-use Rattle.ground.specs.Drawn.{Filling, filling_none, filling_all}
-use Rattle.payload.proofs.Shuffles.{two_more}
+use Rattle.ground.specs.Drawn.{Filling}
 use Rattle.payload.proofs.shuffle.shuffled.Given as goal
 
 abbrev pub invariant-loop-i : goal.invariant-loop-i

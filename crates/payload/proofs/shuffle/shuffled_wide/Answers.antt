@@ -1,9 +1,6 @@
 use mathlib.Core.Path.{◌≡◌, refl}
-use Prim.Native.Nat.{◌≤◌, ◌+◌, ◌-◌, ◌*◌, ◌/◌, ◌%◌}
 use native.Mathlib.Omega.{arith}
-use lib.ListN.{length, get_or}
-use borrow.Author.Rules.{rules}
-use Rattle.ground.specs.Drawn.{Filling, filling_none, filling_all}
+use Rattle.ground.specs.Drawn.{filling_none, filling_all}
 use Rattle.payload.proofs.Shuffles.{two_more}
 use Rattle.payload.proofs.shuffle.shuffled_wide.Goals as goal
 

@@ -1,7 +1,6 @@
 use mathlib.Core.Path.{ap, ◌∙◌}
 use Rattle.payload.specs.Inner.Block.{turned}
 use Rattle.payload.proofs.Shuffles.{sixteen_wide}
-use borrow.Author.Rules.{rules}
 use Rattle.payload.proofs.shuffle.sixteen_wide.Goals as goal
 
 pub returns : goal.returns

@@ -1,10 +1,8 @@
 use mathlib.Core.Path.{◌≡◌, refl}
-use Prim.Native.Nat.{◌≤◌, ◌-◌, ◌*◌}
+use Prim.Native.Nat.{◌≤◌}
 use native.Mathlib.Nat.{mul-le-mul, zero-add}
 use native.Mathlib.Omega.{arith}
-use lib.ListN.{length}
-use Rattle.ground.specs.Drawn.{Filling, filling_none, filling_more, filling_all}
-use borrow.Author.Rules.{rules}
+use Rattle.ground.specs.Drawn.{filling_none, filling_more, filling_all}
 use Rattle.payload.proofs.work.all_starts.Goals as goal
 
 pub loop-r-init : goal.loop-r-init

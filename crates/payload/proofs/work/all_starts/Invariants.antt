@@ -1,11 +1,8 @@
 -- The invariant: the first r starts are in place.
-use mathlib.Core.Path.{◌≡◌, refl}
+use mathlib.Core.Path.{◌≡◌}
 use Prim.Native.Nat.{◌≤◌, ◌-◌, ◌*◌}
-use native.Mathlib.Nat.{mul-le-mul, zero-add}
-use native.Mathlib.Omega.{arith}
 use lib.ListN.{length}
-use Rattle.ground.specs.Drawn.{Filling, filling_none, filling_more, filling_all}
-use borrow.Author.Rules.{rules}
+use Rattle.ground.specs.Drawn.{Filling}
 use Rattle.payload.proofs.work.all_starts.Given as goal
 
 abbrev pub invariant-loop-r : goal.invariant-loop-r

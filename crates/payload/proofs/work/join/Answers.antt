@@ -7,7 +7,6 @@ use Rattle.payload.proofs.Copies.{one_times, one_joined}
 use Rattle.payload.proofs.Evens.{even_fit, joined_as, times_as}
 use Rattle.payload.proofs.Frames.{blocks_fit, overs_fit}
 use Rattle.payload.proofs.Starts.{starts_in, started_ranked}
-use borrow.Author.Rules.{rules}
 use Rattle.payload.proofs.work.join.Goals as goal
 
 pub run-requires : goal.run-requires

@@ -7,7 +7,6 @@ use Rattle.payload.specs.Joining.{started_byte}
 use Rattle.payload.proofs.Copies.{one_times, one_from}
 use Rattle.payload.proofs.Evens.{even_fit, from_as, times_as}
 use Rattle.payload.proofs.Frames.{blocks_fit, overs_fit}
-use borrow.Author.Rules.{rules}
 use Rattle.payload.proofs.work.join_from.Goals as goal
 
 pub run-requires : goal.run-requires

@@ -1,4 +1,4 @@
--- `spread` meets its contract in each of its ways: a copy of one member, blocks, plain loops. By blocks the P lines of X bytes are joined (`spread-by-lines`).
+-- `spread` meets its contract in each of its ways: a copy of one member, blocks, plain loops. By blocks the P lines of X bytes are joined (`spread_by_lines`).
 use mathlib.Core.Path.{refl, ◌∙◌}
 use mathlib.Core.Logic.{inl, inr}
 use native.Mathlib.Nat.{mul_comm}
@@ -6,7 +6,6 @@ use native.Mathlib.Omega.{arith}
 use Rattle.payload.proofs.Copies.{one_times, one_spread}
 use Rattle.payload.proofs.Evens.{even_fit, spread_as, times_as}
 use Rattle.payload.proofs.Frames.{blocks_fit, overs_fit, spread_by_lines}
-use borrow.Author.Rules.{rules}
 use Rattle.payload.proofs.work.spread.Goals as goal
 
 pub run-requires : goal.run-requires
