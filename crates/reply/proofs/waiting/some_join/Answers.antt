@@ -1,0 +1,16 @@
+use mathlib.Core.Path.{◌≡◌, refl}
+use native.Mathlib.Numerals.{add-one}
+use native.Mathlib.Omega.{arith}
+use Rattle.reply.specs.Waiting.{some_join}
+use Rattle.reply.proofs.waiting.some_join.Goals as goal
+
+pub loop-i-init : goal.loop-i-init
+unfolding some_join
+loop-i-init c = (omega arith, omega arith, refl)
+
+pub loop-i-preserved : goal.loop-i-preserved
+unfolding some_join
+loop-i-preserved c = (c.loop-i.invariant.0, omega arith, rw (c.loop-i.invariant.2, c.joins_kept-joining.ensures, add-one))
+
+pub returns : goal.returns
+returns c = let e : c.loop-i.i ≡ c.args.n = omega arith in rw e at c.loop-i.invariant.2
