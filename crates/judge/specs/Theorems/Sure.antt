@@ -6,7 +6,7 @@ use Rattle.std.proofs.Math.Bool.{and-false}
 use Rattle.std.proofs.lemmas.Bool.{eqb-false, not-false, not-true}
 use Rattle.ground.specs.Counting.Words.{some}
 use Rattle.ground.specs.Counting.Laws.Tests.{every_all, every_at, none_at, some_at, some_none, some_one}
-use Rattle.ground.specs.Finite.{below, below_at, same_bit}
+use Rattle.ground.specs.Finite.{below_at, same_bit}
 use Rattle.ground.specs.Truth.{and-true, and_left, and_right, neither, fails, same_test, eq_or_ne}
 use Rattle.packet.specs.Kinds.{fixed_kind}
 use Rattle.packet.specs.Words.{DNU, EOS, NORM}
