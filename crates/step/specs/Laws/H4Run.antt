@@ -1,5 +1,5 @@
 -- H4's step rule on frames as sent: a port is in step exactly from the frame at which two multiframes have come since the first with MFI1 0, and stays so with the tag of its position.
--- The idea: the run after the frame at position x is written down outright (`h4RunAt`), and one frame more leads from it to the next (`run-goes`).
+-- The idea: the run after the frame at position x is written down outright (`h4_run_at`), and one frame more leads from it to the next (`run_goes`).
 use Rattle.std.specs.Prelude.{◌≡◌, refl, ◌≢◌, Bool, true, false, cond, ℕ, ◌+◌, ◌-◌, ◌*◌, ◌%◌, ◌≤◌, ◌<◌, min, eqb}
 use Rattle.std.proofs.Common.{◌∙◌, ap, ⊎_elim, arith, eq-eqb, ne_eqb, lt-ltb, le-ltb, le-leb}
 use Rattle.std.proofs.lemmas.Bool.{lt-leb}

@@ -1,4 +1,4 @@
--- VC-12's step rule on frames as sent: the run after each, written down outright (`vc12RunAt`), and one frame more leads from it to the next.
+-- VC-12's step rule on frames as sent: the run after each, written down outright (`vc12_run_at`), and one frame more leads from it to the next.
 use Rattle.std.specs.Prelude.{◌≡◌, ◌⊎◌, ◌≢◌, Bool, true, cond, ◌&&◌, ◌||◌, eqb, ltb}
 use Rattle.std.proofs.Math.Path.{refl, ap}
 use Rattle.std.proofs.Common.{◌∙◌, sym}

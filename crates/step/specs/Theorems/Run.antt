@@ -1,5 +1,5 @@
 -- The step rule on frames as sent, over the kind of packet: a port is in step exactly from the frame at which two whole counts have come since the first frame of one, and stays so with the tag of its position.
--- The run after the frame at position x is written down outright (`run_at`), and one frame more leads from it to the next (`run-goes`): H4's in H4Run, VC-12's in StartsRun.
+-- The run after the frame at position x is written down outright (`run_at`), and one frame more leads from it to the next (`run_goes`): H4's in H4Run, VC-12's in StartsRun.
 use Rattle.std.specs.Prelude.{◌≡◌, refl, ◌≢◌, Bool, true, false, ℕ, ◌+◌, ◌-◌, ◌*◌, ◌/◌, ◌%◌, ◌≤◌, ◌<◌, min, eqb}
 use Rattle.std.proofs.Common.{◌∙◌, sym, ap, ⊎_elim, arith, eqb-true, le-leb, le-ltb, lt-ltb, ne_eqb}
 use Rattle.std.proofs.lemmas.Bool.{lt-leb}
