@@ -1,6 +1,5 @@
 -- Runs of a card's C calls, by the calls of the card's own that they are.
-use Rattle.std.specs.Prelude.{Bool, true, List, [], ◌∷◌, ℕ}
-use Rattle.ground.specs.Plain.{if◌then◌else◌}
+use Rattle.std.specs.Prelude.{Bool, true, List, [], ◌∷◌, ℕ, if◌then◌else◌}
 use Rattle.ground.specs.Types.{Bytes}
 use Rattle.cards.specs.Views.{Asked, Made}
 use Rattle.cards.specs.Views.Asked.{Do, Packet, Payload, Board, Outgoing, Ranks, Owned}

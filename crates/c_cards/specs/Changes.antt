@@ -1,7 +1,7 @@
 -- The spoken board for C: boards compared, changes applied and spoken. A board is 130 bytes, as the sender's calls show it; changes are 322:
 -- how many there are, the wait (0 same, 1 opened, 2 closed), then slot, old word, old number, new word, new number of each of 64.
-use Rattle.std.specs.Prelude.{Bool, not, ◌&&◌, List, [], ◌∷◌, ℕ, ◌+◌, ◌-◌, ◌*◌, ◌/◌, ◌%◌, get_or, length}
-use Rattle.ground.specs.Plain.{if◌then◌else◌, ◌==◌, ◌<?◌}
+use Rattle.std.specs.Prelude.{Bool, not, ◌&&◌, List, [], ◌∷◌, ℕ, ◌+◌, ◌-◌, ◌*◌, ◌/◌, ◌%◌, get_or, length, if◌then◌else◌, ◌==◌}
+use Rattle.ground.specs.Plain.{◌<?◌}
 use Rattle.ground.specs.Table.{tabulate}
 use Rattle.ground.specs.Types.{Bytes}
 use Rattle.sender.specs.Board.{word}

@@ -1,7 +1,6 @@
 -- The changes of the board going out since the board told last (02, 2026-10): 'A board is taken only at an epoch's start, so no list ever mixes two orders.' The call takes the board from the state itself: the one that the epoch's
 -- start has fixed, whenever it is made. It comes back as the board told last.
-use Rattle.std.specs.Prelude.{◌&&◌, List, ℕ}
-use Rattle.ground.specs.Plain.{if◌then◌else◌, ◌==◌}
+use Rattle.std.specs.Prelude.{◌&&◌, List, ℕ, if◌then◌else◌, ◌==◌}
 use Rattle.cards.specs.Readings.{outgoing_shown}
 use Rattle.sender.specs.declared.board.Board.{Board}
 use Rattle.spoken.specs.Changes.{answer_number, compared_of}

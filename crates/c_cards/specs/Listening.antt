@@ -1,7 +1,6 @@
 -- Someone who listens to a C host (02, 2026-10; item 1 of the minutes). Among its other calls the host tells her, at any times, what levelspruce_sender_changes or levelspruce_card_changes writes, and she applies it by
 -- levelspruce_board_apply to the board that she holds.
-use Rattle.std.specs.Prelude.{◌≡◌, Bool, true, false, ◌&&◌, List, [], ◌∷◌, ℕ, length}
-use Rattle.ground.specs.Plain.{if◌then◌else◌, ◌==◌}
+use Rattle.std.specs.Prelude.{◌≡◌, Bool, true, false, ◌&&◌, List, [], ◌∷◌, ℕ, length, if◌then◌else◌, ◌==◌}
 use Rattle.cards.specs.Calls.{Call}
 use Rattle.cards.specs.Calls.Call.{Claim, Release, AddSlot, RemoveSlot, Report, Lapse, StartEpoch}
 use Rattle.sender.specs.Board.{board_of}

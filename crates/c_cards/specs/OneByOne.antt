@@ -1,6 +1,6 @@
 -- 'State and answers equal those of calling one by one in that order' (02, 2026-07): the single C calls of a work order, and their numbers.
-use Rattle.std.specs.Prelude.{true, List, [], ◌∷◌, ◌≢◌, ℕ, get_or, length, take}
-use Rattle.ground.specs.Plain.{if◌then◌else◌, ◌<?◌}
+use Rattle.std.specs.Prelude.{true, List, [], ◌∷◌, ◌≢◌, ℕ, get_or, length, take, if◌then◌else◌}
+use Rattle.ground.specs.Plain.{◌<?◌}
 use Rattle.ground.specs.Table.{tabulate}
 use Rattle.ground.specs.Types.{Bytes}
 use Rattle.cards.specs.Views.{Made}

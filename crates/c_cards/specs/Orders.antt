@@ -1,6 +1,6 @@
 -- A whole work order (02, 2026-07) for C, in terms of the card's own C calls. A command is three numbers: kind, group and slot.
-use Rattle.std.specs.Prelude.{true, List, [], ◌∷◌, ℕ, drop, get_or, length}
-use Rattle.ground.specs.Plain.{if◌then◌else◌, ◌==◌, ◌<?◌}
+use Rattle.std.specs.Prelude.{true, List, [], ◌∷◌, ℕ, drop, get_or, length, if◌then◌else◌, ◌==◌}
+use Rattle.ground.specs.Plain.{◌<?◌}
 use Rattle.ground.specs.Types.{Bytes}
 use Rattle.orders.specs.declared.commands.Command.{Command}
 use Rattle.orders.specs.declared.commands.Kind as K

@@ -1,7 +1,6 @@
 -- The planner and the check for C: their own answer, then 9 where the result's buffer has another length. Under a refusal the buffer stays.
-use Rattle.std.specs.Prelude.{List, [], ◌∷◌, ℕ, length}
+use Rattle.std.specs.Prelude.{List, [], ◌∷◌, ℕ, length, if◌then◌else◌, ◌==◌}
 use Rattle.ground.specs.Flags.{one_if}
-use Rattle.ground.specs.Plain.{if◌then◌else◌, ◌==◌}
 use Rattle.ground.specs.Types.{Bytes}
 use Rattle.paths.specs.Answers.{answer_of, number_of}
 use Rattle.paths.specs.Checking.{checked_of}

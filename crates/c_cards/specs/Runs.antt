@@ -1,6 +1,6 @@
 -- Runs for C: changes spoken with slots of a kind at once, and a whole board so.
-use Rattle.std.specs.Prelude.{Bool, not, ◌&&◌, List, ℕ, length}
-use Rattle.ground.specs.Plain.{if◌then◌else◌, ◌==◌, ◌<?◌}
+use Rattle.std.specs.Prelude.{Bool, not, ◌&&◌, List, ℕ, length, if◌then◌else◌, ◌==◌}
+use Rattle.ground.specs.Plain.{◌<?◌}
 use Rattle.spoken.specs.Changes.{answer_number}
 use Rattle.spoken.specs.Speaking.{SPEECH-ROOM}
 use Rattle.spoken.specs.SpeakingRuns.{runs_speech_bytes, runs_speech_of, whole_speech_bytes, whole_speech_of}

@@ -1,8 +1,8 @@
 -- The sender's state as 397 bytes. Bytes 0 to 127 are the slots' states and numbers in turn, 128 to 255 the words and numbers now going out,
 -- 256 to 383 those that rule, then the fields. Any bytes are a sender: what no call writes is read as said here.
-use Rattle.std.specs.Prelude.{◌≡◌, List, [], ◌∷◌, ℕ, ◌+◌, ◌-◌, ◌*◌, ◌/◌, ◌%◌, get_or, length}
+use Rattle.std.specs.Prelude.{◌≡◌, List, [], ◌∷◌, ℕ, ◌+◌, ◌-◌, ◌*◌, ◌/◌, ◌%◌, get_or, length, if◌then◌else◌, ◌==◌}
 use Rattle.ground.specs.Flags.{flag_of, one_if}
-use Rattle.ground.specs.Plain.{if◌then◌else◌, ◌==◌, ◌<?◌}
+use Rattle.ground.specs.Plain.{◌<?◌}
 use Rattle.ground.specs.Table.{tabulate}
 use Rattle.ground.specs.Types.{Bytes}
 use Rattle.sender.specs.Board.{word}

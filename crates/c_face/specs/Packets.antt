@@ -1,6 +1,6 @@
 -- The packet's C calls in terms of the packet's own.
-use Rattle.std.specs.Prelude.{Bool, ◌&&◌, List, [], ◌∷◌, ℕ, ◌/◌, ◌%◌, ◌^◌, length}
-use Rattle.ground.specs.Plain.{if◌then◌else◌, ◌==◌, ◌<?◌}
+use Rattle.std.specs.Prelude.{Bool, ◌&&◌, List, [], ◌∷◌, ℕ, ◌/◌, ◌%◌, ◌^◌, length, if◌then◌else◌, ◌==◌}
+use Rattle.ground.specs.Plain.{◌<?◌}
 use Rattle.ground.specs.Types.{Bytes, Epoch}
 use Rattle.packet.specs.declared.layout.Fields.{Fields}
 use Rattle.packet.specs.declared.reader.Reading.{Reading}

@@ -1,6 +1,5 @@
 -- Runs of the sender's C calls.
-use Rattle.std.specs.Prelude.{Bool, true, List, [], ◌∷◌}
-use Rattle.ground.specs.Plain.{if◌then◌else◌}
+use Rattle.std.specs.Prelude.{Bool, true, List, [], ◌∷◌, if◌then◌else◌}
 use Rattle.ground.specs.Types.{Bytes}
 use Rattle.sender.specs.Calls.Call.{AddSlot, RemoveSlot, Report, Lapse}
 use Rattle.sender.specs.Epochs.{SenderCall}

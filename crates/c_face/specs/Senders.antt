@@ -1,7 +1,7 @@
 -- The sender's C calls in terms of the sender's own. A state of another length is refused with 9 before all else (at starting 4 comes before it),
 -- a number that is no byte with 8, and then the sender's own refusals follow.
-use Rattle.std.specs.Prelude.{Bool, not, ◌&&◌, ◌||◌, ℕ, length}
-use Rattle.ground.specs.Plain.{if◌then◌else◌, ◌==◌, ◌<?◌}
+use Rattle.std.specs.Prelude.{Bool, not, ◌&&◌, ◌||◌, ℕ, length, if◌then◌else◌, ◌==◌}
+use Rattle.ground.specs.Plain.{◌<?◌}
 use Rattle.ground.specs.Types.{Bytes, Epoch}
 use Rattle.packet.specs.Kinds.{epochs, fixed_kind, known_kind}
 use Rattle.sender.specs.declared.epochs.SenderOutcome.{SenderOutcome}

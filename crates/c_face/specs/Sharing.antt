@@ -1,7 +1,7 @@
 -- What c_cards and c_recordings share with this crate, on bytes of any length. Bytes of another length count as zeros where they are read, and stay where they are to be written.
-use Rattle.std.specs.Prelude.{Bool, ℕ, ◌+◌, get_or, length, replicate}
+use Rattle.std.specs.Prelude.{Bool, ℕ, ◌+◌, get_or, length, replicate, if◌then◌else◌, ◌==◌}
 use Rattle.ground.specs.Drawn.{fill_at}
-use Rattle.ground.specs.Plain.{if◌then◌else◌, ◌==◌, ◌≤?◌}
+use Rattle.ground.specs.Plain.{◌≤?◌}
 use Rattle.ground.specs.Types.{Bytes}
 use Rattle.sender.specs.declared.board.Board.{Board}
 use Rattle.c_face.specs.Keeping.{board_in}

@@ -1,6 +1,6 @@
 -- The receiver's C calls are the receiver's own. A frame is flagged as failed by any number but 0.
-use Rattle.std.specs.Prelude.{Bool, not, List, ℕ}
-use Rattle.ground.specs.Plain.{if◌then◌else◌, ◌==◌, ◌<?◌}
+use Rattle.std.specs.Prelude.{Bool, not, List, ℕ, if◌then◌else◌, ◌==◌}
+use Rattle.ground.specs.Plain.{◌<?◌}
 use Rattle.ground.specs.Types.{Rows}
 use Rattle.receiver.specs.Starting.{start_as_answer, start_as_rows}
 

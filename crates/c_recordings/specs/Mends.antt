@@ -1,6 +1,5 @@
 -- A torn recording mended, for C: the crate's own answers. The lengths that are told are numbers of the caller's, and stay under a refusal.
-use Rattle.std.specs.Prelude.{List, ℕ, length}
-use Rattle.ground.specs.Plain.{if◌then◌else◌, ◌==◌}
+use Rattle.std.specs.Prelude.{List, ℕ, length, if◌then◌else◌, ◌==◌}
 use Rattle.mending.specs.Mending.{mend_answer, mended_of, notes_of, read_answer}
 use Rattle.mending.specs.Told.{mended_left, notes_left, told}
 

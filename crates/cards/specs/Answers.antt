@@ -1,6 +1,6 @@
 -- The answers (02, 2026-06): '14, slot owned by another group, or on claim already owned by anyone; 15, release of a slot that isn't IDLE'.
-use Rattle.std.specs.Prelude.{ℕ}
-use Rattle.ground.specs.Plain.{if◌then◌else◌, ◌<?◌}
+use Rattle.std.specs.Prelude.{ℕ, if◌then◌else◌}
+use Rattle.ground.specs.Plain.{◌<?◌}
 use Rattle.sender.specs.declared.table.Answer as S
 use Rattle.cards.specs.declared.answers.Answer.{Answer}
 use Rattle.cards.specs.declared.answers.Answer.TheVariants.{Done, NoSlot, NotAllowed, WaitOpen, OutOfRange, Field, Length, Owned, Used}

@@ -1,6 +1,6 @@
 -- Start, claim and release, and what the other calls ask first (02, 2026-06): 'order 1, 14, 15, 3, 2'.
-use Rattle.std.specs.Prelude.{ℕ, replicate}
-use Rattle.ground.specs.Plain.{if◌then◌else◌, ◌<?◌}
+use Rattle.std.specs.Prelude.{ℕ, replicate, if◌then◌else◌}
+use Rattle.ground.specs.Plain.{◌<?◌}
 use Rattle.sender.specs.Epochs.{SenderCall, begin_of, sender_outcome_of}
 use Rattle.cards.specs.declared.answers.Answer.TheVariants.{NoSlot, Owned, Used}
 use Rattle.cards.specs.declared.card.Card.{Card}

@@ -1,7 +1,7 @@
 -- The owner row: 0 nobody, 1 group 0, 2 group 1; any other byte counts as nobody. 'Each slot is owned by at most one group' (02, 2026-06) by its form.
-use Rattle.std.specs.Prelude.{Bool, ◌&&◌, ◌||◌, List, ℕ, get_or}
+use Rattle.std.specs.Prelude.{Bool, ◌&&◌, ◌||◌, List, ℕ, get_or, if◌then◌else◌, ◌==◌}
 use Rattle.ground.specs.Flags.{one_if}
-use Rattle.ground.specs.Plain.{if◌then◌else◌, ◌==◌, ◌<?◌}
+use Rattle.ground.specs.Plain.{◌<?◌}
 use Rattle.ground.specs.Table.{tabulate}
 use Rattle.ground.specs.Types.{Bytes}
 

@@ -1,6 +1,6 @@
 -- A group's part of the card, and what is asked of a slot before the sender's own calls (02, 2026-06).
-use Rattle.std.specs.Prelude.{Bool, ◌&&◌, ℕ}
-use Rattle.ground.specs.Plain.{if◌then◌else◌, ◌==◌, ◌<?◌}
+use Rattle.std.specs.Prelude.{Bool, ◌&&◌, ℕ, if◌then◌else◌, ◌==◌}
+use Rattle.ground.specs.Plain.{◌<?◌}
 use Rattle.sender.specs.declared.epochs.Sender.{Sender}
 use Rattle.sender.specs.declared.epochs.SenderOutcome.{SenderOutcome}
 use Rattle.sender.specs.Epochs.{begin_of}

@@ -1,6 +1,5 @@
 -- What is read of a group: packets and payload of its own slots, its boards and ranks of all slots, and which slots it owns.
-use Rattle.std.specs.Prelude.{◌&&◌, ℕ}
-use Rattle.ground.specs.Plain.{if◌then◌else◌}
+use Rattle.std.specs.Prelude.{◌&&◌, ℕ, if◌then◌else◌}
 use Rattle.ground.specs.Types.{Bytes}
 use Rattle.sender.specs.Board.{board_of}
 use Rattle.sender.specs.Epochs as E

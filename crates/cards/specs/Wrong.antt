@@ -1,7 +1,6 @@
 -- Wrong readings of request 2026-06, each as a definition with a run on which it breaks what the request says.
-use Rattle.std.specs.Prelude.{◌≡◌, refl, List, [], ◌∷◌, ℕ, ◌+◌, ◌<◌, set}
+use Rattle.std.specs.Prelude.{◌≡◌, refl, List, [], ◌∷◌, ℕ, ◌+◌, ◌<◌, set, if◌then◌else◌}
 use Rattle.std.proofs.Common.{arith}
-use Rattle.ground.specs.Plain.{if◌then◌else◌}
 use Rattle.sender.specs.declared.table.State.TheVariants.{Add}
 use Rattle.sender.specs.declared.table.Table.{Table}
 use Rattle.sender.specs.Commands.{with_slots}

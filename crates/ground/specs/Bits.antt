@@ -1,10 +1,9 @@
 -- Numbers and their bits, the first bit the highest.
-use Rattle.std.specs.Prelude.{◌≡◌, refl, Bool, true, false, List, [], ◌∷◌, ◌++◌, ℕ, zero, suc, ◌+◌, ◌-◌, ◌*◌, ◌/◌, ◌%◌, ◌^◌, ◌<◌, length, get_or, take, drop}
+use Rattle.std.specs.Prelude.{◌≡◌, refl, Bool, true, false, List, [], ◌∷◌, ◌++◌, ℕ, zero, suc, ◌+◌, ◌-◌, ◌*◌, ◌/◌, ◌%◌, ◌^◌, ◌<◌, length, get_or, take, drop, if◌then◌else◌, ◌==◌}
 use Rattle.std.proofs.Common.{◌∙◌, sym, ap, ap₂, zero-add, add_comm, add-mul, add-suc, suc-add, mul_assoc, two-mul, one-add, arith, pow_pos, pow-add, shr-shr, take_at, drop_at, length-append}
 use Rattle.std.proofs.Math.Nat.{mod-one, mul-add-div_right, two-pow-succ}
 use Rattle.std.proofs.lemmas.Nat.{mod-pow-add}
 use Rattle.std.proofs.Math.Pow.{high, split}
-use Rattle.ground.specs.Plain.{if◌then◌else◌, ◌==◌}
 
 abbrev pub odd : ℕ → Bool
 odd n = n % 2 == 1

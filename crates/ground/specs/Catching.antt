@@ -1,5 +1,5 @@
 -- Which divisors catch changed bits: one in a message of any length, or up to three of n bits. What follows for sealed messages is in Distance.
-use Rattle.std.specs.Prelude.{◌≡◌, refl, Bool, true, false, not, ◌||◌, List, [], ◌∷◌, ◌++◌, ℕ, zero, suc, ◌+◌, ◌%◌, ◌≤◌, ◌<◌, length}
+use Rattle.std.specs.Prelude.{◌≡◌, refl, Bool, true, false, not, ◌||◌, List, [], ◌∷◌, ◌++◌, ℕ, zero, suc, ◌+◌, ◌%◌, ◌≤◌, ◌<◌, length, ◌==◌}
 use Rattle.std.proofs.Common.{◌∙◌, sym, ap, ap₂, true≢false, arith, length-append}
 use Rattle.std.proofs.Math.Bool.{or-true}
 use Rattle.std.proofs.lemmas.Bool.{false≢true}
@@ -7,7 +7,6 @@ use Rattle.std.proofs.Math.Nat.{suc_inj}
 use Rattle.std.proofs.lemmas.List.{length-replicate}
 use Rattle.ground.specs.Bits.{odd}
 use Rattle.ground.specs.Finite.{below, below_at, lists, lists_at}
-use Rattle.ground.specs.Plain.{◌==◌}
 use Rattle.ground.specs.Polynomial.{plus, sum, zeros, bring, remainder, weight}
 use Rattle.ground.specs.Division.{length_bring}
 use Rattle.ground.specs.Sums.{plus_assoc, plus_cross, plus_swap}

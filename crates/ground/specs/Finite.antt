@@ -1,10 +1,9 @@
 -- Facts about finitely many cases, each by one test that the checker computes and one law that carries it to every case.
-use Rattle.std.specs.Prelude.{◌≡◌, refl, Bool, true, false, ◌&&◌, List, [], ◌∷◌, ℕ, zero, suc, ◌<◌, length}
+use Rattle.std.specs.Prelude.{◌≡◌, refl, Bool, true, false, ◌&&◌, List, [], ◌∷◌, ℕ, zero, suc, ◌<◌, length, ◌==◌}
 use Rattle.std.proofs.Common.{sym, ap₂, not-suc-le-zero, arith, eqb-true}
 use Rattle.std.specs.Bool.{beq}
 use Rattle.std.proofs.lemmas.Bool.{false≢true}
 use Rattle.std.proofs.Math.Decide.{ℕ_discrete}
-use Rattle.ground.specs.Plain.{◌==◌}
 use Rattle.ground.specs.Truth.{and_left, and_right}
 
 -- the test f passes at every number below n

@@ -1,6 +1,5 @@
 -- Flags as bytes.
-use Rattle.std.specs.Prelude.{Bool, not, ℕ}
-use Rattle.ground.specs.Plain.{if◌then◌else◌, ◌==◌}
+use Rattle.std.specs.Prelude.{Bool, not, ℕ, if◌then◌else◌, ◌==◌}
 
 -- a flag byte other than 0 counts as set
 abbrev pub flag_of : ℕ → Bool

@@ -1,15 +1,8 @@
--- Choices and comparisons as definitions write them. Each is the kit's own function by another name, so that what is known of that one holds of it.
-use Rattle.std.specs.Prelude.{Bool, cond, ◌≡◌, refl, ℕ, eqb, leb, ltb}
+-- Choices and comparisons as definitions write them. Each is the kit's own function by another name, so that what is known of that one holds of it; a choice and an
+-- equality are the kit's by its own names.
+use Rattle.std.specs.Prelude.{Bool, cond, ◌≡◌, refl, ℕ, eqb, leb, ltb, if◌then◌else◌, ◌==◌}
 
-infix 50 ◌==◌ ◌<?◌ ◌≤?◌
-module _ {ℓ} {A : Type ℓ} where
-  infixr 5 if◌then◌else◌
-  abbrev pub if◌then◌else◌ : Bool → A → A → A
-  if test then one else other = cond test one other
-
-abbrev pub ◌==◌ : ℕ → ℕ → Bool
-m == n = eqb m n
-
+infix 50 ◌<?◌ ◌≤?◌
 abbrev pub ◌<?◌ : ℕ → ℕ → Bool
 m <? n = ltb m n
 

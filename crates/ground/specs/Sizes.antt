@@ -1,6 +1,6 @@
 -- Numbers that bound the work (01): how many members a group has, how long a payload and a time may be. The window's bounds go by the kind (packet, Kinds).
-use Rattle.std.specs.Prelude.{ℕ}
-use Rattle.ground.specs.Plain.{if◌then◌else◌, ◌<?◌}
+use Rattle.std.specs.Prelude.{ℕ, if◌then◌else◌}
+use Rattle.ground.specs.Plain.{◌<?◌}
 
 -- 'A group has 1 to 64 slots at the sender and 1 to 64 ports at the receiver.' A count above 64, which no call returns, is taken as 64.
 abbrev pub size_of : ℕ → ℕ

@@ -1,11 +1,10 @@
 -- Laws of the sum of bits and of polynomials.
-use Rattle.std.specs.Prelude.{◌≡◌, refl, Bool, true, false, List, [], ◌∷◌, ◌++◌, ℕ, zero, suc, ◌+◌, ◌*◌, ◌/◌, ◌%◌, ◌^◌, ◌<◌, length}
+use Rattle.std.specs.Prelude.{◌≡◌, refl, Bool, true, false, List, [], ◌∷◌, ◌++◌, ℕ, zero, suc, ◌+◌, ◌*◌, ◌/◌, ◌%◌, ◌^◌, ◌<◌, length, ◌==◌}
 use Rattle.std.proofs.Common.{◌∙◌, sym, ap, ap₂, arith}
 use Rattle.std.proofs.Math.Nat.{suc_inj}
 use Rattle.std.specs.Int.Bits.{bit_xor, differ, xor_step}
 use Rattle.std.proofs.lemmas.Nat.{xor_shr}
 use Rattle.ground.specs.Bits.{odd, bits, even_odd}
-use Rattle.ground.specs.Plain.{◌==◌}
 use Rattle.ground.specs.Polynomial.{plus, sum, zeros}
 
 plus_comm : (a b : Bool) → plus a b ≡ plus b a

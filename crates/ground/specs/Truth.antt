@@ -1,8 +1,8 @@
 -- Tests as facts: what it says that a test made by && and || is true, when two tests are one, and cases on numbers.
-use Rattle.std.specs.Prelude.{◌≡◌, refl, ◌⊎◌, ◌≢◌, Bool, true, false, ◌&&◌, ◌||◌, ℕ, ◌≤◌, ◌<◌}
+use Rattle.std.specs.Prelude.{◌≡◌, refl, ◌⊎◌, ◌≢◌, Bool, true, false, ◌&&◌, ◌||◌, ℕ, ◌≤◌, ◌<◌, if◌then◌else◌, ◌==◌}
 use Rattle.std.proofs.Common.{sym, ◌∙◌, inl, inr, true≢false, arith, leb-true, leb-false, ltb-true, eqb-true}
 use Rattle.std.proofs.lemmas.Bool.{eqb-false}
-use Rattle.ground.specs.Plain.{if◌then◌else◌, ◌==◌, ◌<?◌, ◌≤?◌}
+use Rattle.ground.specs.Plain.{◌<?◌, ◌≤?◌}
 
 pub and-true : (b c : Bool) → b ≡ true → c ≡ true → (b && c) ≡ true
 and-true b c hb hc = rw (hb, hc)

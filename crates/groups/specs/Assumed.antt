@@ -1,6 +1,5 @@
 -- What demand 3 lets be so of one group of a card, and of its own link: 'demand 3 per group with its own ports, one for each slot it owns, as long as no claim or release changes the group's slots from the sending of the earliest frame that its receiver gets' (02, 2026-06).
-use Rattle.std.specs.Prelude.{◌≡◌, true, false, List, ℕ, ◌≤◌, ◌<◌, length}
-use Rattle.ground.specs.Plain.{◌==◌}
+use Rattle.std.specs.Prelude.{◌≡◌, true, false, List, ℕ, ◌≤◌, ◌<◌, length, ◌==◌}
 use Rattle.packet.specs.Kinds.{epochs, fixed_kind}
 use Rattle.cards.specs.Parts.{owns}
 use Rattle.link.specs.History.{sending_of}

@@ -1,7 +1,6 @@
 -- Wrong readings of 'demand 3 per group with its own ports, one for each slot it owns' (02, 2026-06), each with a run of the sample's card on which it breaks.
-use Rattle.std.specs.Prelude.{◌≡◌, refl, ◌≢◌, true, false, [], ◌∷◌, replicate}
+use Rattle.std.specs.Prelude.{◌≡◌, refl, ◌≢◌, true, false, [], ◌∷◌, replicate, if◌then◌else◌, ◌==◌}
 use Rattle.std.proofs.Common.{arith}
-use Rattle.ground.specs.Plain.{if◌then◌else◌, ◌==◌}
 use Rattle.ground.specs.Types.{Epoch}
 use Rattle.judge.specs.Verdict.{HELD}
 use Rattle.packet.specs.Words.{IDLE}

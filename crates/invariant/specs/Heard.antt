@@ -1,6 +1,5 @@
 -- Losing step (request 2026-04), said of the frames heard of a port: their H4 bytes, the latest first, and the tag to come by the own count.
-use Rattle.std.specs.Prelude.{◌≡◌, Bool, true, [], ◌∷◌, ℕ, suc, drop}
-use Rattle.ground.specs.Plain.{if◌then◌else◌}
+use Rattle.std.specs.Prelude.{◌≡◌, Bool, true, [], ◌∷◌, ℕ, suc, drop, if◌then◌else◌}
 use Rattle.ground.specs.Types.{Bytes}
 use Rattle.packet.specs.Counts.{counts}
 use Rattle.packet.specs.Kinds.{epoch_of, place_of, tag_after, tag_back, tag_before}

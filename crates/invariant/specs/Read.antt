@@ -1,6 +1,5 @@
 -- What the host reads out of the rows beside ports and reply, as the theorems say it.
-use Rattle.std.specs.Prelude.{◌≡◌, ◌⊎◌, true, false, List, [], ◌∷◌, ◌++◌, ℕ, zero, suc, ◌<◌, get_or, replicate}
-use Rattle.ground.specs.Plain.{if◌then◌else◌}
+use Rattle.std.specs.Prelude.{◌≡◌, ◌⊎◌, true, false, List, [], ◌∷◌, ◌++◌, ℕ, zero, suc, ◌<◌, get_or, replicate, if◌then◌else◌}
 use Rattle.ground.specs.Types.{Bytes, Epoch, Rows}
 use Rattle.phases.specs.Sizes.{ports_in}
 use Rattle.receiver.specs.Heard.{good_at, heard_of, said_at, silence}

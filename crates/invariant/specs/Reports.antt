@@ -1,7 +1,6 @@
 -- What 01 and the minutes say of reports, as the theorems say it.
-use Rattle.std.specs.Prelude.{◌≡◌, Bool, ◌&&◌, true, false, not, List, [], ◌∷◌, ℕ, ◌<◌, ◌+◌, ◌*◌, ◌/◌, ◌%◌, zero, suc, ◌≢◌, get_or, length}
+use Rattle.std.specs.Prelude.{◌≡◌, Bool, ◌&&◌, true, false, not, List, [], ◌∷◌, ℕ, ◌<◌, ◌+◌, ◌*◌, ◌/◌, ◌%◌, zero, suc, ◌≢◌, get_or, length, if◌then◌else◌, ◌==◌}
 use Rattle.ground.specs.Drawn.{fill_at}
-use Rattle.ground.specs.Plain.{if◌then◌else◌, ◌==◌}
 use Rattle.ground.specs.Types.{Bytes, Epoch, Rows}
 use Rattle.judge.specs.Seen.{size_of}
 use Rattle.packet.specs.declared.ruling.Ruling.{Ruling}

@@ -1,6 +1,5 @@
 -- Where the packet that rules a port comes from (R-12): it is read from the store when its epoch is passed, and stays until the next one is.
-use Rattle.std.specs.Prelude.{◌≡◌, ◌⊎◌, true, false, List, ◌∷◌, ◌++◌, ℕ, ◌<◌}
-use Rattle.ground.specs.Plain.{if◌then◌else◌}
+use Rattle.std.specs.Prelude.{◌≡◌, ◌⊎◌, true, false, List, ◌∷◌, ◌++◌, ℕ, ◌<◌, if◌then◌else◌}
 use Rattle.ground.specs.Types.{Bytes, Rows}
 use Rattle.packet.specs.Kinds.{epoch_after}
 use Rattle.rows.specs.declared.group.Group.{Group}

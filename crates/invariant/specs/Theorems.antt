@@ -1,7 +1,6 @@
 -- What holds of the receiver on every state, or after a start that is answered 0 and any calls.
-use Rattle.std.specs.Prelude.{◌≡◌, ◌⊎◌, ◌≢◌, Bool, true, false, not, ◌&&◌, List, [], ◌∷◌, ℕ, suc, ◌+◌, ◌-◌, ◌*◌, ◌%◌, ◌≤◌, ◌<◌, get_or, length}
+use Rattle.std.specs.Prelude.{◌≡◌, ◌⊎◌, ◌≢◌, Bool, true, false, not, ◌&&◌, List, [], ◌∷◌, ℕ, suc, ◌+◌, ◌-◌, ◌*◌, ◌%◌, ◌≤◌, ◌<◌, get_or, length, ◌==◌}
 use Rattle.ground.specs.Drawn.{fill_at}
-use Rattle.ground.specs.Plain.{◌==◌}
 use Rattle.ground.specs.Table.{tabulate}
 use Rattle.judge.specs.Cause.{cause_of, mark_of}
 use Rattle.judge.specs.Marked.{Standing}

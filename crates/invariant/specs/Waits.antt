@@ -1,6 +1,5 @@
 -- Hold-off and wait-to-restore over the receiver's runs (02, 2026-03): what the reports of some calls saw.
-use Rattle.std.specs.Prelude.{◌≡◌, false, List, [], ◌∷◌, ℕ, zero, suc, get_or}
-use Rattle.ground.specs.Plain.{if◌then◌else◌}
+use Rattle.std.specs.Prelude.{◌≡◌, false, List, [], ◌∷◌, ℕ, zero, suc, get_or, if◌then◌else◌}
 use Rattle.reply.specs.Reports.{Claim}
 use Rattle.reply.specs.declared.members.Port.{Port}
 use Rattle.reply.specs.Members.{is_idle, port_at}

@@ -1,7 +1,7 @@
 -- Why an epoch is held or doubtful: the number of the clause that decides, and the port to which it applies (01, 'Report of an epoch').
-use Rattle.std.specs.Prelude.{◌≡◌, Bool, true, false, not, ◌&&◌, ◌||◌, List, [], ◌∷◌, ℕ, ◌<◌, get_or}
+use Rattle.std.specs.Prelude.{◌≡◌, Bool, true, false, not, ◌&&◌, ◌||◌, List, [], ◌∷◌, ℕ, ◌<◌, get_or, if◌then◌else◌, ◌==◌}
 use Rattle.std.specs.Bool.{beq}
-use Rattle.ground.specs.Plain.{if◌then◌else◌, ◌==◌, ◌<?◌}
+use Rattle.ground.specs.Plain.{◌<?◌}
 use Rattle.ground.specs.Counting.Words.{some}
 use Rattle.packet.specs.Kinds.{fixed_kind}
 use Rattle.judge.specs.declared.seen.Seen.{Seen}

@@ -1,7 +1,6 @@
 -- The lowest number at which a test holds.
-use Rattle.std.specs.Prelude.{Bool, ℕ, zero, suc}
+use Rattle.std.specs.Prelude.{Bool, ℕ, zero, suc, if◌then◌else◌}
 use Rattle.ground.specs.Counting.Words.{some}
-use Rattle.ground.specs.Plain.{if◌then◌else◌}
 
 -- the lowest number below n at which the test f holds, if it holds at one
 abbrev pub lowest : (n : ℕ) (f : ℕ → Bool) → ℕ

@@ -1,6 +1,5 @@
 -- What a mark says of the ports: of an epoch that is not held, of one that is sure, and of one that is sure in a fixed group.
-use Rattle.std.specs.Prelude.{◌≡◌, true, false, List, ℕ, ◌<◌}
-use Rattle.ground.specs.Plain.{◌==◌}
+use Rattle.std.specs.Prelude.{◌≡◌, true, false, List, ℕ, ◌<◌, ◌==◌}
 use Rattle.packet.specs.Words.{FIXED}
 use Rattle.judge.specs.declared.seen.Seen.{Seen}
 use Rattle.judge.specs.Numbers.{AllApart, Highest, active_at, eos_at, number_at, numbered_at, numbers_in}

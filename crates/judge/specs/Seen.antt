@@ -1,9 +1,8 @@
 -- What is seen of a port (01, 'Report of an epoch'): all is judged on whole ruling packets.
-use Rattle.std.specs.Prelude.{Bool, false, not, ◌&&◌, ◌||◌, List, ℕ, get_or}
+use Rattle.std.specs.Prelude.{Bool, false, not, ◌&&◌, ◌||◌, List, ℕ, get_or, ◌==◌}
 use Rattle.packet.specs.Words.{NORM, EOS, IDLE, DNU, FIXED}
 use Rattle.judge.specs.declared.seen.Seen.{Seen}
 pub use Rattle.ground.specs.Sizes.{size_of}
-use Rattle.ground.specs.Plain.{◌==◌}
 
 abbrev pub seen_at : List Seen → ℕ → Seen
 seen_at ports i = get_or ports i (record { whole = false; good = false; word = 0; number = 0; gid = 0; here = false })

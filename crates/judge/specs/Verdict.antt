@@ -1,7 +1,6 @@
 -- Held, doubtful, sure (01, 'Report of an epoch').
-use Rattle.std.specs.Prelude.{Bool, not, ◌&&◌, ◌||◌, List, ℕ}
+use Rattle.std.specs.Prelude.{Bool, not, ◌&&◌, ◌||◌, List, ℕ, if◌then◌else◌, ◌==◌}
 use Rattle.std.specs.Bool.{beq}
-use Rattle.ground.specs.Plain.{if◌then◌else◌, ◌==◌}
 use Rattle.ground.specs.Counting.Words.{some, every, count, greatest}
 use Rattle.packet.specs.Kinds.{fixed_kind}
 use Rattle.judge.specs.declared.seen.Seen.{Seen}

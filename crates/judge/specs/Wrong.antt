@@ -1,7 +1,6 @@
 -- Wrong readings of 01 and of request 2026-12, each as a definition with a run on which it breaks what 01 says.
-use Rattle.std.specs.Prelude.{◌≡◌, refl, true, false, not, ◌&&◌, ◌||◌, List, [], ◌∷◌, ℕ}
+use Rattle.std.specs.Prelude.{◌≡◌, refl, true, false, not, ◌&&◌, ◌||◌, List, [], ◌∷◌, ℕ, if◌then◌else◌, ◌==◌}
 use Rattle.ground.specs.Counting.Words.{some, last_that}
-use Rattle.ground.specs.Plain.{if◌then◌else◌, ◌==◌}
 use Rattle.ground.specs.Table.{tabulate}
 use Rattle.packet.specs.Kinds.{fixed_kind}
 use Rattle.packet.specs.Words.{DNU, EOS, FIXED, NORM}

@@ -1,8 +1,7 @@
 // The port to which the clause applies that decides. Asked for at a desk and not in a fetch, so each port may take a walk over those below it.
-ghost use Rattle.std.specs.Prelude.{◌≡◌, not, ◌&&◌, ◌≤◌, ◌<◌};
+ghost use Rattle.std.specs.Prelude.{◌≡◌, not, ◌&&◌, ◌≤◌, ◌<◌, ◌==◌};
 ghost use Rattle.std.specs.Bool.{beq};
 ghost use Rattle.judge.specs.Cause.{applies, blamed_by, gid_unlike};
-ghost use Rattle.ground.specs.Plain.{◌==◌};
 ghost use Rattle.judge.specs.Seen.{active_seen, eos_seen, size_of};
 
 use crate::seen::Seen;

@@ -1,6 +1,5 @@
 // Held, doubtful, sure, and why (01, 'Report of an epoch').
-ghost use Rattle.std.specs.Prelude.{◌≡◌, true, [], ◌∷◌, ◌≤◌, ◌<◌};
-ghost use Rattle.ground.specs.Plain.{if◌then◌else◌};
+ghost use Rattle.std.specs.Prelude.{◌≡◌, true, [], ◌∷◌, ◌≤◌, ◌<◌, if◌then◌else◌};
 ghost use Rattle.judge.specs.Full.{Full};
 ghost use Rattle.judge.specs.Cause.{cause_of, fixed_cause, lcas_cause, mark_of};
 ghost use Rattle.judge.specs.Seen.{size_of};

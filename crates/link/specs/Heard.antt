@@ -1,7 +1,6 @@
 -- What is heard over demand 3's lines: what the sending side says back in each epoch, and what the receiver is then to hear.
-use Rattle.std.specs.Prelude.{◌≡◌, Bool, List, ℕ, ◌<◌, length}
+use Rattle.std.specs.Prelude.{◌≡◌, Bool, List, ℕ, ◌<◌, length, if◌then◌else◌}
 use Rattle.ground.specs.Counting.Words.{some}
-use Rattle.ground.specs.Plain.{if◌then◌else◌}
 use Rattle.packet.specs.Symbols.{packet_row}
 use Rattle.receiver.specs.declared.seeing.Carried.{Carried}
 use Rattle.receiver.specs.Heard.{heard_answer, heard_out, said_by, silence}

@@ -1,6 +1,5 @@
 -- Our sender's side of demand 3: 'any client bytes and any history of members our sender allows from one start', and what each slot then sends.
-use Rattle.std.specs.Prelude.{◌≡◌, Bool, true, false, not, List, [], ◌∷◌, ◌++◌, ℕ, zero, suc, ◌*◌, ◌≤◌, ◌<◌, length, replicate}
-use Rattle.ground.specs.Plain.{if◌then◌else◌, ◌==◌}
+use Rattle.std.specs.Prelude.{◌≡◌, Bool, true, false, not, List, [], ◌∷◌, ◌++◌, ℕ, zero, suc, ◌*◌, ◌≤◌, ◌<◌, length, replicate, if◌then◌else◌, ◌==◌}
 use Rattle.ground.specs.Types.{Bytes}
 use Rattle.packet.specs.Changes.{most_changes}
 use Rattle.packet.specs.declared.layout.Fields.{Fields}

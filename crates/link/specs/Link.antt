@@ -1,8 +1,7 @@
 -- Demand 3's environment: what is sent, its lines and one receiver (the minutes, item 3), and the reports that are then to come.
-use Rattle.std.specs.Prelude.{◌≡◌, ◌⊎◌, Bool, true, List, [], ◌∷◌, ◌++◌, ℕ, zero, suc, ◌+◌, ◌-◌, ◌*◌, ◌%◌, ◌≤◌, ◌<◌, drop, get_or, length}
+use Rattle.std.specs.Prelude.{◌≡◌, ◌⊎◌, Bool, true, List, [], ◌∷◌, ◌++◌, ℕ, zero, suc, ◌+◌, ◌-◌, ◌*◌, ◌%◌, ◌≤◌, ◌<◌, drop, get_or, length, if◌then◌else◌}
 use Rattle.ground.specs.Counting.Words.{every}
 pub use Rattle.ground.specs.Finite.{same_bytes}
-use Rattle.ground.specs.Plain.{if◌then◌else◌}
 use Rattle.ground.specs.Types.{Bytes}
 use Rattle.judge.specs.Verdict.{HELD, SURE}
 use Rattle.packet.specs.Changes.{brings_mfi2, changed, kept_part}

@@ -1,6 +1,6 @@
 -- The moments of a run, by which demand 3 is said: in frame time t the ports of `done` have been served, those of `rest` are still to come.
-use Rattle.std.specs.Prelude.{◌≡◌, ◌⊎◌, List, [], ◌∷◌, ◌++◌, ℕ, zero, suc, ◌+◌, ◌-◌, ◌*◌, ◌≤◌, ◌<◌, length}
-use Rattle.ground.specs.Plain.{if◌then◌else◌, ◌<?◌, ◌≤?◌}
+use Rattle.std.specs.Prelude.{◌≡◌, ◌⊎◌, List, [], ◌∷◌, ◌++◌, ℕ, zero, suc, ◌+◌, ◌-◌, ◌*◌, ◌≤◌, ◌<◌, length, if◌then◌else◌}
+use Rattle.ground.specs.Plain.{◌<?◌, ◌≤?◌}
 use Rattle.step.specs.SentRuns.{start_from}
 use Rattle.link.specs.Road.{L, Road, times}
 use Rattle.link.specs.Running.{Moment, has_begun, through, turns}

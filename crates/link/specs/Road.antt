@@ -1,7 +1,6 @@
 -- What reaches the receiver, and when (the minutes, demand 3). Nothing here knows what the frames mean.
 -- A line's frames have positions 0, 1, 2, .. in an endless count; the frame at position x has the tag of x + offset.
-use Rattle.std.specs.Prelude.{List, [], ◌∷◌, ℕ, ◌+◌, ◌<◌}
-use Rattle.ground.specs.Plain.{if◌then◌else◌, ◌==◌}
+use Rattle.std.specs.Prelude.{List, [], ◌∷◌, ℕ, ◌+◌, ◌<◌, if◌then◌else◌, ◌==◌}
 use Rattle.packet.specs.Kinds.{frames}
 
 pub record Road : Type 0 where

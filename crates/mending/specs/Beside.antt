@@ -1,7 +1,6 @@
 -- A torn recording's lines beside the mended ones (2026-11), for the theorems: what must be the same, and which lines a note must name.
-use Rattle.std.specs.Prelude.{◌≡◌, Bool, false, List, [], ◌∷◌, ◌++◌, ◌≢◌, ℕ, suc, ◌-◌, get_or, length}
+use Rattle.std.specs.Prelude.{◌≡◌, Bool, false, List, [], ◌∷◌, ◌++◌, ◌≢◌, ℕ, suc, ◌-◌, get_or, length, if◌then◌else◌, ◌==◌}
 use Rattle.ground.specs.Finite.{same_bytes}
-use Rattle.ground.specs.Plain.{if◌then◌else◌, ◌==◌}
 use Rattle.ground.specs.Types.{Bytes}
 use Rattle.mending.specs.Lines.{Line, digit_place, record_of}
 use Rattle.mending.specs.Mending.{note_text}

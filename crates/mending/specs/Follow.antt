@@ -1,7 +1,7 @@
 -- The following of one port as an automaton, a line a step. Count less place, modulo 16, stays the same from line to line where the count goes on: a
 -- line is good where it is that of the last good line, and a restored line gets it. Broken lines that wait for a good one are the port's last ones.
-use Rattle.std.specs.Prelude.{Bool, true, false, not, ◌&&◌, List, [], ◌∷◌, ◌++◌, ℕ, ◌+◌, ◌-◌, ◌%◌, length, set}
-use Rattle.ground.specs.Plain.{if◌then◌else◌, ◌==◌, ◌<?◌, ◌≤?◌}
+use Rattle.std.specs.Prelude.{Bool, true, false, not, ◌&&◌, List, [], ◌∷◌, ◌++◌, ℕ, ◌+◌, ◌-◌, ◌%◌, length, set, if◌then◌else◌, ◌==◌}
+use Rattle.ground.specs.Plain.{◌<?◌, ◌≤?◌}
 use Rattle.mending.specs.declared.follow.Follow.{Follow}
 
 -- before a port's first line

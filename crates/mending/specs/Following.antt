@@ -1,6 +1,5 @@
 -- The H4 count of one port followed (2026-11), on the counts of its lines one behind the other.
-use Rattle.std.specs.Prelude.{Bool, false, not, ◌||◌, List, [], ◌∷◌, ℕ, zero, suc, ◌+◌, ◌-◌, ◌%◌, ◌<◌}
-use Rattle.ground.specs.Plain.{if◌then◌else◌, ◌==◌}
+use Rattle.std.specs.Prelude.{Bool, false, not, ◌||◌, List, [], ◌∷◌, ℕ, zero, suc, ◌+◌, ◌-◌, ◌%◌, ◌<◌, if◌then◌else◌, ◌==◌}
 use Rattle.packet.specs.Kinds.{vc12_kind}
 
 -- a count is one hex digit

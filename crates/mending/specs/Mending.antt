@@ -1,6 +1,5 @@
 -- A recording mended (2026-11): what is answered, the mended recording, and the notes of what was dropped or altered.
-use Rattle.std.specs.Prelude.{◌≡◌, Bool, true, ◌&&◌, List, [], ◌∷◌, ◌++◌, ℕ, suc, ◌-◌, get_or, length, take}
-use Rattle.ground.specs.Plain.{if◌then◌else◌, ◌==◌}
+use Rattle.std.specs.Prelude.{◌≡◌, Bool, true, ◌&&◌, List, [], ◌∷◌, ◌++◌, ℕ, suc, ◌-◌, get_or, length, take, if◌then◌else◌, ◌==◌}
 use Rattle.ground.specs.Types.{Bytes}
 use Rattle.mending.specs.Following.{has_count}
 use Rattle.mending.specs.Lines.{Fate, Judged, Line, digit_place, judged, line_text, lines_with, mended_lines, text_of}

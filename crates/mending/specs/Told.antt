@@ -1,6 +1,6 @@
 -- The lengths that are told before a recording is mended (2026-11).
-use Rattle.std.specs.Prelude.{ℕ, length}
-use Rattle.ground.specs.Plain.{if◌then◌else◌, ◌==◌, ◌≤?◌}
+use Rattle.std.specs.Prelude.{ℕ, length, if◌then◌else◌, ◌==◌}
+use Rattle.ground.specs.Plain.{◌≤?◌}
 use Rattle.ground.specs.Types.{Bytes}
 use Rattle.mending.specs.declared.measuring.Lengths.{Lengths}
 use Rattle.mending.specs.Mending.{mend_answer, mended_of, notes_of, read_answer}

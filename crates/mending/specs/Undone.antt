@@ -1,8 +1,7 @@
 -- The torn recording told again from the mended one and its notes (2026-11).
-use Rattle.std.specs.Prelude.{Bool, false, ◌||◌, List, [], ◌∷◌, ◌++◌, ℕ, suc, ◌-◌, drop, get_or, take}
+use Rattle.std.specs.Prelude.{Bool, false, ◌||◌, List, [], ◌∷◌, ◌++◌, ℕ, suc, ◌-◌, drop, get_or, take, if◌then◌else◌, ◌==◌}
 use Rattle.std.proofs.lemmas.List.Edits.{sets}
 use Rattle.ground.specs.Finite.{same_bytes}
-use Rattle.ground.specs.Plain.{if◌then◌else◌, ◌==◌}
 use Rattle.ground.specs.Types.{Bytes}
 use Rattle.mending.specs.Lines.{Fate, Judged, Line, digit_place, line_text, lines_with, text_of}
 use Rattle.mending.specs.Lines.{Fate as F}

@@ -1,6 +1,6 @@
 -- Wrong readings of 2026-11, each as a definition with a recording on which it differs.
-use Rattle.std.specs.Prelude.{◌≡◌, refl, Bool, true, false, ◌||◌, List, [], ◌∷◌, ◌++◌, ℕ, zero, suc, ◌-◌, ◌%◌, length}
-use Rattle.ground.specs.Plain.{if◌then◌else◌, ◌==◌, ◌≤?◌}
+use Rattle.std.specs.Prelude.{◌≡◌, refl, Bool, true, false, ◌||◌, List, [], ◌∷◌, ◌++◌, ℕ, zero, suc, ◌-◌, ◌%◌, length, if◌then◌else◌, ◌==◌}
+use Rattle.ground.specs.Plain.{◌≤?◌}
 use Rattle.mending.specs.Following.{count_due, followed, followed_if, good_among, has_count, is_good}
 use Rattle.mending.specs.Lines.{Fate, Judged, Line, counts_of, judged, lines_with, record_of}
 use Rattle.mending.specs.Lines.{Fate as F}

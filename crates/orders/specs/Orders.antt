@@ -1,6 +1,6 @@
 -- A whole work order at once (02, 2026-07): 'Take a list of commands, each a small record of kind, group and slot, and answer each in a lent list of numbers.'
-use Rattle.std.specs.Prelude.{List, ℕ, length, set, take}
-use Rattle.ground.specs.Plain.{if◌then◌else◌, ◌==◌, ◌<?◌}
+use Rattle.std.specs.Prelude.{List, ℕ, length, set, take, if◌then◌else◌, ◌==◌}
+use Rattle.ground.specs.Plain.{◌<?◌}
 use Rattle.cards.specs.declared.answers.Answer.TheVariants as A
 use Rattle.cards.specs.declared.card.Card.{Card}
 use Rattle.cards.specs.declared.card.CardOutcome.{CardOutcome}

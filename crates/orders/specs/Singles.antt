@@ -1,6 +1,5 @@
 -- The commands of an order as single calls of the card, and what one group has of an order: what the theorems speak of.
-use Rattle.std.specs.Prelude.{◌≡◌, List, [], ◌∷◌, ℕ, get_or, length, take}
-use Rattle.ground.specs.Plain.{if◌then◌else◌, ◌==◌}
+use Rattle.std.specs.Prelude.{◌≡◌, List, [], ◌∷◌, ℕ, get_or, length, take, if◌then◌else◌, ◌==◌}
 use Rattle.ground.specs.Table.{tabulate}
 use Rattle.cards.specs.Views.{Made, run, view_of}
 use Rattle.cards.specs.declared.card.Card.{Card}

@@ -1,6 +1,5 @@
 -- Wrong readings of request 2026-07, each as a definition with an order on which it breaks what the request says.
-use Rattle.std.specs.Prelude.{◌≡◌, refl, Bool, true, false, ◌&&◌, List, [], ◌∷◌, ◌++◌, ℕ}
-use Rattle.ground.specs.Plain.{if◌then◌else◌, ◌==◌}
+use Rattle.std.specs.Prelude.{◌≡◌, refl, Bool, true, false, ◌&&◌, List, [], ◌∷◌, ◌++◌, ℕ, if◌then◌else◌, ◌==◌}
 use Rattle.cards.specs.declared.card.Card.{Card}
 use Rattle.cards.specs.Parts.{owns}
 use Rattle.cards.specs.Shown.{after}

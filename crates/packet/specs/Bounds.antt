@@ -1,6 +1,5 @@
 -- What it says that fields fit a packet of a kind, field by field (01, 'The control packet'; of VC-12 request 2026-01).
-use Rattle.std.specs.Prelude.{◌≡◌, ℕ, ◌^◌, ◌<◌, true, false}
-use Rattle.ground.specs.Plain.{◌==◌}
+use Rattle.std.specs.Prelude.{◌≡◌, ℕ, ◌^◌, ◌<◌, true, false, ◌==◌}
 use Rattle.packet.specs.Words.{FIXED, assigned}
 use Rattle.packet.specs.declared.layout.Fields.{Fields}
 

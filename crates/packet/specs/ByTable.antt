@@ -1,6 +1,5 @@
 -- A packet read by a table of shares that a function is lent (request 2026-02), whatever stands in it. By `shares_of` it is the reading of 01 (Theorems.ByTable).
-use Rattle.std.specs.Prelude.{ℕ, List}
-use Rattle.ground.specs.Plain.{if◌then◌else◌, ◌==◌}
+use Rattle.std.specs.Prelude.{ℕ, List, if◌then◌else◌, ◌==◌}
 use Rattle.packet.specs.declared.reader.Reading.{Reading}
 use Rattle.packet.specs.declared.ruling.Ruling.{Ruling}
 use Rattle.packet.specs.Kinds.{vc12_kind}

@@ -1,6 +1,6 @@
 -- What a line may change of a packet, and what it never does (demand 3; requests 2026-01, 2026-04 and 2026-12). By the kind of packet, as in Kinds: lines and transport know a frame by these words alone.
-use Rattle.std.specs.Prelude.{ℕ, ◌+◌, ◌*◌, ◌/◌, ◌%◌, Bool, not, ◌&&◌, ◌||◌, List}
-use Rattle.ground.specs.Plain.{if◌then◌else◌, ◌==◌, ◌<?◌}
+use Rattle.std.specs.Prelude.{ℕ, ◌+◌, ◌*◌, ◌/◌, ◌%◌, Bool, not, ◌&&◌, ◌||◌, List, if◌then◌else◌, ◌==◌}
+use Rattle.ground.specs.Plain.{◌<?◌}
 use Rattle.ground.specs.Polynomial.{bits_apart}
 use Rattle.packet.specs.Crc.{bits_of}
 use Rattle.packet.specs.Kinds.{fixed_kind, lead, vc12_kind}

@@ -1,6 +1,6 @@
 -- What one frame's byte says of its count. Of H4 (01, 'The control packet'): 'bits 5 to 8 are MFI1', 'Bits 1 to 4 .. carry a nibble by MFI1: 0 MFI2 high, 1 MFI2 low'. Of VC-12 (request 2026-01): the count's bit, and whether the packet starts with it.
-use Rattle.std.specs.Prelude.{ℕ, ◌+◌, ◌-◌, ◌*◌, ◌/◌, ◌%◌, ◌^◌, Bool, not, ◌&&◌, ◌||◌}
-use Rattle.ground.specs.Plain.{if◌then◌else◌, ◌==◌, ◌<?◌}
+use Rattle.std.specs.Prelude.{ℕ, ◌+◌, ◌-◌, ◌*◌, ◌/◌, ◌%◌, ◌^◌, Bool, not, ◌&&◌, ◌||◌, if◌then◌else◌, ◌==◌}
+use Rattle.ground.specs.Plain.{◌<?◌}
 use Rattle.ground.specs.Types.{Tag}
 use Rattle.packet.specs.Kinds.{tag_of, vc12_kind}
 

@@ -1,8 +1,7 @@
 -- Epochs, tags and MST (01, 'The control packet'), by the kind of packet. H4 and FIXED (request 2026-12) have one clock, VC-12 (request 2026-01) another; any other number counts as H4.
-use Rattle.std.specs.Prelude.{ℕ, zero, suc, ◌+◌, ◌-◌, ◌*◌, ◌/◌, ◌%◌, ◌^◌, Bool, not, ◌||◌}
+use Rattle.std.specs.Prelude.{ℕ, zero, suc, ◌+◌, ◌-◌, ◌*◌, ◌/◌, ◌%◌, ◌^◌, Bool, not, ◌||◌, if◌then◌else◌, ◌==◌}
 use Rattle.ground.specs.Bits.{odd}
 use Rattle.ground.specs.Circle.{after}
-use Rattle.ground.specs.Plain.{if◌then◌else◌, ◌==◌}
 use Rattle.ground.specs.Types.{Epoch, Tag}
 
 abbrev pub vc12_kind : ℕ

@@ -1,6 +1,5 @@
 -- A packet read (01, 'Answer numbers').
-use Rattle.std.specs.Prelude.{ℕ, List, [], ◌∷◌, length, take}
-use Rattle.ground.specs.Plain.{if◌then◌else◌, ◌==◌}
+use Rattle.std.specs.Prelude.{ℕ, List, [], ◌∷◌, length, take, if◌then◌else◌, ◌==◌}
 use Rattle.ground.specs.Types.{Bytes}
 use Rattle.packet.specs.declared.layout.Fields.{Fields}
 use Rattle.packet.specs.declared.reader.Reading.{Reading}

@@ -1,6 +1,5 @@
 -- The reserved bits (request 2026-08): packets with none of them set, and packets that are alike beside them. H4 has 26 and VC-12 four.
-use Rattle.std.specs.Prelude.{◌≡◌, ℕ, ◌/◌, ◌%◌, ◌<◌, ◌≤◌, false, List, get_or, slice_index, slice_index_or}
-use Rattle.ground.specs.Plain.{if◌then◌else◌, ◌==◌}
+use Rattle.std.specs.Prelude.{◌≡◌, ℕ, ◌/◌, ◌%◌, ◌<◌, ◌≤◌, false, List, get_or, slice_index, slice_index_or, cond, ◌==◌}
 use Rattle.ground.specs.Types.{Bytes}
 use Rattle.packet.specs.Kinds.{vc12_kind}
 use Rattle.packet.specs.Vc12.{row_bits}
@@ -24,7 +23,7 @@ pub record NoneReservedVc12 (bytes : Bytes) : Type 0 where
   pub bit_20 : get_or bytes 19 0 % 2 ≡ 0
 
 abbrev pub NoneReservedBy : (kind : ℕ) (bytes : Bytes) → Type 0
-NoneReservedBy kind bytes = if kind == vc12_kind then NoneReservedVc12 bytes else NoneReserved bytes
+NoneReservedBy kind bytes = cond (kind == vc12_kind) (NoneReservedVc12 bytes) (NoneReserved bytes)
 
 -- H4, frame by frame: all bits of MST, SQ, MFI2 and the word, and the last one of the frames with RS-Ack and with GID
 pub record SameBeside (row other : List ℕ) : Type 0 where
@@ -44,7 +43,7 @@ pub record SameBesideVc12 (row other : List ℕ) : Type 0 where
   pub behind : (k : ℕ) → 20 ≤ k → k < 29 → slice_index_or (row_bits row) k false ≡ slice_index_or (row_bits other) k false
 
 abbrev pub SameBesideBy : (kind : ℕ) (row other : List ℕ) → Type 0
-SameBesideBy kind row other = if kind == vc12_kind then SameBesideVc12 row other else SameBeside row other
+SameBesideBy kind row other = cond (kind == vc12_kind) (SameBesideVc12 row other) (SameBeside row other)
 
 -- the same fields with other reserved bits
 abbrev pub with_reserved : ℕ → Fields → Fields

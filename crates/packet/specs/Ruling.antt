@@ -1,9 +1,8 @@
 -- A packet read for what it rules (01, 'Report of an epoch'; 'For reading a packet: 9, 5, 7, 6'), by its kind.
-use Rattle.std.specs.Prelude.{ℕ, true, false, List}
+use Rattle.std.specs.Prelude.{ℕ, true, false, List, if◌then◌else◌, ◌==◌}
 use Rattle.packet.specs.declared.layout.Fields.{Fields}
 use Rattle.packet.specs.declared.reader.Reading.{Reading}
 use Rattle.packet.specs.declared.reader.Reading.TheVariants.{Packet, Length, Crc, Fixed, Unassigned}
-use Rattle.ground.specs.Plain.{if◌then◌else◌, ◌==◌}
 use Rattle.ground.specs.Types.{Epoch}
 use Rattle.packet.specs.Kinds.{vc12_kind}
 use Rattle.packet.specs.Layout.{fields_of}

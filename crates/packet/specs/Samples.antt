@@ -1,6 +1,5 @@
 -- VC-12's packets (request 2026-01) worked out by hand, written and read; the limits of their fields and lengths; and one with two changed bits.
-use Rattle.std.specs.Prelude.{◌≡◌, ℕ, false, ◌||◌, List, [], ◌∷◌, replicate, slice_index_or, refl}
-use Rattle.ground.specs.Plain.{◌==◌}
+use Rattle.std.specs.Prelude.{◌≡◌, ℕ, false, ◌||◌, List, [], ◌∷◌, replicate, slice_index_or, refl, ◌==◌}
 use Rattle.ground.specs.Polynomial.{plus}
 use Rattle.ground.specs.Table.{tabulate}
 use Rattle.packet.specs.Fixed.{write_fixed_bytes}

@@ -1,6 +1,5 @@
 -- A packet as our sender writes it, by its kind (01, 'The control packet'; request 2026-01).
-use Rattle.std.specs.Prelude.{ℕ, Bool}
-use Rattle.ground.specs.Plain.{if◌then◌else◌, ◌==◌}
+use Rattle.std.specs.Prelude.{ℕ, Bool, if◌then◌else◌, ◌==◌}
 use Rattle.ground.specs.Types.{Bytes}
 use Rattle.packet.specs.declared.layout.Fields.{Fields}
 use Rattle.packet.specs.declared.writer.Writing.{Writing}

@@ -1,7 +1,6 @@
 -- A packet as a row of sixteen entries, read by symbols (01, 'The control packet'; 'sixteen nibbles of the packet being gathered'). A symbol is what one frame carries of the packet. By the kind of packet, as in Kinds: H4 has a frame's nibble in each entry, VC-12 two frames' bits, the earlier one's twice as high.
 -- What stands above packet reads and writes a row by its symbols alone.
-use Rattle.std.specs.Prelude.{ℕ, ◌+◌, ◌*◌, ◌/◌, ◌%◌, List, slice_index, slice_set}
-use Rattle.ground.specs.Plain.{if◌then◌else◌, ◌==◌}
+use Rattle.std.specs.Prelude.{ℕ, ◌+◌, ◌*◌, ◌/◌, ◌%◌, List, slice_index, slice_set, if◌then◌else◌, ◌==◌}
 use Rattle.ground.specs.Table.{tabulate}
 use Rattle.packet.specs.Kinds.{vc12_kind}
 

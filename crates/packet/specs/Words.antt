@@ -1,6 +1,5 @@
 -- Control words (01, 'The control packet'): FIXED 0, ADD 1, NORM 2, EOS 3, IDLE 5, DNU 15. All others are unassigned.
-use Rattle.std.specs.Prelude.{ℕ, ◌%◌, Bool, ◌||◌}
-use Rattle.ground.specs.Plain.{◌==◌}
+use Rattle.std.specs.Prelude.{ℕ, ◌%◌, Bool, ◌||◌, ◌==◌}
 use Rattle.packet.specs.declared.words.Word.{Word}
 
 abbrev pub FIXED : ℕ

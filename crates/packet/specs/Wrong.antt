@@ -1,7 +1,6 @@
 -- Wrong readings of 01 and of requests 2026-08, 2026-02, 2026-12 and 2026-01, each as a definition with a run on which it breaks what these say.
-use Rattle.std.specs.Prelude.{◌≡◌, ℕ, zero, suc, ◌+◌, ◌-◌, ◌*◌, ◌/◌, ◌%◌, ◌^◌, Bool, true, false, ◌||◌, List, [], ◌∷◌, ◌++◌, get_or, take, replicate, bit_xor, slice_index, slice_index_or, refl}
+use Rattle.std.specs.Prelude.{◌≡◌, ℕ, zero, suc, ◌+◌, ◌-◌, ◌*◌, ◌/◌, ◌%◌, ◌^◌, Bool, true, false, ◌||◌, List, [], ◌∷◌, ◌++◌, get_or, take, replicate, bit_xor, slice_index, slice_index_or, refl, if◌then◌else◌, ◌==◌}
 use Rattle.ground.specs.Bits.{odd}
-use Rattle.ground.specs.Plain.{if◌then◌else◌, ◌==◌}
 use Rattle.ground.specs.Polynomial.{check, plus}
 use Rattle.ground.specs.Table.{tabulate}
 use Rattle.packet.specs.declared.layout.Fields.{Fields}

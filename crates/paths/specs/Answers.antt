@@ -1,6 +1,6 @@
 -- What the planner and the check answer: 4, 'before any search', or 0. That there is no set is a value under 0.
-use Rattle.std.specs.Prelude.{Bool, ◌&&◌, List, ℕ, length}
-use Rattle.ground.specs.Plain.{if◌then◌else◌, ◌≤?◌}
+use Rattle.std.specs.Prelude.{Bool, ◌&&◌, List, ℕ, length, if◌then◌else◌}
+use Rattle.ground.specs.Plain.{◌≤?◌}
 use Rattle.ground.specs.Counting.Words.{every}
 use Rattle.paths.specs.declared.answers.Answer.{Answer}
 use Rattle.paths.specs.declared.answers.Answer.TheVariants.{Done, Range}

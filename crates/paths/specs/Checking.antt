@@ -1,6 +1,6 @@
 -- The small check of a proposal.
-use Rattle.std.specs.Prelude.{Bool, not, ◌&&◌, List, ℕ, ◌-◌, length}
-use Rattle.ground.specs.Plain.{if◌then◌else◌, ◌==◌, ◌<?◌, ◌≤?◌}
+use Rattle.std.specs.Prelude.{Bool, not, ◌&&◌, List, ℕ, ◌-◌, length, if◌then◌else◌, ◌==◌}
+use Rattle.ground.specs.Plain.{◌<?◌, ◌≤?◌}
 use Rattle.ground.specs.Counting.Words.{every}
 use Rattle.paths.specs.declared.checking.Checked.{Checked}
 use Rattle.paths.specs.Answers.{answer_of, in_range}

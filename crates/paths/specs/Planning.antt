@@ -1,8 +1,8 @@
 -- The planner: of the candidates in order, the k in a row with the least spread, of several such the first.
 -- So it is always the same set, of the tightest the one with the least delays, and the receiver's window may be smallest.
-use Rattle.std.specs.Prelude.{Bool, List, [], ◌∷◌, ◌++◌, ℕ, zero, suc, ◌+◌, ◌-◌, length, get_or, replicate, take}
+use Rattle.std.specs.Prelude.{Bool, List, [], ◌∷◌, ◌++◌, ℕ, zero, suc, ◌+◌, ◌-◌, length, get_or, replicate, take, if◌then◌else◌}
 use Rattle.ground.specs.Drawn.{within}
-use Rattle.ground.specs.Plain.{if◌then◌else◌, ◌<?◌, ◌≤?◌}
+use Rattle.ground.specs.Plain.{◌<?◌, ◌≤?◌}
 use Rattle.paths.specs.declared.answers.Answer.{Answer}
 use Rattle.paths.specs.declared.answers.Answer.TheVariants.{Done}
 use Rattle.paths.specs.declared.planning.Proposal.{Proposal}

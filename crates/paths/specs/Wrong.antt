@@ -1,8 +1,8 @@
 -- Wrong readings of the request, each as a definition with delays on which it breaks.
-use Rattle.std.specs.Prelude.{◌≡◌, refl, Bool, true, false, not, ◌&&◌, ◌||◌, List, [], ◌∷◌, ℕ, ◌+◌, ◌-◌, length}
+use Rattle.std.specs.Prelude.{◌≡◌, refl, Bool, true, false, not, ◌&&◌, ◌||◌, List, [], ◌∷◌, ℕ, ◌+◌, ◌-◌, length, ◌==◌}
 use Rattle.ground.specs.Counting.Words.{every}
 use Rattle.ground.specs.Circle.{after}
-use Rattle.ground.specs.Plain.{◌==◌, ◌<?◌, ◌≤?◌}
+use Rattle.ground.specs.Plain.{◌<?◌, ◌≤?◌}
 use Rattle.paths.specs.Checking.{accepts, agree, delays_apart}
 use Rattle.paths.specs.Order.{ranks_of, sorted_by}
 use Rattle.paths.specs.Paths.{delay_at, path_at}

@@ -1,6 +1,5 @@
 // What the planner and the check refuse, both alike: 4, 'before any search'.
-ghost use Rattle.std.specs.Prelude.{◌≡◌};
-ghost use Rattle.ground.specs.Plain.{if◌then◌else◌};
+ghost use Rattle.std.specs.Prelude.{◌≡◌, if◌then◌else◌};
 ghost use Rattle.paths.specs.Answers.{answer_of, are_short, number_of, sized};
 
 #[derive(Clone, Copy)]

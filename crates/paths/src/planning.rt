@@ -1,7 +1,7 @@
 // The planner. Of the candidates in order, k in a row lie closest; of all such stretches it proposes the tightest.
-ghost use Rattle.std.specs.Prelude.{◌≡◌, ◌&&◌, ◌+◌, ◌-◌, ◌≤◌, ◌<◌, length, set};
+ghost use Rattle.std.specs.Prelude.{◌≡◌, ◌&&◌, ◌+◌, ◌-◌, ◌≤◌, ◌<◌, length, set, if◌then◌else◌};
 ghost use Rattle.ground.specs.Drawn.{within};
-ghost use Rattle.ground.specs.Plain.{if◌then◌else◌, ◌<?◌};
+ghost use Rattle.ground.specs.Plain.{◌<?◌};
 ghost use Rattle.paths.specs.Planning.{listed_plan, nothing, plan_of, proposed_plan, stretch_from, tighter, tightest};
 
 use crate::answers::Answer;

@@ -1,6 +1,6 @@
 -- What spreading and joining answer (01, 'Answer numbers'): 4, then 9.
-use Rattle.std.specs.Prelude.{Bool, ◌&&◌, ℕ, ◌≤◌}
-use Rattle.ground.specs.Plain.{if◌then◌else◌, ◌≤?◌}
+use Rattle.std.specs.Prelude.{Bool, ◌&&◌, ℕ, ◌≤◌, if◌then◌else◌}
+use Rattle.ground.specs.Plain.{◌≤?◌}
 pub use Rattle.ground.specs.Sizes.{PAYLOAD-MOST}
 use Rattle.payload.specs.declared.answer.Answer.{Answer}
 use Rattle.payload.specs.declared.answer.Answer.TheVariants.{Done, Range, Length}

@@ -1,8 +1,8 @@
 -- Members joined into a group frame (01, 'Payload order').
-use Rattle.std.specs.Prelude.{Bool, ◌&&◌, List, ℕ, ◌+◌, ◌*◌, length, get_or}
+use Rattle.std.specs.Prelude.{Bool, ◌&&◌, List, ℕ, ◌+◌, ◌*◌, length, get_or, ◌==◌}
 use Rattle.ground.specs.Drawn.{fill_at}
 use Rattle.ground.specs.Finite.{below}
-use Rattle.ground.specs.Plain.{◌==◌, ◌≤?◌}
+use Rattle.ground.specs.Plain.{◌≤?◌}
 use Rattle.ground.specs.Types.{Bytes}
 use Rattle.payload.specs.declared.answer.Answer.{Answer}
 use Rattle.payload.specs.Answers.{sized, answer_by, under_done}

@@ -1,7 +1,7 @@
 -- Bytes laid into a slice.
-use Rattle.std.specs.Prelude.{ℕ, ◌+◌, length, get_or}
+use Rattle.std.specs.Prelude.{ℕ, ◌+◌, length, get_or, if◌then◌else◌}
 use Rattle.ground.specs.Drawn.{fill_at}
-use Rattle.ground.specs.Plain.{if◌then◌else◌, ◌≤?◌}
+use Rattle.ground.specs.Plain.{◌≤?◌}
 use Rattle.ground.specs.Types.{Bytes}
 
 -- The bytes from a place on. Those that would go beyond the end leave the slice as it was.

@@ -1,6 +1,5 @@
 -- A group frame spread over its members (01, 'Payload order').
-use Rattle.std.specs.Prelude.{◌&&◌, ℕ, ◌*◌, ◌/◌, ◌%◌, length}
-use Rattle.ground.specs.Plain.{◌==◌}
+use Rattle.std.specs.Prelude.{◌&&◌, ℕ, ◌*◌, ◌/◌, ◌%◌, length, ◌==◌}
 use Rattle.ground.specs.Table.{tabulate}
 use Rattle.ground.specs.Types.{Bytes}
 use Rattle.payload.specs.declared.answer.Answer.{Answer}

@@ -1,6 +1,6 @@
 // What spreading and joining answer (01, 'Answer numbers': 4, then 9).
-ghost use Rattle.std.specs.Prelude.{◌≡◌, ◌+◌, ◌≤◌, length};
-ghost use Rattle.ground.specs.Plain.{if◌then◌else◌, ◌≤?◌};
+ghost use Rattle.std.specs.Prelude.{◌≡◌, ◌+◌, ◌≤◌, length, if◌then◌else◌};
+ghost use Rattle.ground.specs.Plain.{◌≤?◌};
 ghost use Rattle.payload.specs.Answers.{number_of, sized};
 ghost use Rattle.payload.specs.Joining.{whole_answer, from_answer, starts_fit};
 ghost use Rattle.payload.specs.Spreading.{one_answer};

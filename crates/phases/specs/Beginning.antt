@@ -1,6 +1,6 @@
 -- When receiving begins (01, 'Beginning'). That this is 01's sentence is proved in Theorems/Arc.
-use Rattle.std.specs.Prelude.{◌≡◌, Bool, true, not, ◌&&◌, ◌||◌, ℕ, zero, suc, ◌+◌, ◌/◌, ◌≤◌, ◌<◌}
-use Rattle.ground.specs.Plain.{if◌then◌else◌, ◌==◌, ◌<?◌, ◌≤?◌}
+use Rattle.std.specs.Prelude.{◌≡◌, Bool, true, not, ◌&&◌, ◌||◌, ℕ, zero, suc, ◌+◌, ◌/◌, ◌≤◌, ◌<◌, if◌then◌else◌, ◌==◌}
+use Rattle.ground.specs.Plain.{◌<?◌, ◌≤?◌}
 use Rattle.ground.specs.Types.{Rows, Tag}
 use Rattle.ground.specs.Counting.Words.{every}
 use Rattle.packet.specs.Kinds.{distance_of, frames, tag_before, tags}

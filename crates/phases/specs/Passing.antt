@@ -1,6 +1,5 @@
 -- The oldest epoch passed: gathered, or reported (01, 'Beginning', 'Report of an epoch'). Each port's packet of that epoch comes to rule, if it stands whole in the store.
-use Rattle.std.specs.Prelude.{Bool, List, ℕ, zero, suc, ◌-◌, set}
-use Rattle.ground.specs.Plain.{if◌then◌else◌}
+use Rattle.std.specs.Prelude.{Bool, List, ℕ, zero, suc, ◌-◌, set, if◌then◌else◌}
 use Rattle.ground.specs.Types.{Bytes, Rows}
 use Rattle.packet.specs.Kinds.{epoch_after, frames}
 use Rattle.packet.specs.declared.ruling.Ruling.{Ruling}

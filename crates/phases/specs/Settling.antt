@@ -1,6 +1,5 @@
 -- What follows from a frame for all ports (01, 'Beginning'): stopping comes first, then the beginning, then gathering.
-use Rattle.std.specs.Prelude.{◌≡◌, Bool, true, false, not, ◌&&◌, ℕ, zero, suc, replicate}
-use Rattle.ground.specs.Plain.{if◌then◌else◌}
+use Rattle.std.specs.Prelude.{◌≡◌, Bool, true, false, not, ◌&&◌, ℕ, zero, suc, replicate, if◌then◌else◌}
 use Rattle.ground.specs.Types.{Bytes, Rows}
 use Rattle.packet.specs.Kinds.{epoch_after, epoch_of}
 use Rattle.phases.specs.Beginning.{begins, foremost}

@@ -1,6 +1,6 @@
 -- How large a group may be (01, 'Numbers that bound the work').
-use Rattle.std.specs.Prelude.{Bool, ◌&&◌, ℕ, ◌+◌, ◌*◌, ◌/◌}
-use Rattle.ground.specs.Plain.{if◌then◌else◌, ◌≤?◌}
+use Rattle.std.specs.Prelude.{Bool, ◌&&◌, ℕ, ◌+◌, ◌*◌, ◌/◌, if◌then◌else◌}
+use Rattle.ground.specs.Plain.{◌≤?◌}
 use Rattle.packet.specs.Kinds.{frames, payload_right, tags}
 unfoldable pub use Rattle.packet.specs.Kinds.{known_kind}
 use Rattle.payload.specs.Answers.{PAYLOAD-MOST}

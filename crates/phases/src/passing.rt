@@ -1,6 +1,5 @@
 // The oldest epoch passed: gathered, or reported. Each port's packet of that epoch comes to rule, if it stands whole in the store.
-ghost use Rattle.std.specs.Prelude.{◌≡◌, ◌-◌};
-ghost use Rattle.ground.specs.Plain.{if◌then◌else◌};
+ghost use Rattle.std.specs.Prelude.{◌≡◌, ◌-◌, if◌then◌else◌};
 ghost use Rattle.store.specs.Frames.{ring_of};
 ghost use Rattle.phases.specs.ByTable.{passed_port_with, passed_ports_with, passed_with};
 ghost use Rattle.phases.specs.Passing.{group_to, noted_by, passed_group, passed_of, passed_step, ruled_by};

@@ -1,6 +1,6 @@
 // When receiving begins (01, 'Beginning').
-ghost use Rattle.std.specs.Prelude.{◌≡◌, ◌&&◌, ◌||◌, ◌/◌};
-ghost use Rattle.ground.specs.Plain.{◌==◌, ◌<?◌};
+ghost use Rattle.std.specs.Prelude.{◌≡◌, ◌&&◌, ◌||◌, ◌/◌, ◌==◌};
+ghost use Rattle.ground.specs.Plain.{◌<?◌};
 ghost use Rattle.ground.specs.Counting.Words.{every};
 ghost use Rattle.packet.specs.Kinds.{distance_of, tags};
 ghost use Rattle.rows.specs.Step.{step_at};

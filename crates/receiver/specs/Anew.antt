@@ -1,6 +1,5 @@
 -- Receiving begun anew: one flagged frame on every port, in port order, each as any flagged frame is (Frame). The store is only read.
-use Rattle.std.specs.Prelude.{Bool, true, ◌&&◌, ℕ, zero, suc, length, replicate}
-use Rattle.ground.specs.Plain.{if◌then◌else◌, ◌==◌}
+use Rattle.std.specs.Prelude.{Bool, true, ◌&&◌, ℕ, zero, suc, length, replicate, if◌then◌else◌, ◌==◌}
 use Rattle.ground.specs.Types.{Bytes, Rows}
 use Rattle.phases.specs.Sizes.{ports_in, store_for}
 use Rattle.receiver.specs.Frame.{frame_of}

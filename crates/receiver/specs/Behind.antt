@@ -1,7 +1,6 @@
 -- How far each port lies behind the foremost: the same tags and the same arc by which receiving begins (01, 'Beginning').
-use Rattle.std.specs.Prelude.{◌≡◌, true, List, ℕ, ◌+◌, ◌≤◌, ◌<◌, length}
+use Rattle.std.specs.Prelude.{◌≡◌, true, List, ℕ, ◌+◌, ◌≤◌, ◌<◌, length, if◌then◌else◌}
 use Rattle.ground.specs.Counting.Each.{each}
-use Rattle.ground.specs.Plain.{if◌then◌else◌}
 use Rattle.ground.specs.Types.{Rows}
 use Rattle.packet.specs.Kinds.{distance_of, frames}
 use Rattle.phases.specs.Beginning.{foremost, latest, ready}

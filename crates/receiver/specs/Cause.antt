@@ -1,6 +1,5 @@
 -- Why the oldest epoch not yet reported would be held or doubtful, and the port: what the next report will go by, read before it is fetched.
-use Rattle.std.specs.Prelude.{Bool, ◌&&◌, [], ◌∷◌, ℕ, length}
-use Rattle.ground.specs.Plain.{if◌then◌else◌, ◌==◌}
+use Rattle.std.specs.Prelude.{Bool, ◌&&◌, [], ◌∷◌, ℕ, length, if◌then◌else◌, ◌==◌}
 use Rattle.ground.specs.Types.{Bytes, Rows}
 use Rattle.judge.specs.Cause.{blamed_of, cause_of}
 use Rattle.judge.specs.Seen.{size_of}

@@ -1,6 +1,6 @@
 -- A report fetched (01, 'Report of an epoch'; 'For fetching: 9 first').
-use Rattle.std.specs.Prelude.{Bool, ◌&&◌, List, [], ◌∷◌, ℕ, ◌/◌, ◌%◌, length}
-use Rattle.ground.specs.Plain.{if◌then◌else◌, ◌<?◌}
+use Rattle.std.specs.Prelude.{Bool, ◌&&◌, List, [], ◌∷◌, ℕ, ◌/◌, ◌%◌, length, if◌then◌else◌}
+use Rattle.ground.specs.Plain.{◌<?◌}
 use Rattle.ground.specs.Types.{Bytes, Rows}
 use Rattle.phases.specs.Due.{brought}
 use Rattle.phases.specs.Sizes.{ports_in}

@@ -1,6 +1,6 @@
 -- A frame's arrival (01, 'The receiver'; 'For frames: 1, 9, 10, 12, 11').
-use Rattle.std.specs.Prelude.{Bool, true, List, [], ℕ, get_or, length, set}
-use Rattle.ground.specs.Plain.{if◌then◌else◌, ◌==◌, ◌<?◌}
+use Rattle.std.specs.Prelude.{Bool, true, List, [], ℕ, get_or, length, set, if◌then◌else◌, ◌==◌}
+use Rattle.ground.specs.Plain.{◌<?◌}
 use Rattle.ground.specs.Types.{Bytes, Rows, Tag}
 use Rattle.packet.specs.Kinds.{ends_epoch, epochs_in, place_of, tag_after, tag_before}
 use Rattle.packet.specs.Symbols.{with_symbol}

@@ -1,7 +1,6 @@
 -- The way back in one call: what the far end says in the epoch before the oldest one not yet reported, which after a report is the epoch just reported.
-use Rattle.std.specs.Prelude.{Bool, ◌&&◌, [], ◌∷◌, ℕ, length}
+use Rattle.std.specs.Prelude.{Bool, ◌&&◌, [], ◌∷◌, ℕ, length, if◌then◌else◌, ◌==◌}
 use Rattle.ground.specs.Counting.Words.{some}
-use Rattle.ground.specs.Plain.{if◌then◌else◌, ◌==◌}
 use Rattle.ground.specs.Types.{Bytes, Rows}
 pub use Rattle.judge.specs.Lowest.{lowest}
 use Rattle.phases.specs.Sizes.{ports_in}

@@ -1,6 +1,6 @@
 -- Lengths of what is lent (01, 'Answer numbers': 9).
-use Rattle.std.specs.Prelude.{Bool, ◌&&◌, ◌||◌, ℕ, ◌*◌}
-use Rattle.ground.specs.Plain.{◌==◌, ◌≤?◌}
+use Rattle.std.specs.Prelude.{Bool, ◌&&◌, ◌||◌, ℕ, ◌*◌, ◌==◌}
+use Rattle.ground.specs.Plain.{◌≤?◌}
 use Rattle.packet.specs.Kinds.{frames}
 use Rattle.phases.specs.Sizes.{store_for}
 use Rattle.rows.specs.declared.group.Group.{Group}

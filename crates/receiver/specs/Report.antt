@@ -1,6 +1,5 @@
 -- The report of an epoch (01, 'Report of an epoch', 'Member states and reply').
-use Rattle.std.specs.Prelude.{false, List, [], ℕ, zero, suc, ◌+◌, ◌*◌, ◌/◌, ◌%◌, get_or, replicate}
-use Rattle.ground.specs.Plain.{if◌then◌else◌, ◌==◌}
+use Rattle.std.specs.Prelude.{false, List, [], ℕ, zero, suc, ◌+◌, ◌*◌, ◌/◌, ◌%◌, get_or, replicate, if◌then◌else◌, ◌==◌}
 use Rattle.ground.specs.Types.{Bytes, Epoch, Rows}
 use Rattle.ground.specs.Counting.Each.{each}
 use Rattle.judge.specs.declared.order.Order.{Order}

@@ -1,6 +1,5 @@
 -- What a receiver was started with, for a host that was handed its state.
-use Rattle.std.specs.Prelude.{Bool, ◌&&◌, List, [], ◌∷◌, ℕ, length}
-use Rattle.ground.specs.Plain.{if◌then◌else◌, ◌==◌}
+use Rattle.std.specs.Prelude.{Bool, ◌&&◌, List, [], ◌∷◌, ℕ, length, if◌then◌else◌, ◌==◌}
 use Rattle.ground.specs.Types.{Rows}
 use Rattle.phases.specs.Sizes.{ports_in}
 use Rattle.receiver.specs.Lengths.{rows_fit}

@@ -1,8 +1,7 @@
 -- What the host reads out: the ports, and the reply (01, 'Member states and reply').
-use Rattle.std.specs.Prelude.{Bool, ◌&&◌, List, [], ◌∷◌, ℕ, length}
+use Rattle.std.specs.Prelude.{Bool, ◌&&◌, List, [], ◌∷◌, ℕ, length, if◌then◌else◌, ◌==◌}
 use Rattle.ground.specs.Counting.Each.{each}
 use Rattle.ground.specs.Flags.{one_if}
-use Rattle.ground.specs.Plain.{if◌then◌else◌, ◌==◌}
 use Rattle.ground.specs.Types.{Bytes, Epoch, Rows}
 use Rattle.judge.specs.Seen.{size_of}
 use Rattle.packet.specs.Kinds.{fixed_kind, idle_number}

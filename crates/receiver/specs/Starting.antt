@@ -1,6 +1,6 @@
 -- A receiver's start (01, 'Answer numbers': 'At starting, 4 comes before 9').
-use Rattle.std.specs.Prelude.{Bool, ◌&&◌, ◌||◌, List, [], ◌∷◌, ℕ, zero, suc, ◌+◌, ◌*◌, get_or, length, replicate}
-use Rattle.ground.specs.Plain.{if◌then◌else◌, ◌==◌, ◌<?◌, ◌≤?◌}
+use Rattle.std.specs.Prelude.{Bool, ◌&&◌, ◌||◌, List, [], ◌∷◌, ℕ, zero, suc, ◌+◌, ◌*◌, get_or, length, replicate, if◌then◌else◌, ◌==◌}
+use Rattle.ground.specs.Plain.{◌<?◌, ◌≤?◌}
 pub use Rattle.ground.specs.Sizes.{timer_most}
 use Rattle.ground.specs.Types.{Rows}
 use Rattle.ground.specs.Counting.Words.{every}

@@ -1,6 +1,5 @@
 // The sixteen group frames of a report, and what the report says (01, 'Report of an epoch', 'Payload order').
-ghost use Rattle.std.specs.Prelude.{◌≡◌, ◌+◌, ◌*◌, get_or};
-ghost use Rattle.ground.specs.Plain.{if◌then◌else◌, ◌==◌};
+ghost use Rattle.std.specs.Prelude.{◌≡◌, ◌+◌, ◌*◌, get_or, if◌then◌else◌, ◌==◌};
 ghost use Rattle.judge.specs.Verdict.{HELD};
 ghost use Rattle.receiver.specs.Laws.Rings.{rings_of};
 ghost use Rattle.receiver.specs.Report.{frame_into, frames_into, output_by, report_by};

@@ -1,6 +1,6 @@
 // A receiver's start (01, 'Answer numbers': 'At starting, 4 comes before 9').
-ghost use Rattle.std.specs.Prelude.{◌≡◌, ◌||◌, length};
-ghost use Rattle.ground.specs.Plain.{if◌then◌else◌, ◌==◌, ◌<?◌};
+ghost use Rattle.std.specs.Prelude.{◌≡◌, ◌||◌, length, if◌then◌else◌, ◌==◌};
+ghost use Rattle.ground.specs.Plain.{◌<?◌};
 ghost use Rattle.receiver.specs.Starting.{fresh_member, fresh_port, fresh_ports, fresh_step, group_with, sized_answer, sized_rows, start_answer, start_as_answer, start_as_rows, start_fits, start_right, start_rows, time_of, timer_most, times_within};
 
 use packet::kinds;

@@ -1,6 +1,6 @@
 -- Where a line of a recording ends (2026-05).
-use Rattle.std.specs.Prelude.{Bool, ℕ, ◌+◌, length, take}
-use Rattle.ground.specs.Plain.{if◌then◌else◌, ◌==◌, ◌<?◌}
+use Rattle.std.specs.Prelude.{Bool, ℕ, ◌+◌, length, take, if◌then◌else◌, ◌==◌}
+use Rattle.ground.specs.Plain.{◌<?◌}
 use Rattle.ground.specs.Types.{Bytes}
 use Rattle.ground.specs.Finding.{index_of}
 use Rattle.recording.specs.declared.line.Found.{Found}

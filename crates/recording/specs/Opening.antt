@@ -1,6 +1,6 @@
 -- The first line of a recording (2026-05): 'the group's settings in the first line'.
-use Rattle.std.specs.Prelude.{Bool, List, [], ◌∷◌, ℕ, ◌+◌, length}
-use Rattle.ground.specs.Plain.{if◌then◌else◌, ◌≤?◌}
+use Rattle.std.specs.Prelude.{Bool, List, [], ◌∷◌, ℕ, ◌+◌, length, if◌then◌else◌}
+use Rattle.ground.specs.Plain.{◌≤?◌}
 use Rattle.ground.specs.Types.{Bytes}
 use Rattle.recording.specs.declared.opening.First.{First}
 use Rattle.recording.specs.declared.opening.FirstLine.{FirstLine}

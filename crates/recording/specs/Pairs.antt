@@ -1,7 +1,7 @@
 -- Behind the three numbers of a first line stand pairs, each a name and what it says (2026-05), in any order, each at most once: `kind` with the group's
 -- kind (2026-12, 2026-01), `hold-off` and `wait-to-restore` (2026-03) with a number for each port. The fields are taken one after the other.
-use Rattle.std.specs.Prelude.{Bool, true, false, not, ◌&&◌, ◌||◌, List, [], ◌∷◌, ℕ, ◌+◌, replicate, set}
-use Rattle.ground.specs.Plain.{if◌then◌else◌, ◌<?◌}
+use Rattle.std.specs.Prelude.{Bool, true, false, not, ◌&&◌, ◌||◌, List, [], ◌∷◌, ℕ, ◌+◌, replicate, set, if◌then◌else◌}
+use Rattle.ground.specs.Plain.{◌<?◌}
 use Rattle.ground.specs.Types.{Bytes}
 use Rattle.recording.specs.declared.pairs.Awaited.{Awaited}
 use Rattle.recording.specs.declared.pairs.Awaited.TheVariants.{Name, Kind, Time, Nothing}

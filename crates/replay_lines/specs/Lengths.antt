@@ -1,6 +1,5 @@
 -- What a recording's first line asks to be lent (2026-05), told before its replay begins: so a host other than the program can lend what any group asks for.
-use Rattle.std.specs.Prelude.{ℕ, Bool, true, ◌&&◌, List}
-use Rattle.ground.specs.Plain.{if◌then◌else◌}
+use Rattle.std.specs.Prelude.{ℕ, Bool, true, ◌&&◌, List, if◌then◌else◌}
 use Rattle.recording.specs.Opening.{Opening, opening_in}
 use Rattle.recording.specs.Opening.{Opening as O}
 use Rattle.recording.specs.declared.pairs.Settings.{Settings as GroupSettings}

@@ -1,7 +1,6 @@
 -- The lines that are printed (2026-05): 'each epoch's report with mark and byte count, and each change of port state, in the order they arise'.
 -- Behind mark and byte count a held or doubtful report names why, and the port.
-use Rattle.std.specs.Prelude.{ℕ, zero, suc, ◌+◌, ◌*◌, ◌/◌, ◌%◌, ◌||◌, List, [], ◌++◌, slice_index}
-use Rattle.ground.specs.Plain.{if◌then◌else◌, ◌==◌}
+use Rattle.std.specs.Prelude.{ℕ, zero, suc, ◌+◌, ◌*◌, ◌/◌, ◌%◌, ◌||◌, List, [], ◌++◌, slice_index, if◌then◌else◌, ◌==◌}
 use Rattle.ground.specs.Table.{tabulate}
 use Rattle.ground.specs.Types.{Bytes, Epoch, Rows}
 use Rattle.receiver.specs.Shown.{shown_number}

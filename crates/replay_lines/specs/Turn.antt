@@ -1,7 +1,7 @@
 -- One turn of a replay (2026-05): a line read, or a report fetched.
-use Rattle.std.specs.Prelude.{ℕ, ◌+◌, ◌-◌, Bool, true, false, ◌&&◌, List, [], ◌∷◌, ◌++◌, length, take, drop, replicate, slice_index, slice_index_or}
+use Rattle.std.specs.Prelude.{ℕ, ◌+◌, ◌-◌, Bool, true, false, ◌&&◌, List, [], ◌∷◌, ◌++◌, length, take, drop, replicate, slice_index, slice_index_or, if◌then◌else◌, ◌==◌}
 use Rattle.std.proofs.Math.Seq.{slice}
-use Rattle.ground.specs.Plain.{if◌then◌else◌, ◌==◌, ◌<?◌, ◌≤?◌}
+use Rattle.ground.specs.Plain.{◌<?◌, ◌≤?◌}
 use Rattle.ground.specs.Types.{Bytes, Rows}
 use Rattle.ground.specs.Finding.{index_of}
 use Rattle.phases.specs.Sizes.{start_sized}

@@ -1,7 +1,6 @@
 -- Candidates choose their numbers (01, 'Member states and reply').
-use Rattle.std.specs.Prelude.{Bool, true, false, not, ◌&&◌, List, ℕ, zero, suc, get_or, set, replicate}
+use Rattle.std.specs.Prelude.{Bool, true, false, not, ◌&&◌, List, ℕ, zero, suc, get_or, set, replicate, if◌then◌else◌, ◌==◌}
 use Rattle.std.specs.Bool.{beq}
-use Rattle.ground.specs.Plain.{if◌then◌else◌, ◌==◌}
 use Rattle.reply.specs.declared.members.Port.{Port}
 use Rattle.reply.specs.Members.{is_candidate, is_restoring, port_at, was_ok}
 

@@ -1,7 +1,6 @@
 -- The list that RS-Ack tells of (01): 'the list of active and DNU ports with their numbers', now and at the last report, and ports that have left it.
-use Rattle.std.specs.Prelude.{◌≡◌, ◌||◌, List, ℕ}
+use Rattle.std.specs.Prelude.{◌≡◌, ◌||◌, List, ℕ, if◌then◌else◌, ◌==◌}
 use Rattle.std.proofs.Math.Option.{Option, none, some}
-use Rattle.ground.specs.Plain.{if◌then◌else◌, ◌==◌}
 use Rattle.ground.specs.Table.{tabulate}
 use Rattle.reply.specs.Members.{port_at}
 use Rattle.reply.specs.declared.members.Port.{Port}

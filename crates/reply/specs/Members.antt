@@ -1,7 +1,7 @@
 -- A port as its member state is worked out (01, 'Member states and reply').
-use Rattle.std.specs.Prelude.{Bool, false, not, ◌&&◌, ◌||◌, List, ℕ, get_or}
+use Rattle.std.specs.Prelude.{Bool, false, not, ◌&&◌, ◌||◌, List, ℕ, get_or, ◌==◌}
 pub use Rattle.ground.specs.Sizes.{size_of}
-use Rattle.ground.specs.Plain.{◌==◌, ◌<?◌}
+use Rattle.ground.specs.Plain.{◌<?◌}
 use Rattle.packet.specs.Words.{IDLE}
 use Rattle.reply.specs.declared.members.Port.{Port}
 

@@ -1,7 +1,6 @@
 -- What is told to the far end: MST and RS-Ack (01, 'Member states and reply').
-use Rattle.std.specs.Prelude.{Bool, not, ◌&&◌, ◌||◌, List, ℕ, ◌+◌, ◌*◌}
+use Rattle.std.specs.Prelude.{Bool, not, ◌&&◌, ◌||◌, List, ℕ, ◌+◌, ◌*◌, if◌then◌else◌, ◌==◌}
 use Rattle.std.specs.Bool.{beq}
-use Rattle.ground.specs.Plain.{if◌then◌else◌, ◌==◌}
 use Rattle.ground.specs.Types.{Epoch}
 use Rattle.ground.specs.Counting.Words.{some}
 use Rattle.packet.specs.Kinds.{mst_first}

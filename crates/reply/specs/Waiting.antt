@@ -1,6 +1,6 @@
 -- Waiting before crying failure (02, 2026-03): which numbers ports that have lost their claim keep, and what a report leaves of each port.
-use Rattle.std.specs.Prelude.{Bool, not, ◌&&◌, ◌||◌, List, ℕ, zero, suc, ◌+◌, get_or, replicate}
-use Rattle.ground.specs.Plain.{if◌then◌else◌, ◌==◌, ◌<?◌}
+use Rattle.std.specs.Prelude.{Bool, not, ◌&&◌, ◌||◌, List, ℕ, zero, suc, ◌+◌, get_or, replicate, if◌then◌else◌, ◌==◌}
+use Rattle.ground.specs.Plain.{◌<?◌}
 use Rattle.ground.specs.Counting.Each.{each}
 use Rattle.ground.specs.Counting.Words.{some}
 use Rattle.reply.specs.declared.members.Port.{Port}

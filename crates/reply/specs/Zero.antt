@@ -1,7 +1,6 @@
 -- 01's own rule of member states, which knows no times: 'Zero and zero is today's behaviour' (02, 2026-03) is said of it in Theorems/Zero.antt.
-use Rattle.std.specs.Prelude.{Bool, true, false, ◌&&◌, List, ℕ, replicate}
+use Rattle.std.specs.Prelude.{Bool, true, false, ◌&&◌, List, ℕ, replicate, if◌then◌else◌, ◌==◌}
 use Rattle.std.specs.Bool.{beq}
-use Rattle.ground.specs.Plain.{if◌then◌else◌, ◌==◌}
 use Rattle.ground.specs.Counting.Each.{each}
 use Rattle.reply.specs.declared.members.Port.{Port}
 use Rattle.reply.specs.Choosing.{granted, holder_of, all_free}

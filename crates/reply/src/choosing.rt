@@ -1,6 +1,5 @@
 // Candidates choose their numbers (01, 'Member states and reply').
-ghost use Rattle.std.specs.Prelude.{◌≡◌, ◌&&◌, ◌≤◌};
-ghost use Rattle.ground.specs.Plain.{◌==◌};
+ghost use Rattle.std.specs.Prelude.{◌≡◌, ◌&&◌, ◌≤◌, ◌==◌};
 ghost use Rattle.reply.specs.Choosing.{FREE, chooses, claims, grant, holder_of, holders};
 
 use crate::members;

@@ -1,6 +1,5 @@
 // What is told to the far end: MST and RS-Ack (01, 'Member states and reply').
-ghost use Rattle.std.specs.Prelude.{◌≡◌, [], ◌∷◌, ◌+◌, ◌*◌, ◌≤◌};
-ghost use Rattle.ground.specs.Plain.{if◌then◌else◌, ◌==◌};
+ghost use Rattle.std.specs.Prelude.{◌≡◌, [], ◌∷◌, ◌+◌, ◌*◌, ◌≤◌, if◌then◌else◌, ◌==◌};
 ghost use Rattle.reply.specs.Members.{size_of};
 ghost use Rattle.reply.specs.Telling.{ack_of, fail_bit, has_changed, has_left, is_listed, mst_from, mst_of, ok_holds, turns_over};
 

@@ -1,6 +1,6 @@
 -- The board: what the table sends, read whole (01, 'The sender's table').
-use Rattle.std.specs.Prelude.{Bool, not, ◌&&◌, List, ℕ, replicate}
-use Rattle.ground.specs.Plain.{if◌then◌else◌, ◌<?◌}
+use Rattle.std.specs.Prelude.{Bool, not, ◌&&◌, List, ℕ, replicate, if◌then◌else◌}
+use Rattle.ground.specs.Plain.{◌<?◌}
 use Rattle.ground.specs.Counting.Each.{each}
 use Rattle.ground.specs.Counting.Words.{some}
 use Rattle.packet.specs.declared.words.Word.{Word}

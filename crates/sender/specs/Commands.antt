@@ -1,6 +1,6 @@
 -- Start, add, remove and lapse (01, 'The sender's table').
-use Rattle.std.specs.Prelude.{Bool, true, false, not, ◌&&◌, ◌||◌, List, ℕ, ◌-◌, replicate, set}
-use Rattle.ground.specs.Plain.{if◌then◌else◌, ◌==◌, ◌<?◌}
+use Rattle.std.specs.Prelude.{Bool, true, false, not, ◌&&◌, ◌||◌, List, ℕ, ◌-◌, replicate, set, if◌then◌else◌, ◌==◌}
+use Rattle.ground.specs.Plain.{◌<?◌}
 use Rattle.ground.specs.Counting.Each.{each}
 use Rattle.packet.specs.Kinds.{idle_number}
 use Rattle.sender.specs.declared.table.Answer.{Answer}

@@ -1,6 +1,5 @@
 -- Demand 2 of the sender's table: 'active and do-not-use members hold the numbers 0 to n-1, each once; end-of-sequence is on the highest active member and nowhere else.'
-use Rattle.std.specs.Prelude.{◌≡◌, Bool, true, false, ◌&&◌, ℕ, ◌≤◌, ◌<◌}
-use Rattle.ground.specs.Plain.{◌==◌}
+use Rattle.std.specs.Prelude.{◌≡◌, Bool, true, false, ◌&&◌, ℕ, ◌≤◌, ◌<◌, ◌==◌}
 use Rattle.packet.specs.Kinds.{idle_number}
 use Rattle.packet.specs.Words.{EOS}
 use Rattle.ground.specs.Counting.Words.{Apart, One, count, some}

@@ -1,6 +1,5 @@
 -- 'States: IDLE (number 255), ADD, active, DNU.' (01, 'The sender's table')
-use Rattle.std.specs.Prelude.{Bool, true, false, ◌&&◌, List, ℕ, zero, suc, get_or}
-use Rattle.ground.specs.Plain.{if◌then◌else◌, ◌==◌}
+use Rattle.std.specs.Prelude.{Bool, true, false, ◌&&◌, List, ℕ, zero, suc, get_or, if◌then◌else◌, ◌==◌}
 use Rattle.ground.specs.Sizes.{size_of}
 use Rattle.ground.specs.Counting.Words.{count}
 use Rattle.sender.specs.declared.finding.Found.{Found}

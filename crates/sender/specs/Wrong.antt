@@ -1,6 +1,5 @@
 -- Wrong readings of 01 and of request 2026-08, each as a definition with a run on which it breaks what these say.
-use Rattle.std.specs.Prelude.{◌≡◌, refl, true, List, [], ◌∷◌, ℕ, zero, suc, ◌/◌, get_or, replicate, set}
-use Rattle.ground.specs.Plain.{if◌then◌else◌}
+use Rattle.std.specs.Prelude.{◌≡◌, refl, true, List, [], ◌∷◌, ℕ, zero, suc, ◌/◌, get_or, replicate, set, if◌then◌else◌}
 use Rattle.ground.specs.Table.{tabulate}
 use Rattle.packet.specs.declared.layout.Fields.{Fields}
 use Rattle.packet.specs.Kinds.{mst_fails, mst_first, mst_numbers}

@@ -1,6 +1,6 @@
 -- The line that the input has begun and not ended.
-use Rattle.std.specs.Prelude.{List, [], ◌∷◌, ℕ, ◌+◌, replicate, set, take}
-use Rattle.ground.specs.Plain.{if◌then◌else◌, ◌<?◌}
+use Rattle.std.specs.Prelude.{List, [], ◌∷◌, ℕ, ◌+◌, replicate, set, take, if◌then◌else◌}
+use Rattle.ground.specs.Plain.{◌<?◌}
 use Rattle.session_lines.specs.declared.kept.Kept.{Kept}
 
 unfoldable pub nothing_kept : Kept

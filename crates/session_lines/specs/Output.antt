@@ -1,6 +1,5 @@
 -- The lines of the output: 'spaces standing for tabs, no header' (01, 'Session').
-use Rattle.std.specs.Prelude.{Bool, List, [], ◌++◌, ℕ, zero, suc, get_or}
-use Rattle.ground.specs.Plain.{if◌then◌else◌}
+use Rattle.std.specs.Prelude.{Bool, List, [], ◌++◌, ℕ, zero, suc, get_or, if◌then◌else◌}
 use Rattle.ground.specs.Types.{Bytes}
 use Rattle.packet.specs.declared.words.Word.{Word}
 use Rattle.sender.specs.declared.board.Board.{Board}

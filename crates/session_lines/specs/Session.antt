@@ -1,6 +1,6 @@
 -- A session (01, 'Session'), fed in parts cut anywhere.
-use Rattle.std.specs.Prelude.{Bool, [], ◌++◌, ℕ, ◌+◌, drop, length, take}
-use Rattle.ground.specs.Plain.{if◌then◌else◌, ◌<?◌}
+use Rattle.std.specs.Prelude.{Bool, [], ◌++◌, ℕ, ◌+◌, drop, length, take, if◌then◌else◌}
+use Rattle.ground.specs.Plain.{◌<?◌}
 use Rattle.ground.specs.Types.{Bytes}
 use Rattle.ground.specs.Finding.{index_of}
 use Rattle.sender.specs.declared.table.Table.{Table}

@@ -1,6 +1,6 @@
 -- The board of a table written out by itself, as the session's `board` does, for any who show one.
-use Rattle.std.specs.Prelude.{ℕ, length}
-use Rattle.ground.specs.Plain.{if◌then◌else◌, ◌<?◌}
+use Rattle.std.specs.Prelude.{ℕ, length, if◌then◌else◌}
+use Rattle.ground.specs.Plain.{◌<?◌}
 use Rattle.ground.specs.Types.{Bytes}
 use Rattle.sender.specs.declared.table.Table.{Table}
 use Rattle.sender.specs.Board.{board_of}

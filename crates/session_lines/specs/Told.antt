@@ -1,6 +1,6 @@
 -- What the lines of a session have told the sender (01, 'Session'), apart from what they are answered.
-use Rattle.std.specs.Prelude.{Bool, false, ◌&&◌, ◌||◌, List, [], ◌∷◌, ◌++◌, ℕ, take}
-use Rattle.ground.specs.Plain.{if◌then◌else◌, ◌==◌, ◌≤?◌}
+use Rattle.std.specs.Prelude.{Bool, false, ◌&&◌, ◌||◌, List, [], ◌∷◌, ◌++◌, ℕ, take, if◌then◌else◌, ◌==◌}
+use Rattle.ground.specs.Plain.{◌≤?◌}
 use Rattle.sender.specs.declared.table.Table.{Table}
 use Rattle.sender.specs.Calls.{Call, run}
 use Rattle.sender.specs.Calls.{Call as C}

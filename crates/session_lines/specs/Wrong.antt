@@ -1,6 +1,6 @@
 -- Wrong readings of 01, each as a definition with a run on which it breaks what 01 says.
-use Rattle.std.specs.Prelude.{◌≡◌, refl, List, ℕ}
-use Rattle.ground.specs.Plain.{if◌then◌else◌, ◌<?◌}
+use Rattle.std.specs.Prelude.{◌≡◌, refl, List, ℕ, if◌then◌else◌}
+use Rattle.ground.specs.Plain.{◌<?◌}
 use Rattle.sender.specs.declared.table.Table.{Table}
 use Rattle.sender.specs.Commands.{fresh_of, start_of}
 use Rattle.text.specs.declared.fields.Number.{Number}

@@ -1,6 +1,5 @@
 -- What a line prints for a listener: nothing where it is done, and where it is refused which line it was, what it was and why, in words.
-use Rattle.std.specs.Prelude.{Bool, [], ◌++◌, ℕ}
-use Rattle.ground.specs.Plain.{if◌then◌else◌, ◌==◌}
+use Rattle.std.specs.Prelude.{Bool, [], ◌++◌, ℕ, if◌then◌else◌, ◌==◌}
 use Rattle.ground.specs.Types.{Bytes}
 use Rattle.session_lines.specs.declared.line.Line.{Line}
 use Rattle.session_lines.specs.declared.line.Line.TheVariants.{Size, Add, Remove, Report, Lapse, Board, Malformed}

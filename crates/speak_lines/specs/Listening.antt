@@ -1,6 +1,6 @@
 -- A session told to a listener, fed in parts cut anywhere: the session's lines, and `epoch`, at which she is told what goes out now that did not before.
-use Rattle.std.specs.Prelude.{Bool, [], ℕ, ◌+◌, length}
-use Rattle.ground.specs.Plain.{if◌then◌else◌, ◌<?◌}
+use Rattle.std.specs.Prelude.{Bool, [], ℕ, ◌+◌, length, if◌then◌else◌}
+use Rattle.ground.specs.Plain.{◌<?◌}
 use Rattle.ground.specs.Types.{Bytes}
 use Rattle.session_lines.specs.declared.kept.Kept.{Kept}
 use Rattle.session_lines.specs.Gathering.{gathered_of}

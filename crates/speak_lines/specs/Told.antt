@@ -1,6 +1,5 @@
 -- What the lines of a session are to the sender, with its epochs, and what lines leave.
-use Rattle.std.specs.Prelude.{◌≡◌, List, [], ◌∷◌, ◌++◌}
-use Rattle.ground.specs.Plain.{if◌then◌else◌}
+use Rattle.std.specs.Prelude.{◌≡◌, List, [], ◌∷◌, ◌++◌, if◌then◌else◌}
 use Rattle.ground.specs.Types.{Bytes}
 use Rattle.session_lines.specs.Line.{line_of}
 use Rattle.session_lines.specs.Told.{call_of, has_size, is_size, meant}

@@ -1,6 +1,5 @@
 -- Wrong readings of a session told to a listener, each as a definition with a run on which it breaks.
-use Rattle.std.specs.Prelude.{◌≡◌, refl, true, false, List, [], ◌∷◌, take}
-use Rattle.ground.specs.Plain.{if◌then◌else◌}
+use Rattle.std.specs.Prelude.{◌≡◌, refl, true, false, List, [], ◌∷◌, take, if◌then◌else◌}
 use Rattle.ground.specs.Types.{Bytes}
 use Rattle.session_lines.specs.Line.{line_of}
 use Rattle.sender.specs.Board.{board_of}

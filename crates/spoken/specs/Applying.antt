@@ -1,6 +1,6 @@
 -- Changes applied to a board: 'changes that don't fit the board they are applied to is 2, and the board stays.' (02, 2026-10)
-use Rattle.std.specs.Prelude.{Bool, true, false, not, ◌&&◌, List, ℕ, zero, suc, get_or, set}
-use Rattle.ground.specs.Plain.{if◌then◌else◌, ◌<?◌, ◌≤?◌}
+use Rattle.std.specs.Prelude.{Bool, true, false, not, ◌&&◌, List, ℕ, zero, suc, get_or, set, if◌then◌else◌}
+use Rattle.ground.specs.Plain.{◌<?◌, ◌≤?◌}
 use Rattle.ground.specs.Counting.Words.{every}
 use Rattle.sender.specs.declared.board.Board.{Board}
 use Rattle.sender.specs.declared.board.Row.{Row}

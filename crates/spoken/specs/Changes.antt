@@ -1,7 +1,7 @@
 -- The spoken changes: 'slot, old state and number, new state and number, in slot order, then the wait if it differs.' (02, 2026-10)
-use Rattle.std.specs.Prelude.{Bool, not, ◌&&◌, List, [], ◌∷◌, ◌++◌, ℕ, zero, suc, drop, length, replicate}
+use Rattle.std.specs.Prelude.{Bool, not, ◌&&◌, List, [], ◌∷◌, ◌++◌, ℕ, zero, suc, drop, length, replicate, if◌then◌else◌, ◌==◌}
 use Rattle.std.specs.Bool.{beq}
-use Rattle.ground.specs.Plain.{if◌then◌else◌, ◌==◌, ◌≤?◌}
+use Rattle.ground.specs.Plain.{◌≤?◌}
 use Rattle.sender.specs.declared.board.Board.{Board}
 use Rattle.sender.specs.declared.board.Row.{Row}
 use Rattle.sender.specs.Ranks.{row_at}

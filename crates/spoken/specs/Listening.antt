@@ -1,6 +1,5 @@
 -- Someone who listens (item 1 of the minutes): she holds a board, and at the start of an epoch she is told the changes to the board that goes out.
-use Rattle.std.specs.Prelude.{Bool, List, [], ◌∷◌}
-use Rattle.ground.specs.Plain.{if◌then◌else◌}
+use Rattle.std.specs.Prelude.{Bool, List, [], ◌∷◌, if◌then◌else◌}
 use Rattle.sender.specs.declared.board.Board.{Board}
 use Rattle.sender.specs.declared.epochs.Sender.{Sender}
 use Rattle.sender.specs.Epochs.{SenderCall, sender_outcome_of}

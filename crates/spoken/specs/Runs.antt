@@ -1,6 +1,5 @@
 -- Changes in runs: slots next to each other, whose old and new words are alike and whose numbers rise by one with each slot or are alike, are told at once.
-use Rattle.std.specs.Prelude.{Bool, ◌&&◌, ◌||◌, List, [], ◌∷◌, ◌++◌, ℕ, suc, ◌+◌, ◌-◌}
-use Rattle.ground.specs.Plain.{if◌then◌else◌, ◌==◌}
+use Rattle.std.specs.Prelude.{Bool, ◌&&◌, ◌||◌, List, [], ◌∷◌, ◌++◌, ℕ, suc, ◌+◌, ◌-◌, if◌then◌else◌, ◌==◌}
 use Rattle.ground.specs.Table.{tabulate}
 use Rattle.sender.specs.declared.board.Row.{Row}
 use Rattle.spoken.specs.declared.lists.Change.{Change}

@@ -1,6 +1,6 @@
 -- What theorems say of boards, changes and runs (request 2026-10).
-use Rattle.std.specs.Prelude.{◌≡◌, Bool, true, false, ◌&&◌, List, [], ◌∷◌, ◌++◌, ℕ, ◌+◌, ◌<◌, take}
-use Rattle.ground.specs.Plain.{if◌then◌else◌, ◌==◌, ◌≤?◌}
+use Rattle.std.specs.Prelude.{◌≡◌, Bool, true, false, ◌&&◌, List, [], ◌∷◌, ◌++◌, ℕ, ◌+◌, ◌<◌, take, if◌then◌else◌, ◌==◌}
+use Rattle.ground.specs.Plain.{◌≤?◌}
 use Rattle.ground.specs.Counting.Words.{count}
 use Rattle.sender.specs.Board.{board_of}
 use Rattle.sender.specs.Numbering.{Demand2}

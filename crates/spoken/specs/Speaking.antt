@@ -1,6 +1,6 @@
 -- The spoken lines: one change a line, fields parted by tabs, the words first; then the wait. No line where nothing has changed.
-use Rattle.std.specs.Prelude.{Bool, false, not, ◌&&◌, ◌||◌, List, [], ◌++◌, ℕ, zero, suc, drop, length}
-use Rattle.ground.specs.Plain.{if◌then◌else◌, ◌==◌, ◌<?◌, ◌≤?◌}
+use Rattle.std.specs.Prelude.{Bool, false, not, ◌&&◌, ◌||◌, List, [], ◌++◌, ℕ, zero, suc, drop, length, if◌then◌else◌, ◌==◌}
+use Rattle.ground.specs.Plain.{◌<?◌, ◌≤?◌}
 use Rattle.ground.specs.Types.{Bytes}
 use Rattle.ground.specs.Counting.Words.{every}
 use Rattle.packet.specs.declared.words.Word.{Word}

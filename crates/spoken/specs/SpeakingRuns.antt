@@ -1,7 +1,7 @@
 -- The lines of runs: `slots 1 to 62 was NORM 1 to 62 now NORM 0 to 61`. A run of one is told as its change is.
-use Rattle.std.specs.Prelude.{Bool, true, false, ◌&&◌, List, [], ◌∷◌, ◌++◌, ℕ, drop, length, take}
+use Rattle.std.specs.Prelude.{Bool, true, false, ◌&&◌, List, [], ◌∷◌, ◌++◌, ℕ, drop, length, take, if◌then◌else◌, ◌==◌}
 use Rattle.ground.specs.Flags.{one_if}
-use Rattle.ground.specs.Plain.{if◌then◌else◌, ◌==◌, ◌<?◌, ◌≤?◌}
+use Rattle.ground.specs.Plain.{◌<?◌, ◌≤?◌}
 use Rattle.ground.specs.Table.{tabulate}
 use Rattle.ground.specs.Counting.Words.{every}
 use Rattle.packet.specs.Words.{IDLE}

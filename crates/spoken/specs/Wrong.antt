@@ -1,6 +1,5 @@
 -- Wrong readings of 02, each as a definition with a run on which it breaks what 02 says.
-use Rattle.std.specs.Prelude.{◌≡◌, refl, Bool, not, ◌&&◌, List, [], ◌∷◌, ◌++◌, ℕ, zero, suc, replicate, set}
-use Rattle.ground.specs.Plain.{if◌then◌else◌, ◌==◌}
+use Rattle.std.specs.Prelude.{◌≡◌, refl, Bool, not, ◌&&◌, List, [], ◌∷◌, ◌++◌, ℕ, zero, suc, replicate, set, if◌then◌else◌, ◌==◌}
 use Rattle.packet.specs.Words.{ADD, DNU, EOS, IDLE, NORM}
 use Rattle.sender.specs.Board.{board_of, word}
 use Rattle.sender.specs.declared.board.Board.{Board}

@@ -1,6 +1,5 @@
 // The changes from one board to another: 'slot, old state and number, new state and number, in slot order, then the wait if it differs.'
-ghost use Rattle.std.specs.Prelude.{◌≡◌, ◌≤◌};
-ghost use Rattle.ground.specs.Plain.{if◌then◌else◌};
+ghost use Rattle.std.specs.Prelude.{◌≡◌, ◌≤◌, if◌then◌else◌};
 ghost use Rattle.spoken.specs.Changes.{changes_in, compared_of, wait_change};
 
 use crate::lists;

@@ -1,6 +1,5 @@
 // Changes in runs: slots next to each other, with old and new words alike and numbers that rise by one with each slot or are alike.
-ghost use Rattle.std.specs.Prelude.{◌≡◌};
-ghost use Rattle.ground.specs.Plain.{if◌then◌else◌};
+ghost use Rattle.std.specs.Prelude.{◌≡◌, if◌then◌else◌};
 ghost use Rattle.spoken.specs.Runs.{continues, longer, numbers_continue, row_continues, single};
 
 use crate::lists::Change;

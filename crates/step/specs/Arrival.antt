@@ -1,7 +1,7 @@
 -- What one frame of a port does (01, 'Step', 'Beginning', 'Window'), decided on the group's and the port's records.
-use Rattle.std.specs.Prelude.{Bool, true, false, not, ◌&&◌, ◌||◌, ℕ}
+use Rattle.std.specs.Prelude.{Bool, true, false, not, ◌&&◌, ◌||◌, ℕ, if◌then◌else◌, ◌==◌}
 pub use Rattle.ground.specs.Flags.{flag_of}
-use Rattle.ground.specs.Plain.{if◌then◌else◌, ◌==◌, ◌<?◌}
+use Rattle.ground.specs.Plain.{◌<?◌}
 use Rattle.ground.specs.Types.{Tag}
 use Rattle.packet.specs.Kinds.{distance_of, ends_epoch, epochs_in, first_tag, starts_epoch}
 use Rattle.rows.specs.declared.group.Group.{Group}

@@ -1,6 +1,5 @@
 -- A packet read for what it rules by a table of shares that a function is lent (request 2026-02), whatever stands in it. By `shares_of` it is `own_ruling` (Laws.ByTable).
-use Rattle.std.specs.Prelude.{◌||◌, List, ℕ}
-use Rattle.ground.specs.Plain.{if◌then◌else◌, ◌==◌}
+use Rattle.std.specs.Prelude.{◌||◌, List, ℕ, if◌then◌else◌, ◌==◌}
 use Rattle.packet.specs.declared.ruling.Ruling.{Ruling}
 use Rattle.packet.specs.ByTable.{ruling_with}
 use Rattle.packet.specs.Fixed.{fixed_ruling_of}

@@ -1,6 +1,5 @@
 -- When step is lost, in the requests' own words: of H4 2026-04, of VC-12 2026-01.
-use Rattle.std.specs.Prelude.{◌≡◌, ◌≢◌, Bool, true, false, not, ℕ, ◌+◌, ◌*◌, ◌/◌, ◌%◌, ◌≤◌}
-use Rattle.ground.specs.Plain.{◌==◌}
+use Rattle.std.specs.Prelude.{◌≡◌, ◌≢◌, Bool, true, false, not, ℕ, ◌+◌, ◌*◌, ◌/◌, ◌%◌, ◌≤◌, ◌==◌}
 use Rattle.packet.specs.Counts.{h4_counts, says_start}
 use Rattle.step.specs.declared.run.Run.{Run}
 

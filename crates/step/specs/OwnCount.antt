@@ -1,6 +1,5 @@
 -- A packet by the receiver's own count (request 2026-04), and by the kind of packet (requests 2026-01 and 2026-12). Of VC-12 the step rule has the count of each packet, and 'keeps its step rule'.
-use Rattle.std.specs.Prelude.{Bool, not, ◌&&◌, ◌||◌, List, ℕ}
-use Rattle.ground.specs.Plain.{if◌then◌else◌, ◌==◌}
+use Rattle.std.specs.Prelude.{Bool, not, ◌&&◌, ◌||◌, List, ℕ, if◌then◌else◌, ◌==◌}
 use Rattle.ground.specs.Types.{Epoch, Tag}
 use Rattle.packet.specs.declared.ruling.Ruling.{Ruling}
 use Rattle.packet.specs.Fixed.{fixed_ruling_of}

@@ -1,6 +1,6 @@
 -- The step rule (01, 'Step'; request 2026-04), by the kind of packet. This file says when a port comes into step and when it loses it; of VC-12 Starts does.
-use Rattle.std.specs.Prelude.{Bool, not, ◌&&◌, ◌||◌, ℕ, ◌+◌, ◌*◌}
-use Rattle.ground.specs.Plain.{if◌then◌else◌, ◌==◌, ◌≤?◌}
+use Rattle.std.specs.Prelude.{Bool, not, ◌&&◌, ◌||◌, ℕ, ◌+◌, ◌*◌, if◌then◌else◌, ◌==◌}
+use Rattle.ground.specs.Plain.{◌≤?◌}
 use Rattle.ground.specs.Types.{Tag}
 use Rattle.packet.specs.Counts.{starts_count, tag_by_high, carries_low, tag_by_low, h4_counts}
 use Rattle.packet.specs.Kinds.{ends_epoch, frames, place_of, tag_after, vc12_kind}

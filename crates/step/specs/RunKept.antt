@@ -1,6 +1,5 @@
 -- What holds of a port's run of frames after any frames, by the kind of packet.
-use Rattle.std.specs.Prelude.{◌≡◌, true, ℕ, ◌*◌, ◌%◌, ◌≤◌, ◌<◌}
-use Rattle.ground.specs.Plain.{if◌then◌else◌, ◌==◌}
+use Rattle.std.specs.Prelude.{◌≡◌, true, ℕ, ◌*◌, ◌%◌, ◌≤◌, ◌<◌, if◌then◌else◌, ◌==◌}
 use Rattle.packet.specs.Counts.{tag_by_high}
 use Rattle.packet.specs.Kinds.{frames, tags, vc12_kind}
 use Rattle.step.specs.declared.run.Run.{Run}

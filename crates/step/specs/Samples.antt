@@ -1,6 +1,6 @@
 -- VC-12's step rule on frames worked out by hand (request 2026-01): what each is answered, 12 or 0, of a fresh port before the beginning.
-use Rattle.std.specs.Prelude.{◌≡◌, refl, false, not, ◌&&◌, List, [], ◌∷◌, ◌++◌, ℕ, ◌+◌, ◌/◌, ◌%◌, drop, replicate, take}
-use Rattle.ground.specs.Plain.{if◌then◌else◌, ◌==◌, ◌<?◌}
+use Rattle.std.specs.Prelude.{◌≡◌, refl, false, not, ◌&&◌, List, [], ◌∷◌, ◌++◌, ℕ, ◌+◌, ◌/◌, ◌%◌, drop, replicate, take, if◌then◌else◌, ◌==◌}
+use Rattle.ground.specs.Plain.{◌<?◌}
 use Rattle.ground.specs.Table.{tabulate}
 use Rattle.packet.specs.Counts.{says_start, told_bits}
 use Rattle.packet.specs.Kinds.{vc12_kind}

@@ -1,7 +1,7 @@
 -- The run of the step rule on frames as sent, over the kind of packet, written down outright: where it starts, what it is after each frame, and what stays of it in step where only the kept part of frames comes as sent (request 2026-04).
 -- Position x has the tag of the (c0 + x)-th frame after one with tag 0.
-use Rattle.std.specs.Prelude.{◌≡◌, ◌≢◌, true, ℕ, ◌+◌, ◌-◌, ◌*◌, ◌/◌, ◌%◌, ◌≤◌, ◌<◌, min}
-use Rattle.ground.specs.Plain.{if◌then◌else◌, ◌<?◌, ◌==◌}
+use Rattle.std.specs.Prelude.{◌≡◌, ◌≢◌, true, ℕ, ◌+◌, ◌-◌, ◌*◌, ◌/◌, ◌%◌, ◌≤◌, ◌<◌, min, if◌then◌else◌, ◌==◌}
+use Rattle.ground.specs.Plain.{◌<?◌}
 use Rattle.ground.specs.Types.{Tag}
 use Rattle.packet.specs.Counts.{told_bits, told_first}
 use Rattle.packet.specs.Kinds.{frames, lead, place_of, tag_of, vc12_kind}

@@ -1,6 +1,6 @@
 -- VC-12's step rule (request 2026-01): 'A port is in step after two whole packets in a row whose counts differ by one'. A frame has one bit of its packet, and the host says with which a packet starts.
-use Rattle.std.specs.Prelude.{not, ◌&&◌, ◌||◌, ℕ, ◌+◌, ◌*◌, ◌/◌, ◌%◌}
-use Rattle.ground.specs.Plain.{if◌then◌else◌, ◌==◌, ◌<?◌}
+use Rattle.std.specs.Prelude.{not, ◌&&◌, ◌||◌, ℕ, ◌+◌, ◌*◌, ◌/◌, ◌%◌, if◌then◌else◌, ◌==◌}
+use Rattle.ground.specs.Plain.{◌<?◌}
 use Rattle.packet.specs.Counts.{says_start}
 use Rattle.step.specs.declared.run.Run.{Run}
 

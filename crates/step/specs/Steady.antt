@@ -1,7 +1,7 @@
 -- The frame of H4 that comes most often: steady, with the tag that was to come, of a joined port in step; and in mid-epoch, which is in the window and not the last of its epoch.
 -- Of the port's records it changes the next tag and one nibble alone.
-use Rattle.std.specs.Prelude.{Bool, true, false, not, ◌&&◌, ℕ}
-use Rattle.ground.specs.Plain.{◌==◌, ◌<?◌}
+use Rattle.std.specs.Prelude.{Bool, true, false, not, ◌&&◌, ℕ, ◌==◌}
+use Rattle.ground.specs.Plain.{◌<?◌}
 use Rattle.packet.specs.Counts.{h4_counts}
 use Rattle.packet.specs.Kinds.{ends_epoch, tag_after}
 use Rattle.rows.specs.declared.group.Group.{Group}

@@ -1,6 +1,5 @@
 -- VC-12's step rule in the request's own words (2026-01), on the bytes that a fresh port is handed, none flagged: 'two whole packets in a row whose counts differ by one', each start said where it is due and nowhere else.
-use Rattle.std.specs.Prelude.{◌≡◌, true, false, [], ◌∷◌, ℕ, zero, suc, ◌+◌, ◌-◌, ◌*◌, ◌%◌, ◌≤◌, ◌<◌, get_or, length}
-use Rattle.ground.specs.Plain.{◌==◌}
+use Rattle.std.specs.Prelude.{◌≡◌, true, false, [], ◌∷◌, ℕ, zero, suc, ◌+◌, ◌-◌, ◌*◌, ◌%◌, ◌≤◌, ◌<◌, get_or, length, ◌==◌}
 use Rattle.ground.specs.Types.{Bytes}
 use Rattle.packet.specs.Counts.{says_start}
 use Rattle.packet.specs.Kinds.{vc12_kind}

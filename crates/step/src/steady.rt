@@ -1,6 +1,5 @@
 // The frame of H4 that comes most often: it changes a port's next tag and one nibble alone.
-ghost use Rattle.std.specs.Prelude.{◌≡◌, ◌&&◌};
-ghost use Rattle.ground.specs.Plain.{◌==◌};
+ghost use Rattle.std.specs.Prelude.{◌≡◌, ◌&&◌, ◌==◌};
 ghost use Rattle.packet.specs.Counts.{h4_counts};
 ghost use Rattle.step.specs.Arrival.{flag_of, in_step};
 ghost use Rattle.step.specs.Steady.{mid_epoch, steady};

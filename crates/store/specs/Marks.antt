@@ -1,7 +1,7 @@
 -- A port's marks: 128 bits in one row of sixteen bytes. Bit i says that all frames of the i-th epoch of the window, counted from the oldest, stand in the store.
-use Rattle.std.specs.Prelude.{◌≡◌, Bool, ℕ, ◌+◌, ◌*◌, ◌/◌, ◌%◌, ◌^◌, ◌<◌, get_or, length, set}
+use Rattle.std.specs.Prelude.{◌≡◌, Bool, ℕ, ◌+◌, ◌*◌, ◌/◌, ◌%◌, ◌^◌, ◌<◌, get_or, length, set, if◌then◌else◌}
 use Rattle.ground.specs.Bits.{odd}
-use Rattle.ground.specs.Plain.{if◌then◌else◌, ◌<?◌}
+use Rattle.ground.specs.Plain.{◌<?◌}
 use Rattle.ground.specs.Table.{tabulate}
 use Rattle.ground.specs.Types.{Bytes}
 

@@ -1,6 +1,5 @@
 -- A link of demand 3 on which 'all packets undamaged' (02, 2026-13) come, and the numbers that a history's slots have.
-use Rattle.std.specs.Prelude.{◌≡◌, Bool, ◌&&◌, ℕ, ◌<◌}
-use Rattle.ground.specs.Plain.{◌==◌}
+use Rattle.std.specs.Prelude.{◌≡◌, Bool, ◌&&◌, ℕ, ◌<◌, ◌==◌}
 use Rattle.ground.specs.Counting.Words.{some}
 use Rattle.sender.specs.Numbering.{number_in, state_in}
 use Rattle.sender.specs.Table.{is_member}

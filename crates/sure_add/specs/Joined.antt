@@ -1,7 +1,7 @@
 -- 'Join our sender and receiver over a path with whole-epoch delays, a out and b back, all packets undamaged' (02, 2026-13): the way out is a link of demand 3, frame by frame, and the way back is packets of
 -- another sender of ours, whose MST and RS-Ack are the receiver's reply.
-use Rattle.std.specs.Prelude.{◌≡◌, ◌≢◌, false, List, [], ◌∷◌, ◌++◌, ℕ, suc, ◌+◌, ◌-◌, ◌*◌, ◌≤◌, ◌<◌, get_or}
-use Rattle.ground.specs.Plain.{if◌then◌else◌, ◌≤?◌}
+use Rattle.std.specs.Prelude.{◌≡◌, ◌≢◌, false, List, [], ◌∷◌, ◌++◌, ℕ, suc, ◌+◌, ◌-◌, ◌*◌, ◌≤◌, ◌<◌, get_or, if◌then◌else◌}
+use Rattle.ground.specs.Plain.{◌≤?◌}
 use Rattle.ground.specs.Types.{Bytes}
 use Rattle.packet.specs.declared.reader.Reading.{Reading}
 use Rattle.packet.specs.declared.reader.Reading.TheVariants.{Packet, Length, Crc, Fixed, Unassigned}

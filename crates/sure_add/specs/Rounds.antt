@@ -1,7 +1,6 @@
 -- The same over calls, whatever befalls the other ports: a receiver that is handed any frames, flagged or not, and gives one report by each start; a sender that is handed what the reports say. From the add on: start 0 is the
 -- last one before it. What was under way then is anything.
-use Rattle.std.specs.Prelude.{◌≡◌, ◌≢◌, Bool, true, false, List, [], ℕ, zero, suc, ◌+◌, ◌%◌, ◌≤◌, ◌<◌, get_or, length}
-use Rattle.ground.specs.Plain.{if◌then◌else◌}
+use Rattle.std.specs.Prelude.{◌≡◌, ◌≢◌, Bool, true, false, List, [], ℕ, zero, suc, ◌+◌, ◌%◌, ◌≤◌, ◌<◌, get_or, length, if◌then◌else◌}
 use Rattle.ground.specs.Types.{Bytes, Rows}
 use Rattle.packet.specs.Kinds.{epochs}
 use Rattle.packet.specs.declared.ruling.Ruling.{Ruling}

@@ -1,6 +1,5 @@
 -- An add that is sure to finish (02, 2026-13), proved: over frames, and over calls.
-use Rattle.std.specs.Prelude.{◌≡◌, ◌≢◌, true, false, not, ℕ, suc, ◌+◌, ◌/◌, ◌≤◌, ◌<◌, get_or}
-use Rattle.ground.specs.Plain.{◌==◌}
+use Rattle.std.specs.Prelude.{◌≡◌, ◌≢◌, true, false, not, ℕ, suc, ◌+◌, ◌/◌, ◌≤◌, ◌<◌, get_or, ◌==◌}
 use Rattle.packet.specs.Kinds.{fixed_kind, mst_fails}
 use Rattle.packet.specs.Mst.{Spoken}
 use Rattle.receiver.specs.Shown.{reply_of}

@@ -1,7 +1,7 @@
 -- Texts put into a buffer, and what a number and a word are as text.
-use Rattle.std.specs.Prelude.{◌≡◌, Bool, List, [], ◌∷◌, ◌++◌, ℕ, zero, suc, ◌+◌, ◌/◌, ◌%◌, length}
+use Rattle.std.specs.Prelude.{◌≡◌, Bool, List, [], ◌∷◌, ◌++◌, ℕ, zero, suc, ◌+◌, ◌/◌, ◌%◌, length, if◌then◌else◌, ◌==◌}
 use Rattle.std.proofs.lemmas.List.Edits.{sets}
-use Rattle.ground.specs.Plain.{if◌then◌else◌, ◌==◌, ◌<?◌, ◌≤?◌}
+use Rattle.ground.specs.Plain.{◌<?◌, ◌≤?◌}
 use Rattle.ground.specs.Types.{Bytes}
 use Rattle.packet.specs.declared.words.Word.{Word}
 use Rattle.packet.specs.Words.{ADD, DNU, EOS, NORM}

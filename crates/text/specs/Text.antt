@@ -1,6 +1,5 @@
 -- 'Lines of text, fields parted by tabs.' (01, 'Session')
-use Rattle.std.specs.Prelude.{List, [], ◌∷◌, ℕ}
-use Rattle.ground.specs.Plain.{if◌then◌else◌, ◌==◌}
+use Rattle.std.specs.Prelude.{List, [], ◌∷◌, ℕ, if◌then◌else◌, ◌==◌}
 use Rattle.ground.specs.Types.{Bytes}
 
 abbrev pub TAB : ℕ

@@ -1,6 +1,5 @@
 -- Examples of request 2026-12, fixed groups, worked out apart: verdicts, what a packet rules, states and reply, and what a start answers.
-use Rattle.std.specs.Prelude.{Bool, true, false, List, [], ◌∷◌, ◌++◌, ℕ, length, replicate, take}
-use Rattle.ground.specs.Plain.{if◌then◌else◌}
+use Rattle.std.specs.Prelude.{Bool, true, false, List, [], ◌∷◌, ◌++◌, ℕ, length, replicate, take, if◌then◌else◌}
 use Rattle.ground.specs.Types.{Bytes, Epoch}
 use Rattle.c_receiver.specs.Receivers.{start_as_answer_c}
 use Rattle.tables.specs.Rows.{Equal, Row, equal_rows, row, same}

@@ -1,5 +1,5 @@
 -- 01's examples, marked P1 to P11, its limits, examples worked out apart for what those leave open, and those of requests that have landed, in one table under one statement. Bytes stand in hexadecimal, as 01 has them.
-use Rattle.std.specs.Prelude.{List, [], ◌∷◌, ◌++◌, ℕ, ◌+◌, length, replicate}
+use Rattle.std.specs.Prelude.{List, [], ◌∷◌, ◌++◌, ℕ, ◌+◌, length, replicate, if◌then◌else◌}
 use Rattle.packet.specs.declared.layout.Fields.{Fields}
 use Rattle.packet.specs.Crc.{crc_of}
 use Rattle.packet.specs.Fixed.{read_fixed_answer, write_fixed_answer, write_fixed_bytes}
@@ -17,7 +17,6 @@ use Rattle.paths.specs.Planning.{set_of}
 use Rattle.payload.specs.Answers.{number_of}
 use Rattle.payload.specs.Joining.{joined, whole_answer}
 use Rattle.payload.specs.Spreading.{spread_all}
-use Rattle.ground.specs.Plain.{if◌then◌else◌}
 use Rattle.ground.specs.Table.{tabulate}
 use Rattle.ground.specs.Types.{Bytes}
 use Rattle.packet.specs.Kinds.{frames}

@@ -1,7 +1,6 @@
 -- Examples of request 2026-05, a recording run again, worked out apart: one port, P 1, 72 frames of IDLE packets from MFI1 0 and MFI2 0 on, to the first report. And three wrong
 -- readings, which this run breaks.
-use Rattle.std.specs.Prelude.{◌≡◌, refl, List, [], ◌∷◌, ◌++◌, ℕ, drop, replicate, take}
-use Rattle.ground.specs.Plain.{if◌then◌else◌}
+use Rattle.std.specs.Prelude.{◌≡◌, refl, List, [], ◌∷◌, ◌++◌, ℕ, drop, replicate, take, if◌then◌else◌}
 use Rattle.recording.specs.declared.record.Record.{Record}
 use Rattle.recording.specs.declared.record.Record.TheVariants as R
 use Rattle.replay_lines.specs.declared.replay.Phase.{Phase}

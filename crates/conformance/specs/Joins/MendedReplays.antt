@@ -1,13 +1,13 @@
 -- A mended recording is replayed with no line answered 13 (requests 2026-11 and 2026-05).
 -- Its first line is as it was and can be read; every other line is a frame under its settings, and a replay keeps these to its end.
-use Rattle.std.specs.Prelude.{◌≡◌, Bool, ◌&&◌, ◌⊎◌, ℕ, zero, suc, length, take}
+use Rattle.std.specs.Prelude.{◌≡◌, Bool, ◌&&◌, ◌⊎◌, ℕ, zero, suc, length, take, if◌then◌else◌}
 use Rattle.std.proofs.Math.Path.{refl, ap}
 use Rattle.std.proofs.Common.{sym, ◌∙◌, arith}
 use Rattle.std.proofs.Math.Bool.{true, false, and_assoc}
 use Rattle.std.proofs.lemmas.Bool.{false≢true}
 use mathlib.Core.List.{List, [], ◌∷◌, ◌++◌}
 use Rattle.std.proofs.Math.Logic.{inl, inr}
-use Rattle.ground.specs.Plain.{if◌then◌else◌, ◌≤?◌}
+use Rattle.ground.specs.Plain.{◌≤?◌}
 use Rattle.mending.specs.Laws.Lines.{Frames, fits_followed, followed_left, frames_out}
 use Rattle.mending.specs.Laws.Opened.{mended_lines_lem, mended_rest, counted_in, ports_in, size_in}
 use Rattle.mending.specs.Laws.Texts.{bytes_with, bytes_of}

@@ -1,5 +1,5 @@
 -- Demand 3 begins at the sender's own packets and payload. Here they are the bytes that its C calls write: after the C calls of a history up to its i-th epoch, and any calls on the table after it, each slot's packet and payload are those that the history sends.
-use Rattle.std.specs.Prelude.{◌≡◌, refl, Bool, true, ◌&&◌, List, [], ◌∷◌, ◌++◌, ℕ, zero, suc, ◌<◌, length, replicate}
+use Rattle.std.specs.Prelude.{◌≡◌, refl, Bool, true, ◌&&◌, List, [], ◌∷◌, ◌++◌, ℕ, zero, suc, ◌<◌, length, replicate, if◌then◌else◌}
 use Rattle.std.proofs.Math.Path.{sym, ap}
 use Rattle.std.proofs.Common.{◌∙◌, arith, lt-ltb}
 use Rattle.std.proofs.lemmas.List.{length-replicate}
@@ -8,7 +8,7 @@ use Rattle.c_face.specs.Runs.{numbers_fit, meant, run_c}
 use Rattle.c_face.specs.Senders.{packet_bytes_c, payload_bytes_c, start_answer_c, start_state_c}
 use Rattle.c_face.specs.Theorems.CratesOwn.{packet_own, payload_own}
 use Rattle.c_face.specs.Theorems.Runs.{runs_own, runs_sized}
-use Rattle.ground.specs.Plain.{if◌then◌else◌, ◌<?◌}
+use Rattle.ground.specs.Plain.{◌<?◌}
 use Rattle.ground.specs.Truth.{and-true}
 use Rattle.link.specs.History.{Allowed, Handed, History, calls_to, packet_sent, payload_sent, sender_at}
 use Rattle.link.specs.Proofs.Histories.Senders.{sender_in, sender_run_lem, size_at}

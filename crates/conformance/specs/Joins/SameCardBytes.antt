@@ -1,5 +1,5 @@
 -- Demand 3 for each group of a card (02, 2026-06), joined to the bytes of the card's C calls: after the C calls of a history each slot of the group's ports is written, with 0, the packet and payload that its link has as sent.
-use Rattle.std.specs.Prelude.{◌≡◌, refl, ◌≢◌, Bool, true, List, ◌∷◌, ℕ, zero, suc, ◌≤◌, ◌<◌, length}
+use Rattle.std.specs.Prelude.{◌≡◌, refl, ◌≢◌, Bool, true, List, ◌∷◌, ℕ, zero, suc, ◌≤◌, ◌<◌, length, if◌then◌else◌}
 use Rattle.std.proofs.Common.{sym, ◌∙◌}
 use Rattle.std.proofs.Math.Path.{ap}
 use Rattle.c_cards.specs.CardRuns.{numbers_fit, meant, state_after_all}
@@ -13,7 +13,6 @@ use Rattle.cards.specs.declared.card.Card.{Card}
 use Rattle.cards.specs.Readings.{packet_answer, packet_bytes, payload_answer, payload_bytes}
 use Rattle.cards.specs.Parts as P
 use Rattle.cards.specs.Views.{Made, run}
-use Rattle.ground.specs.Plain.{if◌then◌else◌}
 use Rattle.ground.specs.Table.{tabulate}
 use Rattle.groups.specs.Assumed.{AssumedEach}
 use Rattle.groups.specs.Cards.{CardHistory, card_at}

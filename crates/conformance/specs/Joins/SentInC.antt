@@ -2,7 +2,7 @@
 -- it has a byte for each frame of an epoch, each byte counts at its place (of VC-12: says the start at place 0 and nowhere else, and has the count's bits at places 0 to 4), and it reads back as what the sender says.
 use Rattle.std.proofs.Math.Path.{◌≡◌, refl}
 use Rattle.std.proofs.Common.{sym, ap, ◌∙◌, ⊎_elim, arith}
-use Rattle.std.specs.Prelude.{Bool, not, ◌&&◌, ◌||◌, List, [], ◌∷◌, ℕ, ◌≤◌, ◌<◌, get_or, length}
+use Rattle.std.specs.Prelude.{Bool, not, ◌&&◌, ◌||◌, List, [], ◌∷◌, ℕ, ◌≤◌, ◌<◌, get_or, length, if◌then◌else◌, ◌==◌}
 use Rattle.std.proofs.Math.Bool.{true, false}
 use borrow.Author.Tests.{eq-eqb, lt-ltb, ltb-false, ltb-true}
 use Rattle.c_face.specs.Keeping.{sender_of}
@@ -10,7 +10,7 @@ use Rattle.c_face.specs.Runs.{numbers_fit, meant, run_c}
 use Rattle.c_face.specs.Senders.{are_bytes, is_epoch, is_state, outside, packet_answer_c, packet_bytes_c, sends, start_answer_c, start_state_c}
 use Rattle.c_face.specs.Theorems.CratesOwn.{packet_own}
 use Rattle.c_face.specs.Theorems.Runs.{runs_own, runs_sized}
-use Rattle.ground.specs.Plain.{if◌then◌else◌, ◌==◌, ◌<?◌}
+use Rattle.ground.specs.Plain.{◌<?◌}
 use Rattle.ground.specs.Truth.{and_left, and_right, le_or_lt, neither}
 use Rattle.packet.specs.AsSent.{Sent}
 use Rattle.packet.specs.Counts.{counts}

@@ -1,6 +1,6 @@
 -- The refusals of a card's C calls (02, 2026-06): a state of another length is 9, a group other than the two 1, what is no byte 8, then the card's own. The state is lent, so it stands as the state and not among the lent slices: under 4 starting leaves two empty groups in it.
-use Rattle.std.specs.Prelude.{◌≡◌, refl, Bool, true, ◌&&◌, ◌||◌, List, [], ◌∷◌, ℕ, length}
-use Rattle.ground.specs.Plain.{if◌then◌else◌, ◌==◌, ◌<?◌}
+use Rattle.std.specs.Prelude.{◌≡◌, refl, Bool, true, ◌&&◌, ◌||◌, List, [], ◌∷◌, ℕ, length, if◌then◌else◌, ◌==◌}
+use Rattle.ground.specs.Plain.{◌<?◌}
 use Rattle.ground.specs.Types.{Bytes}
 use Rattle.c_cards.specs.Cards.{board_bytes_on, call_answer_on, call_state_on, card_of, outgoing_bytes_on, owned_bytes_on, packet_answer_on, packet_bytes_on, payload_answer_on, payload_bytes_on, put_card, ranks_bytes_on, shown_answer_on, shown_bytes_on, start_answer_on, start_state_on}
 use Rattle.c_face.specs.Senders.{are_bytes, sends}

@@ -1,7 +1,7 @@
 -- The refusals of a card with two circuits (02, 2026-06): 'order 1, 14, 15, 3, 2'; a claim 1, 14, a release 1, 14, 15, and the others 1, 14 or 1, then as the group's sender has it.
-use Rattle.std.specs.Prelude.{◌≡◌, refl, Bool, true, false, not, ◌&&◌, ◌||◌, List, [], ◌∷◌, ℕ, get_or, length, replicate}
+use Rattle.std.specs.Prelude.{◌≡◌, refl, Bool, true, false, not, ◌&&◌, ◌||◌, List, [], ◌∷◌, ℕ, get_or, length, replicate, if◌then◌else◌, ◌==◌}
 use Rattle.std.proofs.Common.{◌∙◌, ap}
-use Rattle.ground.specs.Plain.{if◌then◌else◌, ◌==◌, ◌<?◌}
+use Rattle.ground.specs.Plain.{◌<?◌}
 use Rattle.cards.specs.declared.answers.Answer.{Answer}
 use Rattle.cards.specs.declared.answers.Answer.TheVariants as A
 use Rattle.cards.specs.declared.card.Card.{Card}

@@ -1,9 +1,8 @@
 -- Demand 1 for one call of an entry point: the answer is the first of 01's numbers, in 01's order, whose condition holds, and what is left and returned is what 01 says under that number.
-use Rattle.std.specs.Prelude.{◌≡◌, refl, Bool, true, false, not, ◌||◌, List, [], ◌∷◌, ℕ}
+use Rattle.std.specs.Prelude.{◌≡◌, refl, Bool, true, false, not, ◌||◌, List, [], ◌∷◌, ℕ, if◌then◌else◌, ◌==◌}
 use Rattle.std.proofs.Common.{◌∙◌, sym, arith, ne_eqb}
 use Rattle.std.proofs.lemmas.Bool.{false≢true}
 use Prim.Native.String.{String}
-use Rattle.ground.specs.Plain.{if◌then◌else◌, ◌==◌}
 use Rattle.ground.specs.Truth.{cond_by}
 
 -- a number of 01, and the condition under which it is given or not given

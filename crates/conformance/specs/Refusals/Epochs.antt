@@ -1,8 +1,8 @@
 -- The refusals of a sender with its epochs: the table's calls as they are, the start of an epoch 8, the packet of a slot 1, 9, 2, the payload of a slot 1, 4, 9, 2.
-use Rattle.std.specs.Prelude.{refl, Bool, ◌&&◌, ◌||◌, List, [], ◌∷◌, ℕ, ◌*◌, length}
+use Rattle.std.specs.Prelude.{refl, Bool, ◌&&◌, ◌||◌, List, [], ◌∷◌, ℕ, ◌*◌, length, if◌then◌else◌, ◌==◌}
 use Rattle.std.proofs.Common.{ap}
 use Rattle.conformance.specs.Refusals.Receivers.{takes_payload}
-use Rattle.ground.specs.Plain.{if◌then◌else◌, ◌==◌, ◌<?◌}
+use Rattle.ground.specs.Plain.{◌<?◌}
 use Rattle.packet.specs.Kinds.{frames, payload_right}
 use Rattle.packet.specs.Laws.Writing.{answer_sized, unfit_bytes}
 use Rattle.packet.specs.Sent.{sent_fits}

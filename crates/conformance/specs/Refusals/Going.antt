@@ -1,6 +1,6 @@
 -- The refusals of the calls that tell the changes of the board going out (02, 2026-10): 9 for the state, of a card 1 for the group, 9 for the board told and for the changes, then 'different counts is 4'.
-use Rattle.std.specs.Prelude.{refl, List, [], ◌∷◌, ℕ, get_or, length}
-use Rattle.ground.specs.Plain.{◌==◌, ◌<?◌, ◌≤?◌}
+use Rattle.std.specs.Prelude.{refl, List, [], ◌∷◌, ℕ, get_or, length, ◌==◌}
+use Rattle.ground.specs.Plain.{◌<?◌, ◌≤?◌}
 use Rattle.c_cards.specs.Cards.{card_of}
 use Rattle.c_cards.specs.Going.{changes_answer_c, changes_answer_on, changes_bytes_c, changes_bytes_on, changes_told_c, changes_told_on, going_answer, going_changes, going_told}
 use Rattle.c_face.specs.Keeping.{sender_of}

@@ -1,7 +1,7 @@
 -- The refusals of the session: feeding and finishing 9; a line 13 where it is malformed, and else what its command is answered.
-use Rattle.std.specs.Prelude.{refl, true, ◌||◌, List, [], ◌∷◌, ℕ, length}
+use Rattle.std.specs.Prelude.{refl, true, ◌||◌, List, [], ◌∷◌, ℕ, length, ◌==◌}
 use Rattle.std.proofs.Common.{true≢false}
-use Rattle.ground.specs.Plain.{◌==◌, ◌<?◌}
+use Rattle.ground.specs.Plain.{◌<?◌}
 use Rattle.session_lines.specs.declared.line.Line.{Line}
 use Rattle.session_lines.specs.declared.line.Line.TheVariants.{Size, Add, Remove, Report, Lapse, Board, Malformed}
 use Rattle.session_lines.specs.declared.session.Session.{Session}

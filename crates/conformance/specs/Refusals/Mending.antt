@@ -1,6 +1,5 @@
 -- The refusals of mending (02, 2026-11): 'an unreadable first line is 13 and no lines are written'; settings out of range are 4, as in 2026-05, and a length that is not the one told 9.
-use Rattle.std.specs.Prelude.{◌≡◌, refl, Bool, true, false, ◌&&◌, List, [], ◌∷◌, ℕ, length, take}
-use Rattle.ground.specs.Plain.{if◌then◌else◌, ◌==◌}
+use Rattle.std.specs.Prelude.{◌≡◌, refl, Bool, true, false, ◌&&◌, List, [], ◌∷◌, ℕ, length, take, if◌then◌else◌, ◌==◌}
 use Rattle.c_recordings.specs.Mends.{lengths_answer_c, mend_answer_c, mended_c, mended_length_c, notes_c, notes_length_c}
 use Rattle.conformance.specs.Refusals.Entries.{Call, Copes, Refusal, Unless, copes, stateful, stateless}
 use Rattle.conformance.specs.Refusals.Receivers.{start_ranged, times_in_range}

@@ -1,6 +1,6 @@
 -- The one refusal of a work order (02, 2026-07): 'answers list of a different length than the commands is 9, and nothing is done'. Each command's own refusals are those of its single call (Cards.antt).
-use Rattle.std.specs.Prelude.{refl, List, [], ◌∷◌, ℕ, length, take}
-use Rattle.ground.specs.Plain.{◌==◌, ◌<?◌}
+use Rattle.std.specs.Prelude.{refl, List, [], ◌∷◌, ℕ, length, take, ◌==◌}
+use Rattle.ground.specs.Plain.{◌<?◌}
 use Rattle.c_cards.specs.Orders.{order_answer_on, order_answers_on, order_state_on}
 use Rattle.cards.specs.declared.card.Card.{Card}
 use Rattle.cards.specs.Answers.{answer_number}

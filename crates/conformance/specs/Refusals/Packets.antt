@@ -1,8 +1,8 @@
 -- The refusals of the packet's entry points, of H4 and of VC-12 (request 2026-01): writing 9, 8; reading 9, 5, 7, 6. Of a fixed group (request 2026-12) writing 9, 8; reading 9, 6.
-use Rattle.std.specs.Prelude.{◌≡◌, refl, Bool, true, false, not, ◌&&◌, ◌||◌, List, [], ◌∷◌, ℕ, ◌+◌, ◌*◌, ◌%◌, drop, get_or, length, take}
+use Rattle.std.specs.Prelude.{◌≡◌, refl, Bool, true, false, not, ◌&&◌, ◌||◌, List, [], ◌∷◌, ℕ, ◌+◌, ◌*◌, ◌%◌, drop, get_or, length, take, if◌then◌else◌, ◌==◌}
 use Rattle.ground.specs.Bits.{number}
 use Rattle.ground.specs.Finite.{same_bits}
-use Rattle.ground.specs.Plain.{if◌then◌else◌, ◌==◌, ◌<?◌}
+use Rattle.ground.specs.Plain.{◌<?◌}
 use Rattle.ground.specs.Polynomial.{check}
 use Rattle.ground.specs.Types.{Bytes}
 use Rattle.c_face.specs.Packets.{given, read_answer_c, read_fields_c, read_fixed_answer_c, read_fixed_fields_c, read_vc12_answer_c, read_vc12_fields_c, values_or, write_answer_c, write_bytes_c, write_fixed_answer_c, write_vc12_answer_c, write_vc12_bytes_c}

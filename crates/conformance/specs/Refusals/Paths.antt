@@ -1,6 +1,6 @@
 -- The refusals of the planner and of the check (request 2026-09): 4, 'before any search', then 9 of the result's buffer.
-use Rattle.std.specs.Prelude.{◌≡◌, refl, Bool, true, false, ◌&&◌, List, [], ◌∷◌, ℕ, get_or, length, replicate}
-use Rattle.ground.specs.Plain.{if◌then◌else◌, ◌==◌, ◌≤?◌}
+use Rattle.std.specs.Prelude.{◌≡◌, refl, Bool, true, false, ◌&&◌, List, [], ◌∷◌, ℕ, get_or, length, replicate, if◌then◌else◌, ◌==◌}
+use Rattle.ground.specs.Plain.{◌≤?◌}
 use Rattle.c_cards.specs.Plans.{check_answer_c, check_byte_c, lent_answer, lent_bytes, plan_answer_c, plan_bytes_c}
 use Rattle.ground.specs.Counting.Words.{every}
 use Rattle.paths.specs.Answers.{answer_of, are_short, number_of}

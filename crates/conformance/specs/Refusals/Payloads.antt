@@ -1,8 +1,8 @@
 -- The refusals of spreading and joining: '4 (X above 64, or P), 9; a group frame has X x P bytes'.
-use Rattle.std.specs.Prelude.{refl, Bool, ◌&&◌, List, [], ◌∷◌, ℕ, ◌+◌, ◌*◌, get_or, length}
+use Rattle.std.specs.Prelude.{refl, Bool, ◌&&◌, List, [], ◌∷◌, ℕ, ◌+◌, ◌*◌, get_or, length, ◌==◌}
 use Rattle.c_face.specs.Payloads.{join_answer_c, join_frame_c, spread_answer_c, spread_members_c}
 use Rattle.ground.specs.Finite.{below}
-use Rattle.ground.specs.Plain.{◌==◌, ◌≤?◌}
+use Rattle.ground.specs.Plain.{◌≤?◌}
 use Rattle.payload.specs.Answers.{answer_by, number_of, under_done}
 use Rattle.payload.specs.Joining.{from_answer, joined, joined_from, whole_answer}
 use Rattle.payload.specs.Spreading.{one_answer, spread_all, spread_one}

@@ -1,12 +1,12 @@
 -- The refusals of the receiver: a start 4, 9; a frame 1, 9, 10, 12, 11; a fetch and what is read out 9. The state's rows stand as the state and not among the lent slices. Under 10 and 12 the state changes and no lent byte does.
-use Rattle.std.specs.Prelude.{◌≡◌, refl, Bool, true, false, not, ◌&&◌, ◌||◌, List, [], ◌∷◌, ℕ, ◌+◌, ◌-◌, ◌*◌, ◌/◌, ◌%◌, get_or, length}
+use Rattle.std.specs.Prelude.{◌≡◌, refl, Bool, true, false, not, ◌&&◌, ◌||◌, List, [], ◌∷◌, ℕ, ◌+◌, ◌-◌, ◌*◌, ◌/◌, ◌%◌, get_or, length, if◌then◌else◌, ◌==◌}
 use Rattle.std.proofs.Common.{ap, arith}
 use Rattle.std.proofs.Math.Nat.{mod-mod}
 use Rattle.c_receiver.specs.Receivers.{failed_c, kind_c, start_as_answer_c, start_as_rows_c}
 use Rattle.conformance.specs.Refusals.Entries.{Call, Copes, If, Refusal, Under, Unless, copes, done, either, first, refused, stateful, stateless}
 use Rattle.ground.specs.Counting.Words.{every}
 use Rattle.ground.specs.Circle.{after}
-use Rattle.ground.specs.Plain.{if◌then◌else◌, ◌==◌, ◌<?◌, ◌≤?◌}
+use Rattle.ground.specs.Plain.{◌<?◌, ◌≤?◌}
 use Rattle.packet.specs.Kinds.{distance_of, first_tag, frames, lead, payload_right, tags}
 use Rattle.phases.specs.Sizes.{known_kind, ports_in, sized, start_sized, store_for}
 use Rattle.receiver.specs.Fetch.{fetch_of, lent_fits}

@@ -1,9 +1,9 @@
 -- The refusals of a replay's turn: 9 where what is lent is too short for the line that is to come. 13 and 4 are of lines, and are printed; of the lengths that a first line asks for they are answers.
-use Rattle.std.specs.Prelude.{◌≡◌, refl, Bool, true, false, ◌&&◌, List, [], ◌∷◌, ℕ, ◌+◌, ◌*◌, drop, length, take}
+use Rattle.std.specs.Prelude.{◌≡◌, refl, Bool, true, false, ◌&&◌, List, [], ◌∷◌, ℕ, ◌+◌, ◌*◌, drop, length, take, if◌then◌else◌, ◌==◌}
 use Rattle.std.proofs.Common.{◌∙◌, sym, arith, ne_eqb}
 use Rattle.std.proofs.lemmas.Bool.{false≢true}
 use Rattle.ground.specs.Flags.{one_if}
-use Rattle.ground.specs.Plain.{if◌then◌else◌, ◌==◌, ◌<?◌, ◌≤?◌}
+use Rattle.ground.specs.Plain.{◌<?◌, ◌≤?◌}
 use Rattle.ground.specs.Finding.{index_of}
 use Rattle.c_recordings.specs.Replays.{begin_answer_c, begin_state_c, bytes_of, last_c, lengths_answer_c, out_length_c, replay_of, store_length_c, turn_answer_c, turn_at_c, turn_out_c, turn_rows_c, turn_said_c, turn_state_c, turn_store_c, turn_wants_c, turn_written_c}
 use Rattle.conformance.specs.Refusals.Entries.{Call, Copes, Refusal, Unless, copes, done, stateful}

@@ -1,11 +1,10 @@
 -- The refusals of what the host reads of a receiver beside ports and reply, of receiving begun anew, and of the packet that a port is ruled by, read by its kind.
-use Rattle.std.specs.Prelude.{refl, ◌&&◌, List, [], ◌∷◌, ℕ, length}
+use Rattle.std.specs.Prelude.{refl, ◌&&◌, List, [], ◌∷◌, ℕ, length, ◌==◌}
 use Rattle.c_face.specs.Boards.{shown_answer_c}
 use Rattle.c_face.specs.Settings.{settings_bytes_c}
 use Rattle.conformance.specs.Refusals.Entries.{Call, Copes, Unless, copes, stateful, stateless}
 use Rattle.conformance.specs.Refusals.Receivers.{ports_of, rows_of, store_of}
 use Rattle.conformance.specs.Refusals.Senders.{is_whole, shows}
-use Rattle.ground.specs.Plain.{◌==◌}
 use Rattle.packet.specs.Kinds.{frames, tags}
 use Rattle.phases.specs.Sizes.{known_kind, ports_in, sized, store_for}
 use Rattle.receiver.specs.Anew.{anew_answer, anew_fits, anew_rows}

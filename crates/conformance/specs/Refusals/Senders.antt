@@ -1,7 +1,7 @@
 -- The refusals of the sender's C calls: a state of another length is 9, what is no byte 8, then the sender's own. The state is lent, so it stands as the state and not among the lent slices: under 4 starting leaves an empty group in it.
-use Rattle.std.specs.Prelude.{◌≡◌, refl, Bool, true, false, not, ◌&&◌, ◌||◌, List, [], ◌∷◌, ℕ, length}
+use Rattle.std.specs.Prelude.{◌≡◌, refl, Bool, true, false, not, ◌&&◌, ◌||◌, List, [], ◌∷◌, ℕ, length, if◌then◌else◌, ◌==◌}
 use Rattle.std.proofs.Common.{arith, eqb-true}
-use Rattle.ground.specs.Plain.{if◌then◌else◌, ◌==◌, ◌<?◌}
+use Rattle.ground.specs.Plain.{◌<?◌}
 use Rattle.ground.specs.Types.{Bytes}
 use Rattle.c_face.specs.Boards.{board_bytes_c, outgoing_bytes_c, ranks_bytes_c, shown_answer_c, shown_bytes}
 use Rattle.c_face.specs.Keeping.{bytes_of, sender_of}

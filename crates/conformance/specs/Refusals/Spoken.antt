@@ -1,6 +1,6 @@
 -- The refusals of the spoken board (02, 2026-10): 'different counts is 4, changes that don't fit the board they are applied to is 2, and the board stays'; a buffer for the lines 9, then 2. The C calls: 9 first.
-use Rattle.std.specs.Prelude.{refl, List, [], ◌∷◌, ℕ, get_or, length}
-use Rattle.ground.specs.Plain.{◌==◌, ◌<?◌, ◌≤?◌}
+use Rattle.std.specs.Prelude.{refl, List, [], ◌∷◌, ℕ, get_or, length, ◌==◌}
+use Rattle.ground.specs.Plain.{◌<?◌, ◌≤?◌}
 use Rattle.c_cards.specs.Changes.{applied_answer_c, applied_bytes_c, board_from, changes_from, compared_answer_c, compared_bytes_c, spoken_answer_c, spoken_bytes_c, written_c}
 use Rattle.c_cards.specs.Runs.{runs_answer_c, runs_bytes_c, runs_written_c, whole_answer_c, whole_bytes_c, whole_written_c}
 use Rattle.conformance.specs.Refusals.Entries.{Call, Copes, If, Refusal, Unless, copes, stateful, stateless}

@@ -1,6 +1,6 @@
 -- The refusals of the sender's table: starting 4; for commands 1, 3, 2; lapse 2; a report has none.
-use Rattle.std.specs.Prelude.{◌≡◌, refl, Bool, true, false, not, ◌||◌, List, [], ◌∷◌, ℕ}
-use Rattle.ground.specs.Plain.{if◌then◌else◌, ◌==◌, ◌<?◌}
+use Rattle.std.specs.Prelude.{◌≡◌, refl, Bool, true, false, not, ◌||◌, List, [], ◌∷◌, ℕ, if◌then◌else◌, ◌==◌}
+use Rattle.ground.specs.Plain.{◌<?◌}
 use Rattle.conformance.specs.Refusals.Entries.{Call, Copes, If, Refusal, Unless, copes, done, stateful}
 use Rattle.sender.specs.declared.table.State.{State}
 use Rattle.sender.specs.declared.table.State.TheVariants.{Idle, Add, Active, Dnu}

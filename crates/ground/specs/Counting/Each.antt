@@ -1,8 +1,8 @@
 -- Each of the first n elements of a list anew, by its place: what a loop over them leaves, and what its invariant says.
-use Rattle.std.specs.Prelude.{◌≡◌, refl, ◌≢◌, true, ◌||◌, List, ℕ, ◌+◌, ◌≤◌, ◌<◌, length, get_or, set}
+use Rattle.std.specs.Prelude.{◌≡◌, refl, ◌≢◌, true, ◌||◌, List, ℕ, ◌+◌, ◌≤◌, ◌<◌, length, get_or, set, ◌==◌}
 use Rattle.std.proofs.Common.{sym, ap, ◌∙◌, ⊎_elim, arith, lt-ltb, le-ltb, ltb-true, eqb-true, eq-eqb}
 use Rattle.ground.specs.Drawn.{drawn, length_drawn, get_or_drawn, get_or_kept, drawn_all, drawn_by, drawn_none, drawn_put}
-use Rattle.ground.specs.Plain.{◌==◌, ◌<?◌}
+use Rattle.ground.specs.Plain.{◌<?◌}
 use Rattle.ground.specs.Table.{tabulate}
 use Rattle.ground.specs.Truth.{or_left, or_right, or_cases, same_test, eq_or_ne}
 

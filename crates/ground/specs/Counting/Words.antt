@@ -1,6 +1,6 @@
 -- Some, every, how many, the last that, and the greatest, over the numbers below n. Each goes from the end, so that a loop from 0 up works out one more with each turn.
-use Rattle.std.specs.Prelude.{◌≡◌, Bool, true, false, ◌&&◌, ◌||◌, ℕ, zero, suc, ◌+◌, ◌<◌}
-use Rattle.ground.specs.Plain.{if◌then◌else◌, ◌<?◌}
+use Rattle.std.specs.Prelude.{◌≡◌, Bool, true, false, ◌&&◌, ◌||◌, ℕ, zero, suc, ◌+◌, ◌<◌, if◌then◌else◌}
+use Rattle.ground.specs.Plain.{◌<?◌}
 
 -- the test f holds at some number below n
 abbrev pub some : ℕ → (ℕ → Bool) → Bool

@@ -1,8 +1,7 @@
 -- The history that each group of the sample has by itself, written out.
-use Rattle.std.specs.Prelude.{◌≡◌, refl, Bool, true, false, List, [], ◌∷◌, ◌++◌, ℕ, zero, suc, ◌+◌, ◌-◌, ◌*◌, ◌%◌, ◌≤◌, ◌<◌, get_or}
+use Rattle.std.specs.Prelude.{◌≡◌, refl, Bool, true, false, List, [], ◌∷◌, ◌++◌, ℕ, zero, suc, ◌+◌, ◌-◌, ◌*◌, ◌%◌, ◌≤◌, ◌<◌, get_or, if◌then◌else◌, ◌==◌}
 use Rattle.std.proofs.Common.{◌∙◌, sym, ap, ⊎_elim, arith}
 use Rattle.std.proofs.Math.ListN.{get_or-eq_default}
-use Rattle.ground.specs.Plain.{if◌then◌else◌, ◌==◌}
 use Rattle.ground.specs.Table.{get_or_tabulate, tabulate}
 use Rattle.ground.specs.Truth.{le_or_lt}
 use Rattle.sender.specs.Calls.{Call}

@@ -1,6 +1,5 @@
 -- Each group's link: two ports, for the two slots that it owns once slot 2 has changed hands.
-use Rattle.std.specs.Prelude.{List, [], ◌∷◌, ℕ, ◌+◌, ◌-◌, ◌*◌, ◌%◌}
-use Rattle.ground.specs.Plain.{if◌then◌else◌, ◌==◌}
+use Rattle.std.specs.Prelude.{List, [], ◌∷◌, ℕ, ◌+◌, ◌-◌, ◌*◌, ◌%◌, if◌then◌else◌, ◌==◌}
 use Rattle.ground.specs.Table.{tabulate}
 use Rattle.link.specs.History.{History, packet_sent, sending_of, x_at}
 use Rattle.link.specs.Link.{Link}

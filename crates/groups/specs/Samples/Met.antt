@@ -1,8 +1,8 @@
 -- Each group's link is one that demand 3 per group speaks of.
-use Rattle.std.specs.Prelude.{◌≡◌, refl, Bool, true, false, not, List, ℕ, zero, suc, ◌+◌, ◌*◌, ◌%◌, ◌≤◌, ◌<◌, length}
+use Rattle.std.specs.Prelude.{◌≡◌, refl, Bool, true, false, not, List, ℕ, zero, suc, ◌+◌, ◌*◌, ◌%◌, ◌≤◌, ◌<◌, length, if◌then◌else◌, ◌==◌}
 use Rattle.std.proofs.Common.{sym, ap, ◌∙◌, inl, true≢false, arith}
 use Rattle.std.proofs.lemmas.List.{length-replicate}
-use Rattle.ground.specs.Plain.{if◌then◌else◌, ◌==◌, ◌<?◌}
+use Rattle.ground.specs.Plain.{◌<?◌}
 use Rattle.ground.specs.Table.{length_tabulate}
 use Rattle.packet.specs.Kinds.{epochs, frames, payload_right, tags}
 use Rattle.phases.specs.Sizes.{known_kind, sized, start_sized}

@@ -1,6 +1,5 @@
 -- What holds of the receiver's rows after any calls.
-use Rattle.std.specs.Prelude.{◌≡◌, Bool, true, false, ◌||◌, ℕ, ◌≤◌, ◌<◌, length}
-use Rattle.ground.specs.Plain.{if◌then◌else◌, ◌==◌}
+use Rattle.std.specs.Prelude.{◌≡◌, Bool, true, false, ◌||◌, ℕ, ◌≤◌, ◌<◌, length, if◌then◌else◌, ◌==◌}
 use Rattle.ground.specs.Types.{Rows}
 use Rattle.invariant.specs.Kept.Port.{PortKept}
 use Rattle.packet.specs.Kinds.{epochs, fixed_kind}

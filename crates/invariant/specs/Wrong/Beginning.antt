@@ -1,7 +1,6 @@
 -- Two wrong rules of the beginning (R-7).
-use Rattle.std.specs.Prelude.{◌≡◌, refl, Bool, true, false, not, ◌&&◌, List, [], ◌∷◌, ℕ, zero, suc, ◌+◌, replicate}
+use Rattle.std.specs.Prelude.{◌≡◌, refl, Bool, true, false, not, ◌&&◌, List, [], ◌∷◌, ℕ, zero, suc, ◌+◌, replicate, if◌then◌else◌}
 use Rattle.invariant.specs.Wrong.Sample.{sample_group, sample_step, sent_h4}
-use Rattle.ground.specs.Plain.{if◌then◌else◌}
 use Rattle.packet.specs.Kinds.{epoch_after, epoch_of, starts_epoch}
 use Rattle.phases.specs.Beginning.{begins, foremost}
 use Rattle.phases.specs.Passing.{group_to}

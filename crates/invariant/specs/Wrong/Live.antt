@@ -1,9 +1,9 @@
 -- The frames of a run taken to be those answered 0: but the frames with which a port comes into step are answered 12, and their nibbles stand in the packet being gathered too.
-use Rattle.std.specs.Prelude.{◌≡◌, refl, false, List, [], ◌∷◌, ℕ, ◌+◌, ◌%◌, replicate}
+use Rattle.std.specs.Prelude.{◌≡◌, refl, false, List, [], ◌∷◌, ℕ, ◌+◌, ◌%◌, replicate, if◌then◌else◌, ◌==◌}
 use Rattle.invariant.specs.Calls.{Fetch, Frame, Receiver, ReceiverCall, receiver_after, receiver_run, started_with}
 use Rattle.invariant.specs.Live.{heard_of, packet_heard}
 use Rattle.invariant.specs.Wrong.Sample.{sent_h4}
-use Rattle.ground.specs.Plain.{if◌then◌else◌, ◌==◌, ◌<?◌}
+use Rattle.ground.specs.Plain.{◌<?◌}
 use Rattle.ground.specs.Table.{tabulate}
 use Rattle.receiver.specs.Frame.{frame_of}
 use Rattle.rows.specs.Port.{port_at}

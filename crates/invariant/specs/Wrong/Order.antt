@@ -1,7 +1,6 @@
 -- Slip 2: 'Using a new packet's numbers for its own epoch.'
-use Rattle.std.specs.Prelude.{◌≡◌, refl, List, [], ◌∷◌, ◌++◌, ℕ, ◌/◌, ◌%◌, get_or, replicate}
+use Rattle.std.specs.Prelude.{◌≡◌, refl, List, [], ◌∷◌, ◌++◌, ℕ, ◌/◌, ◌%◌, get_or, replicate, if◌then◌else◌, ◌==◌}
 use Rattle.invariant.specs.Wrong.Sample.{sample_group, sample_step}
-use Rattle.ground.specs.Plain.{if◌then◌else◌, ◌==◌}
 use Rattle.ground.specs.Table.{tabulate}
 use Rattle.judge.specs.declared.seen.Seen.{Seen}
 use Rattle.judge.specs.Order.{order_of}

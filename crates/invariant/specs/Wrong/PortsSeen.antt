@@ -1,8 +1,7 @@
 -- A fixed group (request 2026-12): X by the ports seen. The port with the highest number is dark, and the other two have exactly 0 and 1: the report would be sure, with bytes that are not the client's.
-use Rattle.std.specs.Prelude.{◌≡◌, refl, not, ◌||◌, List, [], ◌∷◌, ◌++◌, ℕ, ◌/◌, ◌%◌, get_or, replicate}
+use Rattle.std.specs.Prelude.{◌≡◌, refl, not, ◌||◌, List, [], ◌∷◌, ◌++◌, ℕ, ◌/◌, ◌%◌, get_or, replicate, if◌then◌else◌, ◌==◌}
 use Rattle.ground.specs.Counting.Words.{count, every, some}
 use Rattle.invariant.specs.Wrong.Sample.{sample_step}
-use Rattle.ground.specs.Plain.{if◌then◌else◌, ◌==◌}
 use Rattle.ground.specs.Table.{tabulate}
 use Rattle.judge.specs.declared.seen.Seen.{Seen}
 use Rattle.judge.specs.Order.{order_of}

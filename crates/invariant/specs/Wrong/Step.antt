@@ -1,6 +1,5 @@
 -- The step rule of request 2026-04 read wrongly, each with a run on which it breaks.
-use Rattle.std.specs.Prelude.{◌≡◌, refl, Bool, true, false, not, ◌&&◌, List, [], ◌∷◌, ℕ, zero, suc, ◌+◌, ◌%◌, get_or, replicate, set}
-use Rattle.ground.specs.Plain.{if◌then◌else◌, ◌==◌}
+use Rattle.std.specs.Prelude.{◌≡◌, refl, Bool, true, false, not, ◌&&◌, List, [], ◌∷◌, ℕ, zero, suc, ◌+◌, ◌%◌, get_or, replicate, set, if◌then◌else◌, ◌==◌}
 use Rattle.packet.specs.Counts.{h4_counts, starts_count}
 use Rattle.packet.specs.Kinds.{tag_after}
 use Rattle.packet.specs.Layout.{h4_of, nibbles_of}

@@ -1,7 +1,6 @@
 -- Two links that are alike but for the client's bytes of one epoch: the last sentence of demand 3, computed. It is that epoch's report in which the two runs differ, the second one of six.
-use Rattle.std.specs.Prelude.{◌≡◌, refl, List, [], ◌∷◌, ℕ, suc, ◌+◌, ◌*◌, ◌/◌, ◌%◌, ◌<◌, get_or, length, replicate}
+use Rattle.std.specs.Prelude.{◌≡◌, refl, List, [], ◌∷◌, ℕ, suc, ◌+◌, ◌*◌, ◌/◌, ◌%◌, ◌<◌, get_or, length, replicate, if◌then◌else◌, ◌==◌}
 use Rattle.std.proofs.Common.{sym, ap, subst, ◌∙◌, inl, arith}
-use Rattle.ground.specs.Plain.{if◌then◌else◌, ◌==◌}
 use Rattle.ground.specs.Table.{length_tabulate, tabulate}
 use Rattle.ground.specs.Types.{Bytes, Epoch}
 use Rattle.judge.specs.Verdict.{SURE}

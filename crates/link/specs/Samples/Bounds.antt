@@ -1,8 +1,8 @@
 -- What demand 3 lets be so reaches as far down as the minutes and 01 say: instances at the lower bounds.
-use Rattle.std.specs.Prelude.{◌≡◌, refl, List, [], ◌∷◌, ℕ, get_or}
+use Rattle.std.specs.Prelude.{◌≡◌, refl, List, [], ◌∷◌, ℕ, get_or, ◌==◌}
 use Rattle.std.proofs.Common.{arith, eqb-true, ltb-true}
 use Rattle.ground.specs.Finite.{below_at}
-use Rattle.ground.specs.Plain.{◌==◌, ◌<?◌}
+use Rattle.ground.specs.Plain.{◌<?◌}
 use Rattle.packet.specs.Changes.{changed, kept_part}
 use Rattle.packet.specs.Crc.{nibble_bits}
 use Rattle.packet.specs.Kinds.{epochs, frames}

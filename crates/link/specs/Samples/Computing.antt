@@ -1,6 +1,5 @@
 -- What the runs of a link come to. Everything that they are made of is opened here, for the checker to compute.
-use Rattle.std.specs.Prelude.{refl, ◌||◌, List, [], ◌∷◌, ℕ, ◌+◌, ◌*◌, replicate}
-use Rattle.ground.specs.Plain.{if◌then◌else◌, ◌==◌}
+use Rattle.std.specs.Prelude.{refl, ◌||◌, List, [], ◌∷◌, ℕ, ◌+◌, ◌*◌, replicate, if◌then◌else◌, ◌==◌}
 use Rattle.receiver.specs.Starting.{times_within}
 use Rattle.rows.specs.Group.{group_at}
 use Rattle.rows.specs.Rows.{rows_for}

@@ -1,9 +1,9 @@
 -- A link with fewer ports than slots. Of three slots one was a member and is removed while the first frames come; the receiver has two ports, for the other two.
-use Rattle.std.specs.Prelude.{◌≡◌, refl, ◌≢◌, Bool, true, false, ◌||◌, List, [], ◌∷◌, ℕ, zero, suc, ◌+◌, ◌-◌, ◌*◌, ◌%◌, ◌≤◌, ◌<◌, get_or, length}
+use Rattle.std.specs.Prelude.{◌≡◌, refl, ◌≢◌, Bool, true, false, ◌||◌, List, [], ◌∷◌, ℕ, zero, suc, ◌+◌, ◌-◌, ◌*◌, ◌%◌, ◌≤◌, ◌<◌, get_or, length, if◌then◌else◌, ◌==◌}
 use Rattle.std.proofs.Common.{ap, ◌∙◌, ⊎_elim, inl, arith, eqb-true, le-ltb}
 use Rattle.std.proofs.lemmas.List.{length-replicate}
 use Rattle.ground.specs.Finite.{below_at}
-use Rattle.ground.specs.Plain.{if◌then◌else◌, ◌==◌, ◌<?◌}
+use Rattle.ground.specs.Plain.{◌<?◌}
 use Rattle.ground.specs.Table.{length_tabulate, tabulate}
 use Rattle.ground.specs.Truth.{le_or_lt}
 use Rattle.packet.specs.Kinds.{epochs, frames, payload_right, tags}

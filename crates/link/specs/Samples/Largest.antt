@@ -1,10 +1,10 @@
 -- What demand 3 lets be so is so of links at the largest sizes, with 64 ports and whatever commands and reports come: of H4 with P 2,340, W 2,048, a spread of exactly W - 16 and the first epoch 255; of VC-12 with P 136, W 512, a spread of exactly W - 32 and the first epoch 31;
 -- and of a fixed group of 64 at H4's sizes.
-use Rattle.std.specs.Prelude.{◌≡◌, refl, Bool, true, false, ◌&&◌, List, [], ◌∷◌, ℕ, ◌+◌, ◌-◌, ◌*◌, ◌%◌, ◌≤◌, ◌<◌, length, replicate}
+use Rattle.std.specs.Prelude.{◌≡◌, refl, Bool, true, false, ◌&&◌, List, [], ◌∷◌, ℕ, ◌+◌, ◌-◌, ◌*◌, ◌%◌, ◌≤◌, ◌<◌, length, replicate, if◌then◌else◌, ◌==◌}
 use Rattle.std.proofs.Common.{sym, inl, arith, eqb-true, ltb-true}
 use Rattle.std.proofs.lemmas.List.{length-replicate}
 use Rattle.ground.specs.Finite.{below_at}
-use Rattle.ground.specs.Plain.{if◌then◌else◌, ◌==◌, ◌<?◌}
+use Rattle.ground.specs.Plain.{◌<?◌}
 use Rattle.ground.specs.Table.{tabulate}
 use Rattle.ground.specs.Truth.{and_left, and_right}
 use Rattle.packet.specs.Kinds.{epochs, fixed_kind, frames, known_kind, payload_right, tags, vc12_kind}

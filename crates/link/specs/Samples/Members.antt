@@ -1,6 +1,5 @@
 -- A link with two members: they are added one after the other, one fails, is restored and is removed.
-use Rattle.std.specs.Prelude.{Bool, ◌&&◌, List, [], ◌∷◌, ℕ, ◌+◌, ◌-◌, ◌*◌, ◌%◌, get_or, replicate}
-use Rattle.ground.specs.Plain.{if◌then◌else◌, ◌==◌}
+use Rattle.std.specs.Prelude.{Bool, ◌&&◌, List, [], ◌∷◌, ℕ, ◌+◌, ◌-◌, ◌*◌, ◌%◌, get_or, replicate, if◌then◌else◌, ◌==◌}
 use Rattle.ground.specs.Table.{tabulate}
 use Rattle.sender.specs.Calls.{Call}
 use Rattle.sender.specs.Calls.Call.{AddSlot, Lapse, RemoveSlot, Report}

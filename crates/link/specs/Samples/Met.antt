@@ -1,9 +1,9 @@
 -- The sample link is one that demand 3 speaks of.
-use Rattle.std.specs.Prelude.{◌≡◌, refl, ◌⊎◌, Bool, true, false, ◌&&◌, List, [], ◌∷◌, ℕ, zero, suc, ◌+◌, ◌-◌, ◌*◌, ◌%◌, ◌≤◌, ◌<◌, get_or, length}
+use Rattle.std.specs.Prelude.{◌≡◌, refl, ◌⊎◌, Bool, true, false, ◌&&◌, List, [], ◌∷◌, ℕ, zero, suc, ◌+◌, ◌-◌, ◌*◌, ◌%◌, ◌≤◌, ◌<◌, get_or, length, if◌then◌else◌, ◌==◌}
 use Rattle.std.proofs.Common.{inl, inr, ⊎_elim, arith, eqb-true, ltb-true}
 use Rattle.std.proofs.lemmas.List.{length-replicate}
 use Rattle.ground.specs.Finite.{below_at}
-use Rattle.ground.specs.Plain.{if◌then◌else◌, ◌==◌, ◌<?◌}
+use Rattle.ground.specs.Plain.{◌<?◌}
 use Rattle.ground.specs.Table.{length_tabulate}
 use Rattle.ground.specs.Truth.{and_left, and_right, or_cases}
 use Rattle.packet.specs.Changes.{brings_mfi2, changed, kept_part, most_changes}

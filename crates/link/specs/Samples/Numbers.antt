@@ -1,10 +1,10 @@
 -- MFI2 damaged (request 2026-04): in both nibbles right after receiving has begun, which demand 3 lets be, and in one before it, which it does not; and other bits damaged before it, which it lets be. All else is as in the sample.
-use Rattle.std.specs.Prelude.{◌≡◌, refl, Bool, true, false, ◌&&◌, List, [], ◌∷◌, ℕ, zero, suc, ◌+◌, ◌-◌, ◌*◌, ◌/◌, ◌%◌, ◌≤◌, ◌<◌, get_or, length, replicate}
+use Rattle.std.specs.Prelude.{◌≡◌, refl, Bool, true, false, ◌&&◌, List, [], ◌∷◌, ℕ, zero, suc, ◌+◌, ◌-◌, ◌*◌, ◌/◌, ◌%◌, ◌≤◌, ◌<◌, get_or, length, replicate, if◌then◌else◌, ◌==◌}
 use Rattle.std.proofs.Common.{ap, ⊎_elim, inl, inr, arith, eqb-true, ltb-true}
 use Rattle.std.proofs.lemmas.List.{length-replicate}
 use Rattle.ground.specs.Counting.Words.{every}
 use Rattle.ground.specs.Finite.{below_at}
-use Rattle.ground.specs.Plain.{if◌then◌else◌, ◌==◌, ◌<?◌}
+use Rattle.ground.specs.Plain.{◌<?◌}
 use Rattle.ground.specs.Table.{length_tabulate}
 use Rattle.ground.specs.Truth.{and_left, and_right}
 use Rattle.judge.specs.Verdict.{HELD, SURE}

@@ -1,7 +1,6 @@
 -- One frame of spread more than demand 3 lets be: port 0 is late by W - 15, and all else is as in the sample. Then it depends on the order of the ports whether all goes well.
-use Rattle.std.specs.Prelude.{◌≡◌, refl, Bool, false, [], ◌∷◌, ℕ, ◌%◌, drop, length}
+use Rattle.std.specs.Prelude.{◌≡◌, refl, Bool, false, [], ◌∷◌, ℕ, ◌%◌, drop, length, ◌==◌}
 use Rattle.std.proofs.Common.{arith}
-use Rattle.ground.specs.Plain.{◌==◌}
 use Rattle.ground.specs.Types.{Bytes, Epoch}
 use Rattle.judge.specs.Verdict.{DOUBTFUL}
 use Rattle.packet.specs.Kinds.{frames}

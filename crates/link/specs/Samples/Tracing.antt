@@ -1,12 +1,12 @@
 -- A run computed once for all that is said of it: where it comes to, and whether receiving had begun before each frame time. A frame and a fetch are computed only where one comes.
-use Rattle.std.specs.Prelude.{◌≡◌, ◌≢◌, Bool, true, false, get_or}
+use Rattle.std.specs.Prelude.{◌≡◌, ◌≢◌, Bool, true, false, get_or, if◌then◌else◌, ◌==◌}
 use Rattle.std.proofs.Math.Path.{refl, ap}
 use Rattle.std.proofs.Common.{◌∙◌}
 use Rattle.std.proofs.Math.Logic.{⊎_elim}
 use mathlib.Core.List.{List, [], ◌∷◌}
 use Prim.Native.Nat.{ℕ, zero, suc, ◌+◌, ◌-◌, ◌≤◌}
 use native.Mathlib.Omega.{arith}
-use Rattle.ground.specs.Plain.{if◌then◌else◌, ◌==◌, ◌≤?◌}
+use Rattle.ground.specs.Plain.{◌≤?◌}
 use Rattle.ground.specs.Truth.{eq_or_ne}
 use Rattle.link.specs.Link.{Link, road_of}
 use Rattle.link.specs.Road.{Road}

@@ -1,7 +1,7 @@
 -- Two ends, each with a sender and a receiver, over lines of unequal delay both ways: an add becomes active and its wait is closed by what is heard alone. Each end starts its epochs with its own receiver's reply, and hands what it hears after each report to its sender.
-use Rattle.std.specs.Prelude.{◌≡◌, refl, true, false, List, [], ◌∷◌, ◌++◌, ℕ, zero, suc, ◌+◌, ◌-◌, ◌/◌, ◌%◌, get_or, replicate}
+use Rattle.std.specs.Prelude.{◌≡◌, refl, true, false, List, [], ◌∷◌, ◌++◌, ℕ, zero, suc, ◌+◌, ◌-◌, ◌/◌, ◌%◌, get_or, replicate, ◌==◌}
 use Rattle.ground.specs.Flags.{one_if}
-use Rattle.ground.specs.Plain.{◌==◌, ◌≤?◌}
+use Rattle.ground.specs.Plain.{◌≤?◌}
 use Rattle.receiver.specs.Fetch.{fetch_of}
 use Rattle.receiver.specs.Frame.{frame_of}
 use Rattle.receiver.specs.Heard.{heard_out}

@@ -1,6 +1,6 @@
 -- The words in which demand 3 is said, each computed on a small history, link or moment with P 2: what is sent, what reaches the receiver, what is expected, and how the receiver is called.
-use Rattle.std.specs.Prelude.{◌≡◌, refl, ◌&&◌, ◌||◌, false, true, List, [], ◌∷◌, ◌%◌, ◌*◌, ◌+◌, ◌-◌, ℕ, length, replicate}
-use Rattle.ground.specs.Plain.{if◌then◌else◌, ◌==◌, ◌<?◌}
+use Rattle.std.specs.Prelude.{◌≡◌, refl, ◌&&◌, ◌||◌, false, true, List, [], ◌∷◌, ◌%◌, ◌*◌, ◌+◌, ◌-◌, ℕ, length, replicate, if◌then◌else◌, ◌==◌}
+use Rattle.ground.specs.Plain.{◌<?◌}
 use Rattle.ground.specs.Table.{tabulate}
 use Rattle.rows.specs.Group.{group_at, put_group}
 use Rattle.rows.specs.Packets.{put_marks}

@@ -1,9 +1,8 @@
 -- Packets as they are read, over the kind of packet: what crates above know of reading.
-use Rattle.std.specs.Prelude.{◌≡◌, ℕ, Bool, true, false, ◌||◌, List, take, drop, slice_index, refl}
+use Rattle.std.specs.Prelude.{◌≡◌, ℕ, Bool, true, false, ◌||◌, List, take, drop, slice_index, refl, if◌then◌else◌, ◌==◌}
 use Rattle.std.proofs.Common.{ap, arith}
 use Rattle.std.proofs.lemmas.Bool.{false≢true}
 use Rattle.ground.specs.Finite.{same_bits}
-use Rattle.ground.specs.Plain.{if◌then◌else◌, ◌==◌}
 use Rattle.ground.specs.Polynomial.{check}
 use Rattle.ground.specs.Truth.{cond_by}
 use Rattle.packet.specs.Crc.{crc_of}

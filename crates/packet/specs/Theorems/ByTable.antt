@@ -1,8 +1,7 @@
 -- By the table of shares (request 2026-02) a packet is read as 01 says.
-use Rattle.std.specs.Prelude.{◌≡◌, ℕ, zero, suc, ◌<◌, ◌≤◌, List, length, take, bit_xor, refl}
+use Rattle.std.specs.Prelude.{◌≡◌, ℕ, zero, suc, ◌<◌, ◌≤◌, List, length, take, bit_xor, refl, if◌then◌else◌, ◌==◌}
 use Rattle.std.proofs.Common.{◌∙◌, ap₂, arith}
 use Rattle.std.proofs.Math.Path.{ap}
-use Rattle.ground.specs.Plain.{if◌then◌else◌, ◌==◌}
 use Rattle.packet.specs.declared.reader.Reading.{Reading}
 use Rattle.packet.specs.ByTable.{crc_with, read_nibbles_with, read_row_with, ruling_with}
 use Rattle.packet.specs.Crc.{crc_of}

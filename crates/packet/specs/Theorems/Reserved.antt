@@ -1,7 +1,6 @@
 -- 'Our sender still writes zeros' (request 2026-08), said of frames' bytes: where a packet is written with reserved 0, the 26 bits of H4's are 0, and the 4 of VC-12's.
 use Rattle.std.specs.Prelude.{◌≡◌, ℕ, Bool, true, false, cond, List, ◌==◌, refl}
 use Rattle.std.proofs.Common.{arith}
-use Rattle.ground.specs.Plain.{if◌then◌else◌}
 use Rattle.packet.specs.Bounds.{Bounds}
 use Rattle.packet.specs.Laws.Bounds.{bounds}
 use Rattle.packet.specs.Reserved.{NoneReserved, NoneReservedBy, NoneReservedVc12}
@@ -41,6 +40,6 @@ unfolding sent_answer sent_bytes
 none_reserved_by kind f s = go (kind == vc12_kind)
   where
     go : (b : Bool) → cond b (write_vc12_answer f s) (write_answer f s) ≡ Done → f.reserved ≡ 0
-        → if b then NoneReservedVc12 (cond b (write_vc12_bytes f s) (write_bytes f s)) else NoneReserved (cond b (write_vc12_bytes f s) (write_bytes f s))
+        → cond b (NoneReservedVc12 (cond b (write_vc12_bytes f s) (write_bytes f s))) (NoneReserved (cond b (write_vc12_bytes f s) (write_bytes f s)))
     go true done z = rw (vc12_written f s done).bytes (zeros_vc12 f z)
     go false done z = none_reserved f s done z

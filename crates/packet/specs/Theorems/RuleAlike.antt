@@ -1,10 +1,9 @@
 -- Packets that differ in reserved bits alone rule alike (request 2026-08): two with a right CRC that agree in every bit that is neither reserved nor the CRC's, which are all but H4's 26 and VC-12's four, rule by the same word, number and GID, or both rule nothing.
-use Rattle.std.specs.Prelude.{◌≡◌, ℕ, zero, suc, ◌+◌, ◌*◌, ◌<◌, ◌≤◌, Bool, true, false, ◌≢◌, List, [], ◌∷◌, length, take, drop, slice_index_or, refl}
+use Rattle.std.specs.Prelude.{◌≡◌, ℕ, zero, suc, ◌+◌, ◌*◌, ◌<◌, ◌≤◌, Bool, true, false, cond, ◌≢◌, List, [], ◌∷◌, length, take, drop, slice_index_or, refl, if◌then◌else◌, ◌==◌}
 use Rattle.std.proofs.Common.{sym, ap, ◌∙◌, arith}
 use Rattle.std.proofs.Math.Nat.{suc_inj}
 use Rattle.ground.specs.Bits.{number}
 use Rattle.ground.specs.Finite.{same_bits}
-use Rattle.ground.specs.Plain.{if◌then◌else◌, ◌==◌}
 use Rattle.ground.specs.Polynomial.{check}
 use Rattle.ground.specs.Truth.{cond_by}
 use Rattle.packet.specs.Reserved.{SameBeside, SameBesideBy, SameBesideVc12, with_reserved}
@@ -100,7 +99,7 @@ pub rule_alike : (kind epoch : ℕ) (row other : List ℕ) → SameBesideBy kind
 unfolding ruling_of read_row
 rule_alike kind epoch row other = go (kind == vc12_kind)
   where
-    go : (b : Bool) → (if b then SameBesideVc12 row other else SameBeside row other) → (if b then read_vc12_row row else read_nibbles row) ≢ Crc → (if b then read_vc12_row other else read_nibbles other) ≢ Crc
+    go : (b : Bool) → cond b (SameBesideVc12 row other) (SameBeside row other) → (if b then read_vc12_row row else read_nibbles row) ≢ Crc → (if b then read_vc12_row other else read_nibbles other) ≢ Crc
         → ruling_by (if b then read_vc12_row row else read_nibbles row) ≡ ruling_by (if b then read_vc12_row other else read_nibbles other)
     go true s one two = ap ruling_by (right_vc12 row one) ∙ by_fields (vc12_fields (row_bits row)) (vc12_fields (row_bits other)) (same_vc12 row other s) ∙ sym (ap ruling_by (right_vc12 other two))
     go false s one two = ap ruling_by (right_h4 row one) ∙ by_fields (fields_of row) (fields_of other) (same_h4 row other s) ∙ sym (ap ruling_by (right_h4 other two))

@@ -1,7 +1,6 @@
 -- Groups of VC-12 (request 2026-01), clause by clause: the packet through C, the clock, starts at their limits, MST and the number of an IDLE slot. The figures were worked out apart. Packets and the step rule by themselves are tried in crates/packet/specs/Samples.antt and crates/step/specs/Samples.antt.
-use Rattle.std.specs.Prelude.{Bool, true, false, not, ◌||◌, List, [], ◌∷◌, ℕ, ◌+◌, ◌-◌, ◌%◌, drop, get_or, replicate, take}
+use Rattle.std.specs.Prelude.{Bool, true, false, not, ◌||◌, List, [], ◌∷◌, ℕ, ◌+◌, ◌-◌, ◌%◌, drop, get_or, replicate, take, if◌then◌else◌, ◌==◌}
 use Rattle.ground.specs.Finite.{below, same_bits}
-use Rattle.ground.specs.Plain.{if◌then◌else◌, ◌==◌}
 use Rattle.ground.specs.Polynomial.{check}
 use Rattle.ground.specs.Table.{tabulate}
 use Rattle.c_cards.specs.Cards.{card_of, start_answer_on, start_state_on}

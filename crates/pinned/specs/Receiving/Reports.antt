@@ -1,7 +1,6 @@
 -- The report of an epoch (01, 'Report of an epoch', 'Payload order'), part by part: a group of two ports, P 2, W 16, whose oldest epoch is 58, and what it reads from rows and store.
-use Rattle.std.specs.Prelude.{Bool, true, false, List, [], ◌∷◌, ◌++◌, ℕ, get_or, length, replicate, take}
+use Rattle.std.specs.Prelude.{Bool, true, false, List, [], ◌∷◌, ◌++◌, ℕ, get_or, length, replicate, take, if◌then◌else◌, ◌==◌}
 use Rattle.pinned.specs.Filled.{nines, zeros}
-use Rattle.ground.specs.Plain.{if◌then◌else◌, ◌==◌}
 use Rattle.ground.specs.Table.{tabulate}
 use Rattle.judge.specs.Cause.{mark_of}
 use Rattle.judge.specs.declared.order.Order.{Order}

@@ -1,8 +1,7 @@
 -- Ports of a VC-12 receiver (request 2026-01), one frame and one moment at a time: where receiving begins, where a port joins, the window, the end of an epoch, what is shown of a port and told of its number, and what a line may change.
 -- W is 64, two epochs. The oldest epoch is 31, whose first tag is 992; epoch 0 starts 32 frames later with tag 0, and tag 32 is W frames later.
-use Rattle.std.specs.Prelude.{Bool, true, false, List, [], ◌∷◌, ◌++◌, ℕ, ◌+◌, ◌%◌, get_or, replicate}
+use Rattle.std.specs.Prelude.{Bool, true, false, List, [], ◌∷◌, ◌++◌, ℕ, ◌+◌, ◌%◌, get_or, replicate, ◌==◌}
 use Rattle.tables.specs.Waits.{seen_port}
-use Rattle.ground.specs.Plain.{◌==◌}
 use Rattle.ground.specs.Table.{tabulate}
 use Rattle.packet.specs.Changes.{brings_mfi2, changed, kept_part, most_changes}
 use Rattle.packet.specs.Counts.{counts}

@@ -1,7 +1,7 @@
 -- VC-12's step rule through the receiver (request 2026-01), frame by frame: what port 0 of two is answered. Port 1 has no frame, so that receiving does not begin: a frame in step is answered 0 and dropped.
 -- The rows are as a start lays them, with P 1, for the checker to compute.
-use Rattle.std.specs.Prelude.{false, true, List, [], ◌∷◌, ◌++◌, ℕ, ◌+◌, ◌%◌, drop, get_or, replicate, take}
-use Rattle.ground.specs.Plain.{if◌then◌else◌, ◌==◌, ◌<?◌}
+use Rattle.std.specs.Prelude.{false, true, List, [], ◌∷◌, ◌++◌, ℕ, ◌+◌, ◌%◌, drop, get_or, replicate, take, if◌then◌else◌, ◌==◌}
+use Rattle.ground.specs.Plain.{◌<?◌}
 use Rattle.ground.specs.Table.{tabulate}
 use Rattle.pinned.specs.Filled.{zeros}
 use Rattle.packet.specs.Counts.{told_bits}

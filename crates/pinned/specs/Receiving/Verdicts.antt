@@ -1,7 +1,6 @@
 -- Reports judged (01, 'Report of an epoch'), where a packet that did not arrive whole still reads as one; and packets of fixed groups (request 2026-12) at their limits.
-use Rattle.std.specs.Prelude.{Bool, true, false, List, [], ◌∷◌, ℕ, ◌+◌, ◌%◌, length, replicate, set, take}
+use Rattle.std.specs.Prelude.{Bool, true, false, List, [], ◌∷◌, ℕ, ◌+◌, ◌%◌, length, replicate, set, take, if◌then◌else◌, ◌==◌}
 use Rattle.pinned.specs.Filled.{nines}
-use Rattle.ground.specs.Plain.{if◌then◌else◌, ◌==◌}
 use Rattle.ground.specs.Table.{tabulate}
 use Rattle.ground.specs.Types.{Epoch}
 use Rattle.judge.specs.declared.seen.Seen.{Seen}

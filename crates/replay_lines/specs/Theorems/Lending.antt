@@ -1,9 +1,9 @@
 -- What a first line asks to be lent is what its replay wants, no less and no more: with the store that is told the group starts, with a smaller one it does not, and with the output that is
 -- told, rows for 64 ports and room for what is printed no later turn of the group is answered 9 for want of room.
-use Rattle.std.specs.Prelude.{◌≡◌, ℕ, ◌≤◌, Bool, true, false, cond, ◌&&◌, List, length, nat_le, nat_lt, refl}
+use Rattle.std.specs.Prelude.{◌≡◌, ℕ, ◌≤◌, Bool, true, false, cond, ◌&&◌, List, length, nat_le, nat_lt, refl, ◌==◌}
 use Rattle.std.proofs.Common.{sym, ap, true≢false, arith}
 use Rattle.ground.specs.Finding.{index_of}
-use Rattle.ground.specs.Plain.{◌==◌, ◌≤?◌}
+use Rattle.ground.specs.Plain.{◌≤?◌}
 use Rattle.ground.specs.Truth.{and_left}
 use Rattle.recording.specs.Line.{MOST, found_of}
 use Rattle.recording.specs.Opening.{Opening, opening_in}

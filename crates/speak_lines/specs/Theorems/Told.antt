@@ -1,8 +1,7 @@
 -- Whatever lines come: she is told exactly what goes out, and by that alone she holds the board going out.
-use Rattle.std.specs.Prelude.{◌≡◌, refl, Bool, true, false, List, [], ◌∷◌, ◌++◌, ℕ, ◌<◌, eqb, length, take}
+use Rattle.std.specs.Prelude.{◌≡◌, refl, Bool, true, false, List, [], ◌∷◌, ◌++◌, ℕ, ◌<◌, eqb, length, take, if◌then◌else◌}
 use Rattle.std.proofs.Common.{sym, ap, ◌∙◌, eq-eqb, le-leb}
 use Rattle.ground.specs.Finite.{same_bytes_lem}
-use Rattle.ground.specs.Plain.{if◌then◌else◌}
 use Rattle.ground.specs.Truth.{and-true, clash, neither}
 use Rattle.session_lines.specs.Laws.Telling.{call_line, kind_line, no_size, size_line}
 use Rattle.session_lines.specs.Line.{line_of, word_line}

@@ -1,7 +1,6 @@
 -- By the table of shares (request 2026-02) a packet rules as 01 and request 2026-04 say.
-use Rattle.std.specs.Prelude.{◌≡◌, ◌||◌, List, ℕ, ◌≤◌, length}
+use Rattle.std.specs.Prelude.{◌≡◌, ◌||◌, List, ℕ, ◌≤◌, length, if◌then◌else◌, ◌==◌}
 use Rattle.std.proofs.Common.{ap}
-use Rattle.ground.specs.Plain.{if◌then◌else◌, ◌==◌}
 use Rattle.packet.specs.Fixed.{fixed_ruling_of}
 use Rattle.packet.specs.Kinds.{fixed_kind}
 use Rattle.packet.specs.Ruling.{refused}

@@ -1,7 +1,7 @@
 -- Two slots with delays of one epoch out and two back. Slot 0 is active from the first start on; slot 1 is added between starts 6 and 7 behind the back packet that is handed over. It is not active at start 42, and is at start 43, which is 6 + 34 + 1 + 2.
-use Rattle.std.specs.Prelude.{◌≡◌, refl, Bool, true, false, [], ◌∷◌, ◌++◌, ℕ, zero, suc, ◌<◌, replicate}
+use Rattle.std.specs.Prelude.{◌≡◌, refl, Bool, true, false, [], ◌∷◌, ◌++◌, ℕ, zero, suc, ◌<◌, replicate, if◌then◌else◌, ◌==◌}
 use Rattle.std.proofs.Common.{sym, ap, ◌∙◌, arith, ne_eqb}
-use Rattle.ground.specs.Plain.{if◌then◌else◌, ◌==◌, ◌<?◌}
+use Rattle.ground.specs.Plain.{◌<?◌}
 use Rattle.packet.specs.Kinds.{mst_epochs}
 use Rattle.packet.specs.Words.{ADD, EOS, IDLE, NORM}
 use Rattle.sender.specs.declared.table.Answer.TheVariants.{Done}

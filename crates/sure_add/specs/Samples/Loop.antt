@@ -1,6 +1,5 @@
 -- The loop by epochs, on the definitions of sender and reply: what each slot sends, what each port hears a epochs later, the states and the reply that come of it, and the report that is handed b epochs later. For rows and wrong readings.
-use Rattle.std.specs.Prelude.{Bool, true, ◌&&◌, List, [], ◌∷◌, ℕ, zero, suc, ◌+◌, ◌-◌, ◌%◌, get_or}
-use Rattle.ground.specs.Plain.{if◌then◌else◌, ◌==◌}
+use Rattle.std.specs.Prelude.{Bool, true, ◌&&◌, List, [], ◌∷◌, ℕ, zero, suc, ◌+◌, ◌-◌, ◌%◌, get_or, if◌then◌else◌, ◌==◌}
 use Rattle.ground.specs.Table.{tabulate}
 use Rattle.receiver.specs.Starting.{time_of}
 use Rattle.reply.specs.declared.members.Port.{Port}

@@ -1,5 +1,5 @@
 -- Links of H4 with P 1 and W 16 of which `sure-add` speaks, made of a few numbers, the calls at each start and the replies as they are computed. Port p carries the last slot but p.
-use Rattle.std.specs.Prelude.{◌≡◌, Bool, true, false, ◌&&◌, ℕ, zero, suc, ◌+◌, ◌-◌, ◌*◌, ◌%◌, ◌≤◌, ◌<◌, length, replicate}
+use Rattle.std.specs.Prelude.{◌≡◌, Bool, true, false, ◌&&◌, ℕ, zero, suc, ◌+◌, ◌-◌, ◌*◌, ◌%◌, ◌≤◌, ◌<◌, length, replicate, if◌then◌else◌}
 use Rattle.std.proofs.Math.Path.{refl, ap}
 use Rattle.std.proofs.Common.{sym}
 use Rattle.std.proofs.Math.Logic.{inl}
@@ -8,7 +8,7 @@ use native.Mathlib.Omega.{arith}
 use Rattle.std.proofs.Math.ListN.{get_or, length-replicate}
 use borrow.Author.Tests.{leb-true, ltb-true}
 use Rattle.ground.specs.Finite.{below, below_at, same_bytes_lem, same_bytes}
-use Rattle.ground.specs.Plain.{if◌then◌else◌, ◌<?◌, ◌≤?◌}
+use Rattle.ground.specs.Plain.{◌<?◌, ◌≤?◌}
 use Rattle.ground.specs.Table.{length_tabulate, tabulate}
 use Rattle.packet.specs.Symbols.{symbol_of}
 use Rattle.packet.specs.Kinds.{epochs, frames, payload_right}

@@ -1,7 +1,7 @@
 -- One slot, added between starts 5 and 6 before the back packet is handed over, no delays, and a port that would wait 5,000 epochs to restore. The loop is computed start by start: the slot is not active at start 38, and is at start 39, which is 5 + 34.
-use Rattle.std.specs.Prelude.{◌≡◌, refl, ◌≢◌, Bool, true, false, [], ◌∷◌, ℕ, ◌<◌, replicate}
+use Rattle.std.specs.Prelude.{◌≡◌, refl, ◌≢◌, Bool, true, false, [], ◌∷◌, ℕ, ◌<◌, replicate, if◌then◌else◌, ◌==◌}
 use Rattle.std.proofs.Common.{sym, ap, ◌∙◌, arith, ne_eqb}
-use Rattle.ground.specs.Plain.{if◌then◌else◌, ◌==◌, ◌<?◌}
+use Rattle.ground.specs.Plain.{◌<?◌}
 use Rattle.packet.specs.Kinds.{mst_epochs}
 use Rattle.packet.specs.Words.{ADD, EOS, IDLE}
 use Rattle.sender.specs.declared.table.Answer.TheVariants.{Done}

@@ -1,5 +1,5 @@
 -- Rounds of H4 with P 1 and W 16 of which `sure-add-over` speaks, made of a few numbers and the frames that come, and computed report by report.
-use Rattle.std.specs.Prelude.{◌≡◌, refl, ◌≢◌, Bool, false, not, ◌&&◌, length, replicate}
+use Rattle.std.specs.Prelude.{◌≡◌, refl, ◌≢◌, Bool, false, not, ◌&&◌, length, replicate, if◌then◌else◌, ◌==◌}
 use Rattle.std.proofs.Math.Path.{sym, subst}
 use Rattle.std.proofs.Common.{ap, ◌∙◌, ⊎_elim, inl, not-suc-le-zero}
 use Rattle.std.proofs.Math.Bool.{true}
@@ -9,7 +9,6 @@ use native.Mathlib.Omega.{arith}
 use Rattle.std.proofs.Math.ListN.{get_or}
 use borrow.Author.Tests.{eq-eqb, eqb-true, ne_eqb, not-true}
 use Rattle.ground.specs.Finite.{below, below_at}
-use Rattle.ground.specs.Plain.{if◌then◌else◌, ◌==◌}
 use Rattle.ground.specs.Truth.{and_left, and_right, and-true, clash, eq_or_ne}
 use Rattle.packet.specs.declared.ruling.Ruling.{Ruling}
 use Rattle.packet.specs.Kinds.{epochs, mst_fails}
