@@ -80,6 +80,7 @@ fn fifth_bit(run: Run, bits: u8) -> Run
     goes_on(run, bits)
 }
 
+#[tactic(auto, unfolding(crate::specs::Starts::starts_run))]
 pub(crate) fn starts_run(run: Run, byte: u8) -> Run
     ensures { result ≡ starts_run run byte }
 {
