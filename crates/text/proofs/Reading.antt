@@ -10,11 +10,11 @@ use lib.Dec.{eqb, ltb, eqb-suc-zero}
 use lib.ListN.{length, take, get_or}
 use lib.Seq.{slice, length-slice, length-take-le, take-suc}
 use borrow.Author.Tests.{eq-eqb, le-leb, le-ltb, lt-leb, lt-ltb, ltb-true, ne_eqb}
-use Rattle.ground.specs.Finding.{index_of}
+use Rattle.ground.specs.Finding.{index_after, index_of}
 use Rattle.ground.specs.Truth.{and_left, and_right}
 use Rattle.text.specs.declared.fields.Number.TheVariants.{Value, Unreadable}
 use Rattle.text.specs.Fields.{are_digits, digit_of, hex_of, number_of, same_bytes, value_of}
-use Rattle.text.specs.Laws.Slices.{end_le, slice_end, slice_none, slice_suc}
+use Rattle.text.specs.Laws.Slices.{end_le, slice_end, slice_more, slice_none, slice_suc}
 
 same_nothing : (w : List ℕ) → eqb (length w) 0 ≡ same_bytes [] w
 same_nothing [] = refl
@@ -49,6 +49,20 @@ module _ (l : List ℕ) (limit end at : ℕ) (e : end ≡ length (take limit l))
   same_here h w d r k =
       let s : at + length w ≡ end = omega arith in
       rw (← slice_end l limit end e at, ← s) k
+
+-- the first mark of a part, a byte further on
+module _ (l : List ℕ) (m end i : ℕ) (k : end ≤ length l) where
+  pub find_here : i < end → get_or l i 0 ≡ m → index_of m (slice i end l) ≡ 0
+  unfolding index_of index_after
+  find_here h e = rw (slice_more l end end (sym (length-take-le end l k)) i h, eq-eqb (get_or l i 0) m e) refl
+
+  pub find_on : i < end → (get_or l i 0 ≡ m → ⊥) → index_of m (slice i end l) ≡ suc (index_of m (slice (i + 1) end l))
+  unfolding index_of index_after
+  find_on h d = rw (slice_more l end end (sym (length-take-le end l k)) i h, ne_eqb (get_or l i 0) m d) refl
+
+  pub find_end : end ≤ i → index_of m (slice i end l) ≡ 0
+  unfolding index_of
+  find_end h = rw (slice_none l end end (sym (length-take-le end l k)) i h) refl
 
 same_snoc : (l m : List ℕ) (a b : ℕ) → length l ≡ length m → same_bytes (l ++ (a ∷ [])) (m ++ (b ∷ [])) ≡ (same_bytes l m && eqb a b)
 same_snoc [] [] a b h = simp (mathlib.Core.Bool.and-true)
