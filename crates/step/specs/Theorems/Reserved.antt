@@ -1,5 +1,5 @@
 -- What a report sees of a packet does not depend on its reserved bits (request 2026-08): by the receiver's own count, two that differ in those bits and the CRC alone rule alike, or both rule nothing. Of every kind; the CRC is right, where it is looked at.
-use Rattle.std.specs.Prelude.{◌≡◌, ◌≢◌, Bool, ◌||◌, List, ℕ, if◌then◌else◌, ◌==◌}
+use Rattle.std.specs.Prelude.{◌≡◌, ◌≢◌, Bool, ◌||◌, List, ℕ, cond, ◌==◌}
 use Rattle.std.proofs.Math.Path.{refl, ap, ap₂}
 use Rattle.std.proofs.Common.{subst, eqb-true}
 use Rattle.std.proofs.Math.Bool.{true, false}
@@ -16,7 +16,7 @@ module _ (kind epoch : ℕ) (row other : List ℕ) (same : SameBesideBy kind row
   unfolding own_number
   own_same = go (kind == vc12_kind) same
     where
-      go : (b : Bool) → (if b then SameBesideVc12 row other else SameBeside row other) → (b || own_number epoch row) ≡ (b || own_number epoch other)
+      go : (b : Bool) → cond b (SameBesideVc12 row other) (SameBeside row other) → (b || own_number epoch row) ≡ (b || own_number epoch other)
       go true s = refl
       go false s = ap (λ (n : ℕ). n == epoch) (epoch_alike row other s)
 
