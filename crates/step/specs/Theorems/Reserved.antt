@@ -1,5 +1,5 @@
 -- What a report sees of a packet does not depend on its reserved bits (request 2026-08): by the receiver's own count, two that differ in those bits and the CRC alone rule alike, or both rule nothing. Of every kind; the CRC is right, where it is looked at.
-use Rattle.std.specs.Prelude.{◌≡◌, ◌≢◌, Bool, ◌||◌, List, ℕ, cond, ◌==◌}
+use Rattle.std.specs.Prelude.{◌≡◌, ◌≢◌, Bool, ◌||◌, List, ℕ, cond, if◌then◌else◌, ◌==◌}
 use Rattle.std.proofs.Math.Path.{refl, ap, ap₂}
 use Rattle.std.proofs.Common.{subst, eqb-true}
 use Rattle.std.proofs.Math.Bool.{true, false}
