@@ -1,0 +1,18 @@
+use mathlib.Core.Path.{◌≡◌, refl}
+use Prim.Native.Nat.{◌≤◌, ◌-◌}
+use native.Mathlib.Omega.{arith}
+use lib.ListN.{length, get_or}
+use borrow.Author.Rules.{rules}
+use Rattle.ground.specs.Counting.Each.{Done, done_none, done_more, done_table}
+use Rattle.store.specs.Marks.{cut_byte, cut_from}
+use Rattle.store.proofs.marks.cut.Goals as goal
+
+pub loop-k-init : goal.loop-k-init
+loop-k-init c = (refl, omega arith, done_none _ _)
+
+pub loop-k-preserved : goal.loop-k-preserved
+loop-k-preserved c = (c.loop-k.invariant.0, omega arith, done_more _ c.loop-k.invariant.2 c.cut_byte.ensures)
+
+pub returns : goal.returns
+unfolding cut_from
+returns c = done_table c.loop-k.invariant.2 (omega arith) refl

@@ -1,0 +1,8 @@
+use mathlib.Core.Path.{refl}
+use borrow.Author.Rules.{rules}
+use Rattle.store.specs.Marks.{first_mark}
+use Rattle.store.proofs.marks.first.Goals as goal
+
+pub returns : goal.returns
+unfolding first_mark
+returns c = refl

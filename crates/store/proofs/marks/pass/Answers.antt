@@ -1,0 +1,21 @@
+use mathlib.Core.Path.{◌≡◌, ◌∙◌, refl}
+use Prim.Native.Nat.{◌≤◌, ◌-◌}
+use native.Mathlib.Omega.{arith}
+use lib.ListN.{length}
+use borrow.Author.Rules.{rules}
+use Rattle.ground.specs.Counting.Each.{Done, done_none, done_more, done_table}
+use Rattle.store.specs.Marks.{passed_marks}
+use Rattle.store.proofs.Rows.{passed_at, passed_in, passed_last}
+use Rattle.store.proofs.marks.pass.Goals as goal
+
+pub loop-k-init : goal.loop-k-init
+loop-k-init c = (refl, omega arith, done_none _ _)
+
+pub loop-k-preserved : goal.loop-k-preserved
+loop-k-preserved c = (c.loop-k.invariant.0, omega arith, done_more _ c.loop-k.invariant.2 (c.passed_byte.ensures ∙ passed_in c.args.row c.loop-k.k (omega arith)))
+
+pub returns : goal.returns
+unfolding passed_marks
+returns c =
+    let e : c.loop-k.k ≡ 15 = omega arith in
+    done_table (done_more _ (rw e at c.loop-k.invariant.2) (passed_last c.args.row)) refl refl
