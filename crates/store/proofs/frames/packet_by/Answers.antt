@@ -1,11 +1,8 @@
-use Rattle.packet.specs.Kinds.{frames}
 use Rattle.packet.specs.Theorems.Symbols.{entry_in_lem, row_is}
-use mathlib.Core.Path.{◌≡◌, refl}
-use Prim.Native.Nat.{◌≤◌, ◌-◌}
+use mathlib.Core.Path.{refl}
 use native.Mathlib.Omega.{arith}
-use borrow.Author.Rules.{rules}
 use Rattle.store.specs.Laws.Places.{place_fits}
-use Rattle.store.proofs.Packets.{Read, read_more, read_none}
+use Rattle.store.proofs.Packets.{read_more, read_none}
 use Rattle.store.proofs.frames.packet_by.Goals as goal
 
 pub loop-k-init : goal.loop-k-init

@@ -1,12 +1,8 @@
 -- The invariant: the symbols of the first k frames are read.
 use Rattle.packet.specs.Kinds.{frames}
-use Rattle.packet.specs.Theorems.Symbols.{entry_in_lem, row_is}
-use mathlib.Core.Path.{◌≡◌, refl}
+use mathlib.Core.Path.{◌≡◌}
 use Prim.Native.Nat.{◌≤◌, ◌-◌}
-use native.Mathlib.Omega.{arith}
-use borrow.Author.Rules.{rules}
-use Rattle.store.specs.Laws.Places.{place_fits}
-use Rattle.store.proofs.Packets.{Read, read_more, read_none}
+use Rattle.store.proofs.Packets.{Read}
 use Rattle.store.proofs.frames.packet_by.Given as goal
 
 abbrev pub invariant-loop-k : goal.invariant-loop-k

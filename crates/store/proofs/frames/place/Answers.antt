@@ -2,7 +2,6 @@
 use mathlib.Core.Path.{refl}
 use Prim.Native.Nat.{◌≤◌}
 use native.Mathlib.Omega.{arith}
-use borrow.Author.Rules.{rules}
 use Rattle.store.specs.Frames.{place_in}
 use Rattle.store.specs.Laws.Places.{ring_le, row_fits, product_fits}
 use Rattle.store.proofs.frames.place.Goals as goal

@@ -1,7 +1,6 @@
 -- Payload and then H4 are one run from the place on (`put-frame`); a frame that would go beyond the store's end is dropped (`put-none`).
 -- The two tests together are the definition's one, asked so that no sum can overflow.
 use native.Mathlib.Omega.{arith}
-use borrow.Author.Rules.{rules}
 use Rattle.store.proofs.Putting.{put_frame, put_none}
 use Rattle.store.proofs.frames.put.Goals as goal
 

@@ -1,6 +1,5 @@
 use mathlib.Core.Path.{refl}
 use native.Mathlib.Omega.{arith}
-use borrow.Author.Rules.{rules}
 use borrow.Author.Tests.{eq-eqb}
 use Rattle.store.specs.Frames.{ring_of}
 use Rattle.store.proofs.Rings.{ring_first, ring_second, ring_over}

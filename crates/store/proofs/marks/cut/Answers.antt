@@ -1,10 +1,7 @@
-use mathlib.Core.Path.{◌≡◌, refl}
-use Prim.Native.Nat.{◌≤◌, ◌-◌}
+use mathlib.Core.Path.{refl}
 use native.Mathlib.Omega.{arith}
-use lib.ListN.{length, get_or}
-use borrow.Author.Rules.{rules}
-use Rattle.ground.specs.Counting.Each.{Done, done_none, done_more, done_table}
-use Rattle.store.specs.Marks.{cut_byte, cut_from}
+use Rattle.ground.specs.Counting.Each.{done_none, done_more, done_table}
+use Rattle.store.specs.Marks.{cut_from}
 use Rattle.store.proofs.marks.cut.Goals as goal
 
 pub loop-k-init : goal.loop-k-init

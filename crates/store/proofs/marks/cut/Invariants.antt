@@ -1,11 +1,9 @@
 -- The invariant: the first k bytes are cut.
-use mathlib.Core.Path.{◌≡◌, refl}
+use mathlib.Core.Path.{◌≡◌}
 use Prim.Native.Nat.{◌≤◌, ◌-◌}
-use native.Mathlib.Omega.{arith}
 use lib.ListN.{length, get_or}
-use borrow.Author.Rules.{rules}
-use Rattle.ground.specs.Counting.Each.{Done, done_none, done_more, done_table}
-use Rattle.store.specs.Marks.{cut_byte, cut_from}
+use Rattle.ground.specs.Counting.Each.{Done}
+use Rattle.store.specs.Marks.{cut_byte}
 use Rattle.store.proofs.marks.cut.Given as goal
 
 abbrev pub invariant-loop-k : goal.invariant-loop-k

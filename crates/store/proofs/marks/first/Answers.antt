@@ -1,5 +1,4 @@
 use mathlib.Core.Path.{refl}
-use borrow.Author.Rules.{rules}
 use Rattle.store.specs.Marks.{first_mark}
 use Rattle.store.proofs.marks.first.Goals as goal
 

@@ -1,6 +1,5 @@
 -- An epoch beyond the row's 128 bits leaves it; any other sets its bit in one byte, and the others stay: the two cases of the definition.
 use mathlib.Core.Path.{refl}
-use borrow.Author.Rules.{rules}
 use borrow.Author.Tests.{lt-ltb, le-ltb}
 use Rattle.store.specs.Marks.{marked_at}
 use Rattle.store.proofs.marks.mark.Goals as goal

@@ -3,7 +3,6 @@ use Prim.Native.Nat.{◌%◌}
 use native.Mathlib.Nat.{mod-lt}
 use native.Mathlib.Omega.{arith}
 use lib.Pow.{pow_pos}
-use borrow.Author.Rules.{rules}
 use borrow.Author.Tests.{eq-eqb, ne_eqb}
 use Rattle.store.specs.Marks.{marked_byte}
 use Rattle.store.specs.Laws.Bytes.{marked_fits}

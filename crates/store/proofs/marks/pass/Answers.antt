@@ -1,11 +1,8 @@
 use mathlib.Core.Path.{◌≡◌, ◌∙◌, refl}
-use Prim.Native.Nat.{◌≤◌, ◌-◌}
 use native.Mathlib.Omega.{arith}
-use lib.ListN.{length}
-use borrow.Author.Rules.{rules}
-use Rattle.ground.specs.Counting.Each.{Done, done_none, done_more, done_table}
+use Rattle.ground.specs.Counting.Each.{done_none, done_more, done_table}
 use Rattle.store.specs.Marks.{passed_marks}
-use Rattle.store.proofs.Rows.{passed_at, passed_in, passed_last}
+use Rattle.store.proofs.Rows.{passed_in, passed_last}
 use Rattle.store.proofs.marks.pass.Goals as goal
 
 pub loop-k-init : goal.loop-k-init

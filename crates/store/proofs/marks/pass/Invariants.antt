@@ -1,12 +1,9 @@
 -- The invariant: the first k bytes are passed.
-use mathlib.Core.Path.{◌≡◌, ◌∙◌, refl}
+use mathlib.Core.Path.{◌≡◌}
 use Prim.Native.Nat.{◌≤◌, ◌-◌}
-use native.Mathlib.Omega.{arith}
 use lib.ListN.{length}
-use borrow.Author.Rules.{rules}
-use Rattle.ground.specs.Counting.Each.{Done, done_none, done_more, done_table}
-use Rattle.store.specs.Marks.{passed_marks}
-use Rattle.store.proofs.Rows.{passed_at, passed_in, passed_last}
+use Rattle.ground.specs.Counting.Each.{Done}
+use Rattle.store.proofs.Rows.{passed_at}
 use Rattle.store.proofs.marks.pass.Given as goal
 
 abbrev pub invariant-loop-k : goal.invariant-loop-k

@@ -1,5 +1,4 @@
 use mathlib.Core.Path.{refl}
-use borrow.Author.Rules.{rules}
 use Rattle.store.specs.Marks.{passed_byte}
 use Rattle.store.proofs.marks.passed_byte.Goals as goal
 

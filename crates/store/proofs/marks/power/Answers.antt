@@ -1,7 +1,6 @@
 use Prim.Native.Nat.{◌%◌}
 use native.Mathlib.Nat.{mod-lt}
 use native.Mathlib.Omega.{arith}
-use borrow.Author.Rules.{rules}
 use Rattle.store.specs.Laws.Bytes.{power_is}
 use Rattle.store.proofs.marks.power.Goals as goal
 
