@@ -1,0 +1,16 @@
+-- `rows_of` meets its contract. By the loop: the first i rows are those of their slots, the others are empty.
+use mathlib.Core.Path.{◌≡◌, ◌∙◌, refl, ap}
+use Prim.Native.Nat.{◌≤◌, ◌-◌}
+use native.Mathlib.Omega.{arith}
+use lib.ListN.{length, replicate}
+use borrow.Author.Rules.{rules}
+use Rattle.sender.specs.Board.{row_of, rows_of}
+use Rattle.sender.specs.declared.board.Row.{Row}
+use Rattle.ground.specs.Counting.Each.{Done, done_none, done_more, done_all, each}
+use Rattle.sender.proofs.board.rows_of.Given as goal
+
+abbrev pub invariant-loop-i : goal.invariant-loop-i
+invariant-loop-i l = (length l.initial.rows ≡ 64) × (l.i ≤ l.n) × Done l.i (λ j. row_of l.slots l.n j) l.initial.rows l.rows
+
+abbrev pub decreases-loop-i : goal.decreases-loop-i
+decreases-loop-i l = l.n - l.i

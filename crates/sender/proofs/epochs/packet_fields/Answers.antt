@@ -1,0 +1,8 @@
+use mathlib.Core.Path.{refl}
+use borrow.Author.Rules.{rules}
+use Rattle.sender.specs.Epochs.{packet_fields}
+use Rattle.sender.proofs.epochs.packet_fields.Goals as goal
+
+pub returns : goal.returns
+unfolding packet_fields
+returns c = refl
