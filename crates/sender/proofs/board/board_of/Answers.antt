@@ -1,5 +1,4 @@
 use native.Mathlib.Omega.{arith}
-use borrow.Author.Rules.{rules}
 use Rattle.sender.specs.Board.{board_of}
 use Rattle.sender.specs.Laws.Sizes.{size_le}
 use Rattle.sender.proofs.board.board_of.Goals as goal

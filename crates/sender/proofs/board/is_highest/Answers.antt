@@ -1,14 +1,10 @@
 use mathlib.Core.Bool.{◌&&◌, not}
 use mathlib.Core.Path.{◌≡◌, refl, ap}
-use Prim.Native.Nat.{◌≤◌, ◌-◌}
 use native.Mathlib.Omega.{arith}
 use lib.Dec.{ltb}
-use lib.ListN.{length}
-use borrow.Author.Rules.{rules}
 use Rattle.sender.specs.Board.{highest}
 use Rattle.sender.specs.Table.{is_active, slot_at}
 use Rattle.ground.specs.Counting.Laws.Tests.{some_more}
-use Rattle.ground.specs.Counting.Words.{some}
 use Rattle.sender.proofs.board.is_highest.Goals as goal
 
 pub loop-i-init : goal.loop-i-init

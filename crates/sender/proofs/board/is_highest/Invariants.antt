@@ -1,14 +1,10 @@
 -- `is_highest` meets its contract. By the loop: whether one of the first i slots is active under a higher number.
-use mathlib.Core.Bool.{◌&&◌, not}
-use mathlib.Core.Path.{◌≡◌, refl, ap}
+use mathlib.Core.Bool.{◌&&◌}
+use mathlib.Core.Path.{◌≡◌}
 use Prim.Native.Nat.{◌≤◌, ◌-◌}
-use native.Mathlib.Omega.{arith}
 use lib.Dec.{ltb}
 use lib.ListN.{length}
-use borrow.Author.Rules.{rules}
-use Rattle.sender.specs.Board.{highest}
 use Rattle.sender.specs.Table.{is_active, slot_at}
-use Rattle.ground.specs.Counting.Laws.Tests.{some_more}
 use Rattle.ground.specs.Counting.Words.{some}
 use Rattle.sender.proofs.board.is_highest.Given as goal
 

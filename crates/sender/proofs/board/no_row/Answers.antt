@@ -1,4 +1,3 @@
-use borrow.Author.Rules.{rules}
 use Rattle.sender.specs.Board.{no_row}
 use Rattle.sender.proofs.board.no_row.Goals as goal
 

@@ -1,4 +1,3 @@
-use borrow.Author.Rules.{rules}
 use Rattle.sender.specs.Board.{row_of}
 use Rattle.sender.proofs.board.row_of.Goals as goal
 

@@ -1,11 +1,9 @@
-use mathlib.Core.Path.{◌≡◌, ◌∙◌, refl, ap}
-use Prim.Native.Nat.{◌≤◌, ◌-◌}
+use mathlib.Core.Path.{◌∙◌, refl, ap}
 use native.Mathlib.Omega.{arith}
-use lib.ListN.{length, replicate}
-use borrow.Author.Rules.{rules}
+use lib.ListN.{replicate}
 use Rattle.sender.specs.Board.{row_of, rows_of}
 use Rattle.sender.specs.declared.board.Row.{Row}
-use Rattle.ground.specs.Counting.Each.{Done, done_none, done_more, done_all, each}
+use Rattle.ground.specs.Counting.Each.{done_none, done_more, done_all, each}
 use Rattle.sender.proofs.board.rows_of.Goals as goal
 
 pub loop-i-init : goal.loop-i-init

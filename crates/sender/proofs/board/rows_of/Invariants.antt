@@ -1,12 +1,9 @@
 -- `rows_of` meets its contract. By the loop: the first i rows are those of their slots, the others are empty.
-use mathlib.Core.Path.{◌≡◌, ◌∙◌, refl, ap}
+use mathlib.Core.Path.{◌≡◌}
 use Prim.Native.Nat.{◌≤◌, ◌-◌}
-use native.Mathlib.Omega.{arith}
-use lib.ListN.{length, replicate}
-use borrow.Author.Rules.{rules}
-use Rattle.sender.specs.Board.{row_of, rows_of}
-use Rattle.sender.specs.declared.board.Row.{Row}
-use Rattle.ground.specs.Counting.Each.{Done, done_none, done_more, done_all, each}
+use lib.ListN.{length}
+use Rattle.sender.specs.Board.{row_of}
+use Rattle.ground.specs.Counting.Each.{Done}
 use Rattle.sender.proofs.board.rows_of.Given as goal
 
 abbrev pub invariant-loop-i : goal.invariant-loop-i

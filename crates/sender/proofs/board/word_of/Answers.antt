@@ -1,5 +1,4 @@
 -- `word_of` meets its contract: a state a case, and of an active one whether its number is the highest.
-use borrow.Author.Rules.{rules}
 use Rattle.sender.proofs.board.word_of.Goals as goal
 
 pub returns-in-Idle : goal.returns-in-Idle

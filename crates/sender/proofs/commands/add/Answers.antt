@@ -2,7 +2,6 @@
 use mathlib.Core.Path.{◌∙◌, sym}
 use Prim.Native.Nat.{◌<◌}
 use native.Mathlib.Omega.{arith}
-use borrow.Author.Rules.{rules}
 use Rattle.sender.specs.Laws.Sizes.{size_le}
 use Rattle.sender.proofs.Answers.{add_no_slot, add_wait, add_not_allowed, add_done}
 use Rattle.sender.proofs.commands.add.Goals as goal

@@ -1,6 +1,3 @@
-use native.Mathlib.Omega.{arith}
-use lib.ListN.{length-map}
-use borrow.Author.Rules.{rules}
 use Rattle.sender.specs.Commands.{added_to}
 use Rattle.sender.specs.Laws.Sizes.{size_le}
 use Rattle.sender.proofs.commands.added_to.Goals as goal

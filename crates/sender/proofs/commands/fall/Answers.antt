@@ -1,6 +1,5 @@
 use Prim.Native.Nat.{◌<◌}
 use native.Mathlib.Omega.{arith}
-use borrow.Author.Rules.{rules}
 use Rattle.sender.proofs.Answers.{falls_below, fall_falls, fall_stays}
 use Rattle.sender.proofs.commands.fall.Goals as goal
 

@@ -1,11 +1,7 @@
-use mathlib.Core.Path.{◌≡◌, ◌∙◌, ap}
-use Prim.Native.Nat.{◌≤◌, ◌-◌}
+use mathlib.Core.Path.{◌∙◌, ap}
 use native.Mathlib.Omega.{arith}
-use lib.ListN.{length}
-use borrow.Author.Rules.{rules}
 use Rattle.sender.specs.Commands.{fallen, fallen_in}
-use Rattle.sender.specs.Table.{slot_at}
-use Rattle.ground.specs.Counting.Each.{Done, done_none, done_more, done_next, done_all}
+use Rattle.ground.specs.Counting.Each.{done_none, done_more, done_next, done_all}
 use Rattle.sender.proofs.commands.fall_in.Goals as goal
 
 pub loop-i-init : goal.loop-i-init

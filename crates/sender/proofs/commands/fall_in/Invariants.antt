@@ -1,12 +1,10 @@
 -- `fall_in` meets its contract. By the loop: the first i slots have closed the gap that a number left.
-use mathlib.Core.Path.{◌≡◌, ◌∙◌, ap}
+use mathlib.Core.Path.{◌≡◌}
 use Prim.Native.Nat.{◌≤◌, ◌-◌}
-use native.Mathlib.Omega.{arith}
 use lib.ListN.{length}
-use borrow.Author.Rules.{rules}
-use Rattle.sender.specs.Commands.{fallen, fallen_in}
+use Rattle.sender.specs.Commands.{fallen}
 use Rattle.sender.specs.Table.{slot_at}
-use Rattle.ground.specs.Counting.Each.{Done, done_none, done_more, done_next, done_all}
+use Rattle.ground.specs.Counting.Each.{Done}
 use Rattle.sender.proofs.commands.fall_in.Given as goal
 
 abbrev pub invariant-loop-i : goal.invariant-loop-i

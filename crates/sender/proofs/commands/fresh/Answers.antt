@@ -1,4 +1,3 @@
-use borrow.Author.Rules.{rules}
 use Rattle.sender.specs.Commands.{fresh_of}
 use Rattle.sender.proofs.commands.fresh.Goals as goal
 

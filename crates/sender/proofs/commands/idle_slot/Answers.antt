@@ -1,4 +1,3 @@
-use borrow.Author.Rules.{rules}
 use Rattle.sender.specs.Commands.{idle_slot}
 use Rattle.sender.proofs.commands.idle_slot.Goals as goal
 

@@ -2,7 +2,6 @@
 use mathlib.Core.Path.{◌∙◌, sym}
 use Prim.Native.Nat.{◌<◌}
 use native.Mathlib.Omega.{arith}
-use borrow.Author.Rules.{rules}
 use Rattle.sender.specs.Laws.Sizes.{size_le}
 use Rattle.sender.proofs.Answers.{remove_no_slot, remove_wait, remove_not_allowed, remove_done}
 use Rattle.sender.proofs.commands.remove.Goals as goal

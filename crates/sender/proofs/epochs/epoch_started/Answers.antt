@@ -1,4 +1,3 @@
-use borrow.Author.Rules.{rules}
 use Rattle.sender.proofs.Sending.{next_number, first_number}
 use Rattle.sender.proofs.epochs.epoch_started.Goals as goal
 

@@ -1,4 +1,3 @@
-use borrow.Author.Rules.{rules}
 use Rattle.sender.specs.Epochs.{fresh_sender}
 use Rattle.sender.proofs.epochs.fresh_sender.Goals as goal
 

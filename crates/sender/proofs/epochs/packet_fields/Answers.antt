@@ -1,5 +1,4 @@
 use mathlib.Core.Path.{refl}
-use borrow.Author.Rules.{rules}
 use Rattle.sender.specs.Epochs.{packet_fields}
 use Rattle.sender.proofs.epochs.packet_fields.Goals as goal
 

@@ -1,11 +1,6 @@
 use mathlib.Core.Path.{◌≡◌, ◌∙◌, sym}
-use Prim.Native.Nat.{◌≤◌, ◌-◌}
 use native.Mathlib.Omega.{arith}
-use lib.ListN.{length}
-use borrow.Author.Rules.{rules}
 use Rattle.sender.specs.Laws.Finding.{holder_none, holder_on, holder_here}
-use Rattle.sender.specs.Table.{holder_of}
-use Rattle.sender.specs.declared.finding.Found.TheVariants.{Nothing}
 use Rattle.sender.proofs.finding.find.Goals as goal
 
 pub loop-i-init : goal.loop-i-init

@@ -1,10 +1,7 @@
 -- `find` meets its contract. By the loop: none of the first i slots holds the number; the first that does ends it.
-use mathlib.Core.Path.{◌≡◌, ◌∙◌, sym}
+use mathlib.Core.Path.{◌≡◌}
 use Prim.Native.Nat.{◌≤◌, ◌-◌}
-use native.Mathlib.Omega.{arith}
 use lib.ListN.{length}
-use borrow.Author.Rules.{rules}
-use Rattle.sender.specs.Laws.Finding.{holder_none, holder_on, holder_here}
 use Rattle.sender.specs.Table.{holder_of}
 use Rattle.sender.specs.declared.finding.Found.TheVariants.{Nothing}
 use Rattle.sender.proofs.finding.find.Given as goal

@@ -1,4 +1,3 @@
-use borrow.Author.Rules.{rules}
 use Rattle.sender.proofs.finding.is_holder.Goals as goal
 
 pub returns : goal.returns

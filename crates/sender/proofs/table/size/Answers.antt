@@ -1,4 +1,3 @@
-use native.Mathlib.Omega.{arith}
 use Rattle.sender.specs.Table.{slot_count}
 use Rattle.sender.proofs.table.size.Goals as goal
 

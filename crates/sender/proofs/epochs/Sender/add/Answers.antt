@@ -1,4 +1,3 @@
-use borrow.Author.Rules.{rules}
 use Rattle.sender.proofs.Sending.{outcome_put}
 use Rattle.sender.proofs.epochs.Sender.add.Goals as goal
 

@@ -2,7 +2,6 @@
 -- Each exit cites one law of Sending over plain numbers, in the order of the tests.
 use Prim.Native.Nat.{◌<◌}
 use native.Mathlib.Omega.{arith}
-use borrow.Author.Rules.{rules}
 use borrow.Author.Tests.{not-true, not-false}
 use Rattle.sender.specs.Laws.Sizes.{size_le}
 use Rattle.sender.proofs.Sending.{packet_no_slot, packet_length, packet_early, packet_sent_lem}

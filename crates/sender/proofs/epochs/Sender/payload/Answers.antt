@@ -3,7 +3,6 @@
 use mathlib.Core.Path.{sym, ◌∙◌}
 use Prim.Native.Nat.{◌<◌}
 use native.Mathlib.Omega.{arith}
-use borrow.Author.Rules.{rules}
 use borrow.Author.Tests.{not-true, not-false}
 use Rattle.sender.specs.Laws.Sizes.{size_le}
 use Rattle.sender.proofs.Sending.{payload_no_slot, payload_other, payload_early, payload_sent_lem, x_is, rank_is}

@@ -1,5 +1,4 @@
 use native.Mathlib.Omega.{arith}
-use borrow.Author.Rules.{rules}
 use Rattle.sender.specs.Epochs.{ranks_of}
 use Rattle.sender.specs.Laws.Sizes.{size_le}
 use Rattle.sender.proofs.epochs.Sender.ranks.Goals as goal

@@ -1,4 +1,3 @@
-use borrow.Author.Rules.{rules}
 use Rattle.sender.proofs.Sending.{begun_as}
 use Rattle.sender.proofs.epochs.Sender.start.Goals as goal
 

@@ -1,5 +1,3 @@
-use borrow.Author.Rules.{rules}
-use borrow.Author.Tests.{not-true, not-false}
 use Rattle.sender.proofs.Sending.{start_refused, start_kept}
 use Rattle.sender.proofs.epochs.Sender.start_epoch.Goals as goal
 
