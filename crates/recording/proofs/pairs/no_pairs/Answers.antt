@@ -1,0 +1,5 @@
+use native.Mathlib.Omega.{arith}
+use Rattle.recording.proofs.pairs.no_pairs.Goals as goal
+
+pub returns : goal.returns
+returns c = rw c.plain-settings.ensures
