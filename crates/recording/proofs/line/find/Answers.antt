@@ -1,4 +1,3 @@
-use native.Mathlib.Omega.{arith}
 use Rattle.recording.specs.Laws.Parting.{found_ends, found_long, found_nothing, found_open}
 use Rattle.recording.proofs.line.find.Goals as goal
 

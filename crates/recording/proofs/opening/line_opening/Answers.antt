@@ -1,6 +1,5 @@
 use mathlib.Core.Path.{ap, ◌∙◌}
 use Rattle.recording.specs.Opening.{handed}
-use native.Mathlib.Omega.{arith}
 use Rattle.recording.specs.Laws.Parting.{opening_line_long, opening_line_short}
 use Rattle.recording.proofs.opening.line_opening.Goals as goal
 

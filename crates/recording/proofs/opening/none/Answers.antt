@@ -1,4 +1,3 @@
-use native.Mathlib.Omega.{arith}
 use Rattle.recording.proofs.opening.none.Goals as goal
 
 pub returns : goal.returns

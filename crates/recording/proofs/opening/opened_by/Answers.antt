@@ -2,7 +2,6 @@
 use mathlib.Core.Path.{◌∙◌}
 use Rattle.recording.proofs.Reading.{opened_is}
 use Rattle.recording.specs.declared.pairs.Awaited.TheVariants.{Name, Kind, Time, Nothing}
-use native.Mathlib.Omega.{arith}
 use Rattle.recording.proofs.opening.opened_by.Goals as goal
 
 pub returns-in-Name : goal.returns-in-Name

@@ -3,7 +3,6 @@ use mathlib.Core.Path.{ap, ◌∙◌}
 use Rattle.recording.specs.Opening.{handed}
 use Rattle.recording.specs.Laws.Pairs.{fields_from}
 use Rattle.recording.proofs.Framing.{all_set, no_count, no_size, no_window}
-use native.Mathlib.Omega.{arith}
 use Rattle.recording.proofs.opening.settings_by.Goals as goal
 
 pub returns-in_default : goal.returns-in_default

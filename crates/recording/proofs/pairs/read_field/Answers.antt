@@ -5,7 +5,6 @@ use Rattle.recording.proofs.Reading.{field_is}
 use Rattle.recording.specs.Pairs.{time_read}
 use Rattle.recording.specs.declared.pairs.Awaited.TheVariants.{Name, Kind, Time, Nothing}
 use Rattle.text.specs.declared.fields.Number.{Number}
-use native.Mathlib.Omega.{arith}
 use Rattle.recording.proofs.pairs.read_field.Goals as goal
 
 pub returns-in-Name : goal.returns-in-Name

@@ -1,6 +1,5 @@
 -- `read_kind` meets its contract: the three kinds by their words, else the line is refused. Each exit cites one law.
 use lib.Seq.{slice}
-use native.Mathlib.Omega.{arith}
 use Rattle.recording.proofs.Reading.{kind_fixed, kind_h4, kind_none, kind_vc12}
 use Rattle.recording.proofs.pairs.read_kind.Goals as goal
 

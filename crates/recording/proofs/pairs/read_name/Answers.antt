@@ -1,7 +1,6 @@
 -- `read_name` meets its contract: the three names in order, each only once, else the line is refused. Each exit cites one law.
 use lib.Seq.{slice}
 use Rattle.recording.proofs.Reading.{name_hold, name_kind, name_none, name_restore}
-use native.Mathlib.Omega.{arith}
 use Rattle.recording.proofs.pairs.read_name.Goals as goal
 
 pub returns-then-same-pairs : goal.returns-then-same-pairs

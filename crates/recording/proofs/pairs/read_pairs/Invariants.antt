@@ -1,11 +1,8 @@
 -- `read_pairs` meets its contract. By the loop: the pairs read so far and the fields from the place on give what the first pairs and all fields give.
-use mathlib.Core.Path.{◌≡◌, refl, sym, ap, ◌∙◌}
+use mathlib.Core.Path.{◌≡◌}
 use Prim.Native.Nat.{◌+◌, ◌-◌}
-use native.Mathlib.Omega.{arith}
-use Rattle.recording.specs.declared.pairs.Pairs.{Pairs}
-use Rattle.recording.specs.Laws.Pairs.{fields_from, pairs_none, pairs_one}
+use Rattle.recording.specs.Laws.Pairs.{fields_from}
 use Rattle.recording.specs.Pairs.{pairs_from}
-use Rattle.text.specs.Laws.Slices.{first_le}
 use Rattle.recording.proofs.pairs.read_pairs.Given as goal
 
 abbrev pub invariant-loop-at : goal.invariant-loop-at

@@ -1,6 +1,5 @@
 -- `read_time` meets its contract: what is no number leaves nothing awaited, a number is the port's time, and the next port's is awaited.
 use Rattle.recording.proofs.Reading.{time_none, time_value}
-use native.Mathlib.Omega.{arith}
 use Rattle.recording.proofs.pairs.read_time.Goals as goal
 
 pub returns-in_default : goal.returns-in_default

@@ -1,5 +1,4 @@
 use borrow.Author.Tests.{le-ltb, lt-ltb}
-use native.Mathlib.Omega.{arith}
 use Rattle.recording.proofs.pairs.time_from.Goals as goal
 
 pub returns-then-i-ports : goal.returns-then-i-ports

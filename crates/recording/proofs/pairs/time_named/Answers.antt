@@ -1,4 +1,3 @@
-use native.Mathlib.Omega.{arith}
 use Rattle.recording.proofs.pairs.time_named.Goals as goal
 
 pub returns : goal.returns

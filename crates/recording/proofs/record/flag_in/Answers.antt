@@ -1,6 +1,5 @@
 use mathlib.Core.Path.{sym, ◌∙◌}
 use lib.Seq.{slice}
-use native.Mathlib.Omega.{arith}
 use Rattle.recording.proofs.Framing.{flag_none, flag_other, flag_set}
 use Rattle.recording.proofs.record.flag_in.Goals as goal
 

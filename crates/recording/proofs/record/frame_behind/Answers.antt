@@ -1,5 +1,4 @@
 -- `frame_behind` meets its contract: port, H4, flag and payload, each read where a frame's line has it; the calls follow the definition.
-use native.Mathlib.Omega.{arith}
 use Rattle.recording.specs.Laws.Here.{frame_behind}
 use Rattle.recording.proofs.record.frame_behind.Goals as goal
 

@@ -2,7 +2,6 @@
 use mathlib.Core.Path.{ap, ◌∙◌}
 use Prim.Native.Nat.{ℕ, ◌+◌}
 use lib.Seq.{slice}
-use native.Mathlib.Omega.{arith}
 use Rattle.text.specs.Fields.{is_hex}
 use Rattle.recording.specs.Laws.Parting.{five, four}
 use Rattle.recording.proofs.record.frame_line.Goals as goal

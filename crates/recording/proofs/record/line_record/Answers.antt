@@ -1,4 +1,3 @@
-use native.Mathlib.Omega.{arith}
 use Rattle.recording.specs.Laws.Parting.{line_long, line_short}
 use Rattle.recording.proofs.record.line_record.Goals as goal
 

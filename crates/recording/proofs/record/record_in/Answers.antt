@@ -1,6 +1,4 @@
 use mathlib.Core.Path.{sym, ◌∙◌}
-use native.Mathlib.Omega.{arith}
-use borrow.Author.Rules.{rules}
 use Rattle.recording.proofs.record.record_in.Goals as goal
 
 pub returns-then-is_frame : goal.returns-then-is_frame
