@@ -1,0 +1,17 @@
+-- `all_ready` meets its contract. By the loop: the first i ports are ready; the first that is not ends it.
+use Prim.Native.Nat.{ℕ, ◌≤◌, ◌-◌}
+use mathlib.Core.Path.{◌≡◌, refl, sym, ap, ◌∙◌}
+use mathlib.Core.Bool.{Bool, true, false}
+use native.Mathlib.Omega.{arith}
+use borrow.Author.Tests.{not-true, not-false}
+use Rattle.ground.specs.Counting.Laws.Tests.{every_fails, every_on}
+use Rattle.ground.specs.Counting.Words.{every}
+use Rattle.rows.specs.Step.{step_at}
+use Rattle.phases.specs.Beginning.{ready}
+use Rattle.phases.proofs.starting.all_ready.Given as goal
+
+abbrev pub invariant-loop-i : goal.invariant-loop-i
+invariant-loop-i l = (l.i ≤ l.ports) × (every l.i (λ k. ready l.group (step_at l.state k)) ≡ true)
+
+abbrev pub decreases-loop-i : goal.decreases-loop-i
+decreases-loop-i l = l.ports - l.i

@@ -1,0 +1,7 @@
+use Rattle.phases.specs.Beginning.{latest}
+use native.Mathlib.Omega.{arith}
+use Rattle.phases.proofs.starting.latest.Goals as goal
+
+pub returns : goal.returns
+unfolding latest
+returns c = c.previous_tag.ensures
