@@ -1,10 +1,8 @@
-use Prim.Native.Nat.{ℕ, ◌≤◌, ◌-◌}
+use Prim.Native.Nat.{ℕ}
 use mathlib.Core.Path.{◌≡◌, refl, sym, ◌∙◌}
 use mathlib.Core.Bool.{Bool, true, false}
 use native.Mathlib.Omega.{arith}
-use borrow.Author.Tests.{not-true, not-false}
 use Rattle.ground.specs.Counting.Laws.Tests.{every_fails, every_on}
-use Rattle.ground.specs.Counting.Words.{every}
 use Rattle.rows.specs.Step.{step_at}
 use Rattle.rows.specs.Packets.{marks_at}
 use Rattle.phases.specs.Due.{brought, owes_nothing}

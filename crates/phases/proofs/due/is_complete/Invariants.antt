@@ -1,14 +1,11 @@
 -- `is_complete` meets its contract. By the loop: the first i ports owe nothing; the first that does ends it.
-use Prim.Native.Nat.{ℕ, ◌≤◌, ◌-◌}
-use mathlib.Core.Path.{◌≡◌, refl, sym, ◌∙◌}
-use mathlib.Core.Bool.{Bool, true, false}
-use native.Mathlib.Omega.{arith}
-use borrow.Author.Tests.{not-true, not-false}
-use Rattle.ground.specs.Counting.Laws.Tests.{every_fails, every_on}
+use Prim.Native.Nat.{◌≤◌, ◌-◌}
+use mathlib.Core.Path.{◌≡◌}
+use mathlib.Core.Bool.{true}
 use Rattle.ground.specs.Counting.Words.{every}
 use Rattle.rows.specs.Step.{step_at}
 use Rattle.rows.specs.Packets.{marks_at}
-use Rattle.phases.specs.Due.{brought, owes_nothing}
+use Rattle.phases.specs.Due.{owes_nothing}
 use Rattle.phases.proofs.due.is_complete.Given as goal
 
 abbrev pub invariant-loop-i : goal.invariant-loop-i

@@ -1,14 +1,10 @@
 -- `is_silent` meets its contract. By the loop: the first i ports are not readable; the first that is ends it.
-use Prim.Native.Nat.{ℕ, ◌≤◌, ◌-◌}
-use mathlib.Core.Path.{◌≡◌, refl, sym, ◌∙◌}
-use mathlib.Core.Bool.{Bool, true, false, not}
-use native.Mathlib.Omega.{arith}
-use borrow.Author.Tests.{not-true, not-false}
-use Rattle.ground.specs.Counting.Laws.Tests.{every_fails, every_on}
+use Prim.Native.Nat.{◌≤◌, ◌-◌}
+use mathlib.Core.Path.{◌≡◌}
+use mathlib.Core.Bool.{true, not}
 use Rattle.ground.specs.Counting.Words.{every}
 use Rattle.rows.specs.Step.{step_at}
 use Rattle.step.specs.Arrival.{readable}
-use Rattle.phases.specs.Due.{silent}
 use Rattle.phases.proofs.due.is_silent.Given as goal
 
 abbrev pub invariant-loop-i : goal.invariant-loop-i

@@ -1,5 +1,4 @@
 use mathlib.Core.Path.{refl}
-use native.Mathlib.Omega.{arith}
 use Rattle.phases.proofs.due.is_unreadable.Goals as goal
 
 pub returns : goal.returns

@@ -1,6 +1,5 @@
 use mathlib.Core.Path.{refl}
 use Rattle.phases.specs.Due.{owes_nothing}
-use native.Mathlib.Omega.{arith}
 use Rattle.phases.proofs.due.owes_nothing.Goals as goal
 
 pub returns : goal.returns

@@ -1,5 +1,4 @@
 use mathlib.Core.Path.{refl}
-use native.Mathlib.Omega.{arith}
 use Rattle.phases.proofs.due.port_owes_nothing.Goals as goal
 
 pub returns : goal.returns

@@ -1,6 +1,5 @@
 use mathlib.Core.Path.{refl}
 use Rattle.phases.specs.Passing.{noted_by}
-use native.Mathlib.Omega.{arith}
 use Rattle.phases.proofs.passing.noted_by.Goals as goal
 
 pub returns : goal.returns

@@ -1,5 +1,4 @@
 use mathlib.Core.Path.{◌∙◌}
-use native.Mathlib.Omega.{arith}
 use Rattle.phases.specs.Theorems.ByTable.{passed_with_lem}
 use Rattle.phases.proofs.passing.pass.Goals as goal
 

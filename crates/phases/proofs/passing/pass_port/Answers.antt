@@ -1,6 +1,5 @@
 -- `pass_port` meets its contract: fifteen calls that read, work out and put back, one behind the other. Each says what it gives, and `passed_is` joins them.
 use Rattle.phases.proofs.Passed.{passed_is}
-use native.Mathlib.Omega.{arith}
 use Rattle.phases.proofs.passing.pass_port.Goals as goal
 
 pub returns : goal.returns

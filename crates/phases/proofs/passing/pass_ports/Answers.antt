@@ -1,9 +1,7 @@
 use lib.ListN.{length}
-use Prim.Native.Nat.{◌≤◌, ◌-◌}
 use mathlib.Core.Path.{◌≡◌, refl, ap, ◌∙◌}
 use native.Mathlib.Numerals.{add-one}
 use native.Mathlib.Omega.{arith}
-use borrow.Author.Rules.{rules}
 use Rattle.phases.specs.ByTable.{passed_ports_with}
 use Rattle.phases.specs.Theorems.ByTable.{length_passed_ports_with}
 use Rattle.phases.proofs.passing.pass_ports.Goals as goal

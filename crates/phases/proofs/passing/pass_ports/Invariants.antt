@@ -1,12 +1,7 @@
 -- `pass_ports` meets its contract. By the loop: the epoch has passed of the first i ports.
-use lib.ListN.{length}
 use Prim.Native.Nat.{◌≤◌, ◌-◌}
-use mathlib.Core.Path.{◌≡◌, refl, ap, ◌∙◌}
-use native.Mathlib.Numerals.{add-one}
-use native.Mathlib.Omega.{arith}
-use borrow.Author.Rules.{rules}
+use mathlib.Core.Path.{◌≡◌}
 use Rattle.phases.specs.ByTable.{passed_ports_with}
-use Rattle.phases.specs.Theorems.ByTable.{length_passed_ports_with}
 use Rattle.phases.proofs.passing.pass_ports.Given as goal
 
 abbrev pub invariant-loop-i : goal.invariant-loop-i

@@ -1,6 +1,5 @@
 use mathlib.Core.Path.{refl}
 use Rattle.phases.specs.ByTable.{passed_with}
-use native.Mathlib.Omega.{arith}
 use Rattle.phases.proofs.passing.pass_with.Goals as goal
 
 pub returns : goal.returns

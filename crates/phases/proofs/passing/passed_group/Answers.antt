@@ -1,6 +1,5 @@
 use mathlib.Core.Path.{refl}
 use Rattle.phases.specs.Passing.{passed_group}
-use native.Mathlib.Omega.{arith}
 use Rattle.phases.proofs.passing.passed_group.Goals as goal
 
 pub returns : goal.returns

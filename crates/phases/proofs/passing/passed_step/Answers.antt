@@ -1,6 +1,5 @@
 use mathlib.Core.Path.{refl}
 use Rattle.phases.specs.Passing.{passed_step}
-use native.Mathlib.Omega.{arith}
 use Rattle.phases.proofs.passing.passed_step.Goals as goal
 
 pub returns : goal.returns

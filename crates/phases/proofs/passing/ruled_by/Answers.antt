@@ -1,6 +1,5 @@
 use mathlib.Core.Path.{refl}
 use Rattle.phases.specs.Passing.{ruled_by}
-use native.Mathlib.Omega.{arith}
 use Rattle.phases.proofs.passing.ruled_by.Goals as goal
 
 pub returns-then-whole : goal.returns-then-whole

@@ -1,7 +1,6 @@
 -- `begin` meets its contract: ports cleared as at a beginning, and the group with the epoch after the foremost tag as its oldest. The calls follow the definition.
 use mathlib.Core.Path.{refl}
 use Rattle.phases.specs.Settling.{begun_of}
-use native.Mathlib.Omega.{arith}
 use Rattle.phases.proofs.settling.begin.Goals as goal
 
 pub returns : goal.returns

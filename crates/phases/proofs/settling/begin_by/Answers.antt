@@ -1,7 +1,6 @@
 -- `begin_by` meets its contract: each exit is the definition at the tests that the code took.
 use mathlib.Core.Path.{refl}
 use Rattle.phases.specs.Settling.{begin_by}
-use native.Mathlib.Omega.{arith}
 use Rattle.phases.proofs.settling.begin_by.Goals as goal
 
 pub returns-then-is_begun_by : goal.returns-then-is_begun_by

@@ -1,6 +1,5 @@
 -- `clear_port` meets its contract: the port's step cleared, then its marks (`cleared-is`).
 use Rattle.phases.proofs.Cleared.{cleared_is}
-use native.Mathlib.Omega.{arith}
 use Rattle.phases.proofs.settling.clear_port.Goals as goal
 
 pub returns : goal.returns

@@ -1,11 +1,7 @@
 -- `clear_ports` meets its contract. By the loop: the first i ports are cleared.
-use lib.ListN.{length}
 use Prim.Native.Nat.{◌≤◌, ◌-◌}
-use mathlib.Core.Path.{◌≡◌, refl, ap, ◌∙◌}
-use native.Mathlib.Numerals.{add-one}
-use native.Mathlib.Omega.{arith}
+use mathlib.Core.Path.{◌≡◌}
 use Rattle.phases.specs.Settling.{cleared_ports}
-use Rattle.phases.specs.Laws.Lengths.{length_cleared}
 use Rattle.phases.proofs.settling.clear_ports.Given as goal
 
 abbrev pub invariant-loop-i : goal.invariant-loop-i

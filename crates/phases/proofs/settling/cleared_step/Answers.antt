@@ -1,6 +1,5 @@
 use mathlib.Core.Path.{refl}
 use Rattle.phases.specs.Settling.{cleared_step}
-use native.Mathlib.Omega.{arith}
 use Rattle.phases.proofs.settling.cleared_step.Goals as goal
 
 pub returns : goal.returns

@@ -1,7 +1,6 @@
 -- `gather_by` meets its contract: each exit is the definition at the tests that the code took.
 use mathlib.Core.Path.{refl}
 use Rattle.phases.specs.Settling.{gather_by}
-use native.Mathlib.Omega.{arith}
 use Rattle.phases.proofs.settling.gather_by.Goals as goal
 
 pub returns-then-is_complete : goal.returns-then-is_complete

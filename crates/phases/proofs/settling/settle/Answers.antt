@@ -1,6 +1,5 @@
 -- `settle` meets its contract: stopping, beginning and gathering, one behind the other, each with the group as the one before left it (`settled_is`).
 use Rattle.phases.proofs.Settled.{settled_is}
-use native.Mathlib.Omega.{arith}
 use Rattle.phases.proofs.settling.settle.Goals as goal
 
 pub returns : goal.returns

@@ -1,7 +1,6 @@
 -- `stop` meets its contract: ports cleared, and the group stopped. The calls follow the definition.
 use mathlib.Core.Path.{refl}
 use Rattle.phases.specs.Settling.{stopped_of}
-use native.Mathlib.Omega.{arith}
 use Rattle.phases.proofs.settling.stop.Goals as goal
 
 pub returns : goal.returns

@@ -2,7 +2,6 @@ use mathlib.Core.Path.{◌≡◌, refl}
 use mathlib.Core.Bool.{Bool, true, false, cond, ◌||◌}
 use Prim.Native.Nat.{ℕ}
 use lib.Dec.{eqb}
-use native.Mathlib.Omega.{arith}
 use Rattle.packet.specs.Kinds.{fixed_kind, vc12_kind}
 use Rattle.packet.specs.Laws.Clock.{by_kind, h4_numbers}
 use Rattle.packet.specs.Laws.Known.{known_else, vc12_known}

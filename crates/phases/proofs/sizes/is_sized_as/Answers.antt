@@ -1,5 +1,4 @@
 use mathlib.Core.Path.{refl}
-use native.Mathlib.Omega.{arith}
 use Rattle.phases.proofs.sizes.is_sized_as.Goals as goal
 
 pub returns : goal.returns

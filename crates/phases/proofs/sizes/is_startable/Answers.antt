@@ -1,5 +1,4 @@
 use mathlib.Core.Path.{refl}
-use borrow.Author.Rules.{rules}
 use Rattle.phases.specs.Sizes.{start_sized}
 use Rattle.phases.proofs.sizes.is_startable.Goals as goal
 

@@ -1,6 +1,5 @@
 use mathlib.Core.Path.{refl}
 use Rattle.phases.specs.Sizes.{ports_in}
-use native.Mathlib.Omega.{arith}
 use Rattle.phases.proofs.sizes.ports_in.Goals as goal
 
 pub returns-then-is_sized : goal.returns-then-is_sized

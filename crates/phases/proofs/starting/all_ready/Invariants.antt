@@ -1,10 +1,7 @@
 -- `all_ready` meets its contract. By the loop: the first i ports are ready; the first that is not ends it.
-use Prim.Native.Nat.{ℕ, ◌≤◌, ◌-◌}
-use mathlib.Core.Path.{◌≡◌, refl, sym, ap, ◌∙◌}
-use mathlib.Core.Bool.{Bool, true, false}
-use native.Mathlib.Omega.{arith}
-use borrow.Author.Tests.{not-true, not-false}
-use Rattle.ground.specs.Counting.Laws.Tests.{every_fails, every_on}
+use Prim.Native.Nat.{◌≤◌, ◌-◌}
+use mathlib.Core.Path.{◌≡◌}
+use mathlib.Core.Bool.{true}
 use Rattle.ground.specs.Counting.Words.{every}
 use Rattle.rows.specs.Step.{step_at}
 use Rattle.phases.specs.Beginning.{ready}

@@ -1,8 +1,6 @@
 -- `foremost` meets its contract. By the loop: the foremost of the first i ports' tags.
 use Prim.Native.Nat.{◌≤◌, ◌-◌}
 use mathlib.Core.Path.{◌≡◌}
-use native.Mathlib.Numerals.{add-one}
-use native.Mathlib.Omega.{arith}
 use Rattle.phases.specs.Beginning.{foremost}
 use Rattle.phases.proofs.starting.foremost.Given as goal
 

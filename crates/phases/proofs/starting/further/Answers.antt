@@ -1,6 +1,5 @@
 use mathlib.Core.Path.{refl}
 use Rattle.phases.specs.Beginning.{further}
-use native.Mathlib.Omega.{arith}
 use Rattle.phases.proofs.starting.further.Goals as goal
 
 pub returns-then-leads : goal.returns-then-leads

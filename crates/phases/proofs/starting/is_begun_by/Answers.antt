@@ -1,7 +1,5 @@
 -- The definition's three conditions in its order; where a port is not ready the first decides, and the two others are not worked out.
 use mathlib.Core.Path.{refl}
-use native.Mathlib.Omega.{arith}
-use borrow.Author.Tests.{not-true, not-false}
 use Rattle.phases.specs.Beginning.{begins}
 use Rattle.phases.proofs.starting.is_begun_by.Goals as goal
 

@@ -1,7 +1,6 @@
 -- `is_in_arc` meets its contract: the tests and the sum of the definition, which fit their types.
 use mathlib.Core.Path.{refl}
 use Rattle.phases.specs.Beginning.{in_arc}
-use native.Mathlib.Omega.{arith}
 use Rattle.phases.proofs.starting.is_in_arc.Goals as goal
 
 pub returns : goal.returns

@@ -1,6 +1,5 @@
 use mathlib.Core.Path.{refl}
 use Rattle.phases.specs.Beginning.{ready}
-use native.Mathlib.Omega.{arith}
 use Rattle.phases.proofs.starting.is_ready.Goals as goal
 
 pub returns : goal.returns

@@ -1,5 +1,4 @@
 use Rattle.phases.specs.Beginning.{latest}
-use native.Mathlib.Omega.{arith}
 use Rattle.phases.proofs.starting.latest.Goals as goal
 
 pub returns : goal.returns

@@ -1,6 +1,5 @@
 use Rattle.phases.specs.Beginning.{no_tag}
 use mathlib.Core.Path.{refl}
-use native.Mathlib.Omega.{arith}
 use Rattle.phases.proofs.starting.leads.Goals as goal
 
 pub returns : goal.returns

@@ -1,5 +1,4 @@
 use Rattle.phases.specs.Beginning.{no_tag}
-use native.Mathlib.Omega.{arith}
 use Rattle.phases.proofs.starting.no_tag.Goals as goal
 
 pub returns : goal.returns
