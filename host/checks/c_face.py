@@ -1,4 +1,4 @@
-"""c-face [FOLDER]: the C header says of each call what the crates of C calls have: c_face, c_receiver, c_cards and c_recordings.
+"""c-face [FOLDER]: the C header says of each call what the crates of exports have: c_face_c, c_receiver_c, c_cards_c and c_recordings_c.
 
 A contract names its parameters and C passes them by place, so nothing proved holds the two together. This does: for
 each `pub extern "C" fn` of their src/, include/levelspruce.h declares the same parameters in the same order, with
@@ -8,8 +8,8 @@ header declares nothing else but texts, which are C (host/library) and return no
 import re
 
 from checks.contracts import functions, module_path, without_comments
+from checks.exports import EXPORTS
 
-FACES = ("c_face", "c_receiver", "c_cards", "c_recordings")  # as host/tools/platform.sh has them
 NUMBERS = {"u8": "uint8_t", "u16": "uint16_t", "u32": "uint32_t", "u64": "uint64_t", "usize": "size_t"}
 SLICE = re.compile(r"&\s*(?P<mut>mut\s+)?\[\s*(?:\[\s*(?P<row>\w+)\s*;\s*(?P<size>\d+)\s*\]|(?P<number>\w+))\s*\]")
 
@@ -51,7 +51,7 @@ def check(top):
     found, header = list(called(top)), dict(declared(top))
     calls = {n: p for _, n, p in found}
     rows = "".join(p.read_text() for p in sorted((top / "crates/conformance/specs").rglob("*.antt")))
-    wrong = [f"{n}\tis a C call of {crate}, of which the library is not made" for crate, n, _ in found if crate not in FACES]
+    wrong = [f"{n}\tis a C call of {crate}, of which the library is not made" for crate, n, _ in found if crate not in EXPORTS]
     wrong += [f"{n}\tis a C call twice" for n in sorted(calls) if [m for _, m, _ in found].count(n) > 1]
     wrong += [f"{n}\tis not in the header" for n in calls if n not in header]
     wrong += [f"{n}\tis in the header alone" for n in header if n not in calls]

@@ -13,7 +13,7 @@ import importlib
 import pathlib
 import traceback
 
-CHECKS = ("entry-points", "c-face", "refusals", "promised-names", "rules", "pages", "clock-numbers", "uncited", "opened", "believed", "call-places")
+CHECKS = ("entry-points", "c-face", "exports", "refusals", "promised-names", "rules", "pages", "clock-numbers", "uncited", "opened", "believed", "call-places")
 TOOLS = ("moved", "unpinned")
 TESTED = ("runner",) + CHECKS + TOOLS
 

@@ -154,8 +154,7 @@ fn start_by(kind: u32, count: u32, first_epoch_0: u32, first_epoch_1: u32, state
     0
 }
 
-#[unsafe(no_mangle)]
-pub extern "C" fn levelspruce_card_start(
+pub fn levelspruce_card_start(
     count: u32,
     first_epoch_0: u32,
     first_epoch_1: u32,
@@ -167,8 +166,7 @@ pub extern "C" fn levelspruce_card_start(
     start_by(kinds::H4 as u32, count, first_epoch_0, first_epoch_1, state)
 }
 
-#[unsafe(no_mangle)]
-pub extern "C" fn levelspruce_card_start_as(
+pub fn levelspruce_card_start_as(
     kind: u32,
     count: u32,
     first_epoch_0: u32,
@@ -181,8 +179,7 @@ pub extern "C" fn levelspruce_card_start_as(
     start_by(kind, count, first_epoch_0, first_epoch_1, state)
 }
 
-#[unsafe(no_mangle)]
-pub extern "C" fn levelspruce_card_claim(state: &mut [u8], group: u32, slot: u32) -> u8
+pub fn levelspruce_card_claim(state: &mut [u8], group: u32, slot: u32) -> u8
     ensures { (result ≡ call_answer_on true group (Claim slot) state.old)
         × (state.new ≡ call_state_on true group (Claim slot) state.old) }
 {
@@ -195,8 +192,7 @@ pub extern "C" fn levelspruce_card_claim(state: &mut [u8], group: u32, slot: u32
     keep(outcome, group, state)
 }
 
-#[unsafe(no_mangle)]
-pub extern "C" fn levelspruce_card_release(state: &mut [u8], group: u32, slot: u32) -> u8
+pub fn levelspruce_card_release(state: &mut [u8], group: u32, slot: u32) -> u8
     ensures { (result ≡ call_answer_on true group (Release slot) state.old)
         × (state.new ≡ call_state_on true group (Release slot) state.old) }
 {
@@ -209,8 +205,7 @@ pub extern "C" fn levelspruce_card_release(state: &mut [u8], group: u32, slot: u
     keep(outcome, group, state)
 }
 
-#[unsafe(no_mangle)]
-pub extern "C" fn levelspruce_card_add(state: &mut [u8], group: u32, slot: u32) -> u8
+pub fn levelspruce_card_add(state: &mut [u8], group: u32, slot: u32) -> u8
     ensures { (result ≡ call_answer_on true group (AddSlot slot) state.old)
         × (state.new ≡ call_state_on true group (AddSlot slot) state.old) }
 {
@@ -223,8 +218,7 @@ pub extern "C" fn levelspruce_card_add(state: &mut [u8], group: u32, slot: u32) 
     keep(outcome, group, state)
 }
 
-#[unsafe(no_mangle)]
-pub extern "C" fn levelspruce_card_remove(state: &mut [u8], group: u32, slot: u32) -> u8
+pub fn levelspruce_card_remove(state: &mut [u8], group: u32, slot: u32) -> u8
     ensures { (result ≡ call_answer_on true group (RemoveSlot slot) state.old)
         × (state.new ≡ call_state_on true group (RemoveSlot slot) state.old) }
 {
@@ -237,8 +231,7 @@ pub extern "C" fn levelspruce_card_remove(state: &mut [u8], group: u32, slot: u3
     keep(outcome, group, state)
 }
 
-#[unsafe(no_mangle)]
-pub extern "C" fn levelspruce_card_lapse(state: &mut [u8], group: u32) -> u8
+pub fn levelspruce_card_lapse(state: &mut [u8], group: u32) -> u8
     ensures { (result ≡ call_answer_on true group Lapse state.old)
         × (state.new ≡ call_state_on true group Lapse state.old) }
 {
@@ -251,8 +244,7 @@ pub extern "C" fn levelspruce_card_lapse(state: &mut [u8], group: u32) -> u8
     keep(outcome, group, state)
 }
 
-#[unsafe(no_mangle)]
-pub extern "C" fn levelspruce_card_report(
+pub fn levelspruce_card_report(
     state: &mut [u8],
     group: u32,
     epoch: u32,
@@ -274,8 +266,7 @@ pub extern "C" fn levelspruce_card_report(
     keep(outcome, group, state)
 }
 
-#[unsafe(no_mangle)]
-pub extern "C" fn levelspruce_card_start_epoch(
+pub fn levelspruce_card_start_epoch(
     state: &mut [u8],
     group: u32,
     gid: u32,
@@ -333,8 +324,7 @@ fn packet_in(owner: u8, group: u32, part: &[u8], slot: u32, h4: &mut [u8]) -> u8
     answer.number()
 }
 
-#[unsafe(no_mangle)]
-pub extern "C" fn levelspruce_card_packet(state: &[u8], group: u32, slot: u32, h4: &mut [u8]) -> u8
+pub fn levelspruce_card_packet(state: &[u8], group: u32, slot: u32, h4: &mut [u8]) -> u8
     ensures { (result ≡ packet_answer_on state.now group slot h4.old)
         × (h4.new ≡ packet_bytes_on state.now group slot h4.old) }
 {
@@ -349,8 +339,7 @@ pub extern "C" fn levelspruce_card_packet(state: &[u8], group: u32, slot: u32, h
     packet_in(owner, group, &state[SECOND_PART..CARD_BYTES], slot, h4)
 }
 
-#[unsafe(no_mangle)]
-pub extern "C" fn levelspruce_card_payload(
+pub fn levelspruce_card_payload(
     state: &[u8],
     group: u32,
     slot: u32,
@@ -370,8 +359,7 @@ pub extern "C" fn levelspruce_card_payload(
     answer.number()
 }
 
-#[unsafe(no_mangle)]
-pub extern "C" fn levelspruce_card_board(state: &[u8], group: u32, board: &mut [u8]) -> u8
+pub fn levelspruce_card_board(state: &[u8], group: u32, board: &mut [u8]) -> u8
     ensures { (result ≡ shown_answer_on 130 state.now group board.old)
         × (board.new ≡ board_bytes_on state.now group board.old) }
 {
@@ -389,8 +377,7 @@ pub extern "C" fn levelspruce_card_board(state: &[u8], group: u32, board: &mut [
     0
 }
 
-#[unsafe(no_mangle)]
-pub extern "C" fn levelspruce_card_board_going(state: &[u8], group: u32, board: &mut [u8]) -> u8
+pub fn levelspruce_card_board_going(state: &[u8], group: u32, board: &mut [u8]) -> u8
     ensures { (result ≡ shown_answer_on 130 state.now group board.old)
         × (board.new ≡ outgoing_bytes_on state.now group board.old) }
 {
@@ -408,8 +395,7 @@ pub extern "C" fn levelspruce_card_board_going(state: &[u8], group: u32, board: 
     0
 }
 
-#[unsafe(no_mangle)]
-pub extern "C" fn levelspruce_card_ranks(state: &[u8], group: u32, ranks: &mut [u8]) -> u8
+pub fn levelspruce_card_ranks(state: &[u8], group: u32, ranks: &mut [u8]) -> u8
     ensures { (result ≡ shown_answer_on 68 state.now group ranks.old)
         × (ranks.new ≡ ranks_bytes_on state.now group ranks.old) }
 {
@@ -434,8 +420,7 @@ fn put_owned(owned: [u8; 64], out: &mut [u8])
     keeping::put_bytes(&owned, 0, out);
 }
 
-#[unsafe(no_mangle)]
-pub extern "C" fn levelspruce_card_owned(state: &[u8], group: u32, owned: &mut [u8]) -> u8
+pub fn levelspruce_card_owned(state: &[u8], group: u32, owned: &mut [u8]) -> u8
     ensures { (result ≡ shown_answer_on 64 state.now group owned.old)
         × (owned.new ≡ owned_bytes_on state.now group owned.old) }
 {

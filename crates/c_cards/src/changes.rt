@@ -127,8 +127,7 @@ pub(crate) fn put_changes(changes: Changes, out: &mut [u8])
     put_list(list, out);
 }
 
-#[unsafe(no_mangle)]
-pub extern "C" fn levelspruce_board_changes(before: &[u8], after: &[u8], changes: &mut [u8]) -> u8
+pub fn levelspruce_board_changes(before: &[u8], after: &[u8], changes: &mut [u8]) -> u8
     ensures { (result ≡ compared_answer_c before.now after.now changes.old)
         × (changes.new ≡ compared_bytes_c before.now after.now changes.old) }
 {
@@ -154,8 +153,7 @@ pub extern "C" fn levelspruce_board_changes(before: &[u8], after: &[u8], changes
     0
 }
 
-#[unsafe(no_mangle)]
-pub extern "C" fn levelspruce_board_apply(board: &mut [u8], changes: &[u8]) -> u8
+pub fn levelspruce_board_apply(board: &mut [u8], changes: &[u8]) -> u8
     ensures { (result ≡ applied_answer_c board.old changes.now)
         × (board.new ≡ applied_bytes_c board.old changes.now) }
 {
@@ -181,12 +179,7 @@ pub extern "C" fn levelspruce_board_apply(board: &mut [u8], changes: &[u8]) -> u
     0
 }
 
-#[unsafe(no_mangle)]
-pub extern "C" fn levelspruce_board_speak(
-    changes: &[u8],
-    text: &mut [u8],
-    written: &mut usize,
-) -> u8
+pub fn levelspruce_board_speak(changes: &[u8], text: &mut [u8], written: &mut usize) -> u8
     ensures { (result ≡ spoken_answer_c changes.now text.old)
         × (text.new ≡ spoken_bytes_c changes.now text.old)
         × (written.new ≡ written_c changes.now text.old written.old) }

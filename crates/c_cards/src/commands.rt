@@ -38,12 +38,7 @@ fn each(state: &mut [u8], commands: &[[u32; 3]], answers: &mut [u8])
     }
 }
 
-#[unsafe(no_mangle)]
-pub extern "C" fn levelspruce_card_order(
-    state: &mut [u8],
-    commands: &[[u32; 3]],
-    answers: &mut [u8],
-) -> u8
+pub fn levelspruce_card_order(state: &mut [u8], commands: &[[u32; 3]], answers: &mut [u8]) -> u8
     ensures { (result ≡ order_answer_on state.old commands.now answers.old)
         × (state.new ≡ order_state_on state.old commands.now answers.old)
         × (answers.new ≡ order_answers_on state.old commands.now answers.old) }

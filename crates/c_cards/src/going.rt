@@ -33,12 +33,7 @@ fn tell(going: Board, told: &mut [u8], changes: &mut [u8]) -> u8
     0
 }
 
-#[unsafe(no_mangle)]
-pub extern "C" fn levelspruce_sender_changes(
-    state: &[u8],
-    told: &mut [u8],
-    changes: &mut [u8],
-) -> u8
+pub fn levelspruce_sender_changes(state: &[u8], told: &mut [u8], changes: &mut [u8]) -> u8
     ensures { (result ≡ changes_answer_c state.now told.old changes.old)
         × (told.new ≡ changes_told_c state.now told.old changes.old)
         × (changes.new ≡ changes_bytes_c state.now told.old changes.old) }
@@ -51,13 +46,7 @@ pub extern "C" fn levelspruce_sender_changes(
     tell(going, told, changes)
 }
 
-#[unsafe(no_mangle)]
-pub extern "C" fn levelspruce_card_changes(
-    state: &[u8],
-    group: u32,
-    told: &mut [u8],
-    changes: &mut [u8],
-) -> u8
+pub fn levelspruce_card_changes(state: &[u8], group: u32, told: &mut [u8], changes: &mut [u8]) -> u8
     ensures { (result ≡ changes_answer_on state.now group told.old changes.old)
         × (told.new ≡ changes_told_on state.now group told.old changes.old)
         × (changes.new ≡ changes_bytes_on state.now group told.old changes.old) }

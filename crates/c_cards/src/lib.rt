@@ -3,10 +3,10 @@
 #![tactic(auto)]
 
 mod boards;
-mod card_calls;
-mod changes;
-mod commands;
-mod going;
+pub mod card_calls;
+pub mod changes;
+pub mod commands;
+pub mod going;
 mod keeping;
-mod plans;
-mod runs;
+pub mod plans;
+pub mod runs;

@@ -15,8 +15,7 @@ fn put_plan(plan: Proposal, out: &mut [u8])
     keeping::put_bytes(&each, 1, out);
 }
 
-#[unsafe(no_mangle)]
-pub extern "C" fn levelspruce_paths_plan(delays: &[u32], k: u32, window: u32, plan: &mut [u8]) -> u8
+pub fn levelspruce_paths_plan(delays: &[u32], k: u32, window: u32, plan: &mut [u8]) -> u8
     ensures { (result ≡ plan_answer_c delays.now k window plan.old)
         × (plan.new ≡ plan_bytes_c delays.now k window plan.old) }
 {
@@ -33,8 +32,7 @@ pub extern "C" fn levelspruce_paths_plan(delays: &[u32], k: u32, window: u32, pl
     0
 }
 
-#[unsafe(no_mangle)]
-pub extern "C" fn levelspruce_paths_check(
+pub fn levelspruce_paths_check(
     delays: &[u32],
     k: u32,
     window: u32,

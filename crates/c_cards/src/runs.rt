@@ -6,12 +6,7 @@ use crate::changes;
 use crate::changes::CHANGES_BYTES;
 use c_face::boards::BOARD_BYTES;
 
-#[unsafe(no_mangle)]
-pub extern "C" fn levelspruce_board_speak_runs(
-    changes: &[u8],
-    text: &mut [u8],
-    written: &mut usize,
-) -> u8
+pub fn levelspruce_board_speak_runs(changes: &[u8], text: &mut [u8], written: &mut usize) -> u8
     ensures { (result ≡ runs_answer_c changes.now text.old)
         × (text.new ≡ runs_bytes_c changes.now text.old)
         × (written.new ≡ runs_written_c changes.now text.old written.old) }
@@ -36,12 +31,7 @@ pub extern "C" fn levelspruce_board_speak_runs(
     0
 }
 
-#[unsafe(no_mangle)]
-pub extern "C" fn levelspruce_board_speak_whole(
-    board: &[u8],
-    text: &mut [u8],
-    written: &mut usize,
-) -> u8
+pub fn levelspruce_board_speak_whole(board: &[u8], text: &mut [u8], written: &mut usize) -> u8
     ensures { (result ≡ whole_answer_c board.now text.old)
         × (text.new ≡ whole_bytes_c board.now text.old)
         × (written.new ≡ whole_written_c board.now text.old written.old) }

@@ -36,8 +36,7 @@ pub(crate) fn put_ranks(ranks: Ranks, out: &mut [u8])
     keeping::put_bytes(&each, 4, out);
 }
 
-#[unsafe(no_mangle)]
-pub extern "C" fn levelspruce_sender_board(state: &[u8], board: &mut [u8]) -> u8
+pub fn levelspruce_sender_board(state: &[u8], board: &mut [u8]) -> u8
     ensures { (result ≡ shown_answer_c 130 state.now board.old)
         × (board.new ≡ board_bytes_c state.now board.old) }
 {
@@ -54,8 +53,7 @@ pub extern "C" fn levelspruce_sender_board(state: &[u8], board: &mut [u8]) -> u8
     0
 }
 
-#[unsafe(no_mangle)]
-pub extern "C" fn levelspruce_sender_board_going(state: &[u8], board: &mut [u8]) -> u8
+pub fn levelspruce_sender_board_going(state: &[u8], board: &mut [u8]) -> u8
     ensures { (result ≡ shown_answer_c 130 state.now board.old)
         × (board.new ≡ outgoing_bytes_c state.now board.old) }
 {
@@ -71,8 +69,7 @@ pub extern "C" fn levelspruce_sender_board_going(state: &[u8], board: &mut [u8])
     0
 }
 
-#[unsafe(no_mangle)]
-pub extern "C" fn levelspruce_sender_ranks(state: &[u8], ranks: &mut [u8]) -> u8
+pub fn levelspruce_sender_ranks(state: &[u8], ranks: &mut [u8]) -> u8
     ensures { (result ≡ shown_answer_c 68 state.now ranks.old)
         × (ranks.new ≡ ranks_bytes_c state.now ranks.old) }
 {

@@ -4,8 +4,8 @@
 
 pub mod boards;
 pub mod keeping;
-mod packets;
-mod payloads;
-mod seeing;
+pub mod packets;
+pub mod payloads;
+pub mod seeing;
 pub mod senders;
 pub mod sharing;

@@ -50,8 +50,7 @@ fn put_packet(
     written.number()
 }
 
-#[unsafe(no_mangle)]
-pub extern "C" fn levelspruce_packet_write(
+pub fn levelspruce_packet_write(
     epoch: u32,
     word: u32,
     gid: u32,
@@ -67,8 +66,7 @@ pub extern "C" fn levelspruce_packet_write(
     put_packet(kinds::H4, epoch, word, gid, mst, rs_ack, sq, reserved, h4)
 }
 
-#[unsafe(no_mangle)]
-pub extern "C" fn levelspruce_packet_write_vc12(
+pub fn levelspruce_packet_write_vc12(
     epoch: u32,
     word: u32,
     gid: u32,
@@ -132,8 +130,7 @@ fn put_reading(reading: Reading, fields: &mut [u8]) -> u8
     }
 }
 
-#[unsafe(no_mangle)]
-pub extern "C" fn levelspruce_packet_read(h4: &[u8], fields: &mut [u8]) -> u8
+pub fn levelspruce_packet_read(h4: &[u8], fields: &mut [u8]) -> u8
     ensures { (result ≡ read_answer_c h4.now fields.old)
         × (fields.new ≡ read_fields_c h4.now fields.old) }
 {
@@ -144,8 +141,7 @@ pub extern "C" fn levelspruce_packet_read(h4: &[u8], fields: &mut [u8]) -> u8
     put_reading(reading, fields)
 }
 
-#[unsafe(no_mangle)]
-pub extern "C" fn levelspruce_packet_write_fixed(epoch: u32, sq: u32, h4: &mut [u8]) -> u8
+pub fn levelspruce_packet_write_fixed(epoch: u32, sq: u32, h4: &mut [u8]) -> u8
     ensures { (result ≡ write_fixed_answer_c epoch sq h4.old)
         × (h4.new ≡ write_fixed_bytes epoch sq h4.old) }
 {
@@ -153,8 +149,7 @@ pub extern "C" fn levelspruce_packet_write_fixed(epoch: u32, sq: u32, h4: &mut [
     written.number()
 }
 
-#[unsafe(no_mangle)]
-pub extern "C" fn levelspruce_packet_read_fixed(h4: &[u8], fields: &mut [u8]) -> u8
+pub fn levelspruce_packet_read_fixed(h4: &[u8], fields: &mut [u8]) -> u8
     ensures { (result ≡ read_fixed_answer_c h4.now fields.old)
         × (fields.new ≡ read_fixed_fields_c h4.now fields.old) }
 {
@@ -165,8 +160,7 @@ pub extern "C" fn levelspruce_packet_read_fixed(h4: &[u8], fields: &mut [u8]) ->
     put_reading(reading, fields)
 }
 
-#[unsafe(no_mangle)]
-pub extern "C" fn levelspruce_packet_read_vc12(bits: &[u8], fields: &mut [u8]) -> u8
+pub fn levelspruce_packet_read_vc12(bits: &[u8], fields: &mut [u8]) -> u8
     ensures { (result ≡ read_vc12_answer_c bits.now fields.old)
         × (fields.new ≡ read_vc12_fields_c bits.now fields.old) }
 {

@@ -2,8 +2,7 @@
 ghost use Rattle.std.specs.Prelude.{◌≡◌};
 ghost use Rattle.c_face.specs.Payloads.{join_answer_c, join_frame_c, spread_answer_c, spread_members_c};
 
-#[unsafe(no_mangle)]
-pub extern "C" fn levelspruce_spread(x: u32, p: u32, frame: &[u8], members: &mut [u8]) -> u8
+pub fn levelspruce_spread(x: u32, p: u32, frame: &[u8], members: &mut [u8]) -> u8
     ensures { (result ≡ spread_answer_c x p frame.now members.old)
         × (members.new ≡ spread_members_c x p frame.now members.old) }
 {
@@ -11,8 +10,7 @@ pub extern "C" fn levelspruce_spread(x: u32, p: u32, frame: &[u8], members: &mut
     answer.number()
 }
 
-#[unsafe(no_mangle)]
-pub extern "C" fn levelspruce_join(x: u32, p: u32, members: &[u8], frame: &mut [u8]) -> u8
+pub fn levelspruce_join(x: u32, p: u32, members: &[u8], frame: &mut [u8]) -> u8
     ensures { (result ≡ join_answer_c x p members.now frame.old)
         × (frame.new ≡ join_frame_c x p members.now frame.old) }
 {

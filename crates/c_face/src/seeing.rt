@@ -31,8 +31,7 @@ fn put_settings(sender: Sender, settings: &mut [u8])
     settings.copy_from_slice(&image);
 }
 
-#[unsafe(no_mangle)]
-pub extern "C" fn levelspruce_sender_settings(state: &[u8], settings: &mut [u8]) -> u8
+pub fn levelspruce_sender_settings(state: &[u8], settings: &mut [u8]) -> u8
     ensures { (result ≡ shown_answer_c 5 state.now settings.old)
         × (settings.new ≡ settings_bytes_c state.now settings.old) }
 {

@@ -94,29 +94,21 @@ fn keep(outcome: SenderOutcome, state: &mut [u8]) -> u8
     0
 }
 
-#[unsafe(no_mangle)]
-pub extern "C" fn levelspruce_sender_start(count: u32, first_epoch: u32, state: &mut [u8]) -> u8
+pub fn levelspruce_sender_start(count: u32, first_epoch: u32, state: &mut [u8]) -> u8
     ensures { (result ≡ start_answer_c 0 count first_epoch state.old)
         × (state.new ≡ start_state_c 0 count first_epoch state.old) }
 {
     start_by(kinds::H4 as u32, count, first_epoch, state)
 }
 
-#[unsafe(no_mangle)]
-pub extern "C" fn levelspruce_sender_start_as(
-    kind: u32,
-    count: u32,
-    first_epoch: u32,
-    state: &mut [u8],
-) -> u8
+pub fn levelspruce_sender_start_as(kind: u32, count: u32, first_epoch: u32, state: &mut [u8]) -> u8
     ensures { (result ≡ start_answer_c kind count first_epoch state.old)
         × (state.new ≡ start_state_c kind count first_epoch state.old) }
 {
     start_by(kind, count, first_epoch, state)
 }
 
-#[unsafe(no_mangle)]
-pub extern "C" fn levelspruce_sender_add(state: &mut [u8], slot: u32) -> u8
+pub fn levelspruce_sender_add(state: &mut [u8], slot: u32) -> u8
     ensures { (result ≡ call_answer_c true (OnTable (AddSlot slot)) state.old)
         × (state.new ≡ call_state_c true (OnTable (AddSlot slot)) state.old) }
 {
@@ -128,8 +120,7 @@ pub extern "C" fn levelspruce_sender_add(state: &mut [u8], slot: u32) -> u8
     keep(outcome, state)
 }
 
-#[unsafe(no_mangle)]
-pub extern "C" fn levelspruce_sender_remove(state: &mut [u8], slot: u32) -> u8
+pub fn levelspruce_sender_remove(state: &mut [u8], slot: u32) -> u8
     ensures { (result ≡ call_answer_c true (OnTable (RemoveSlot slot)) state.old)
         × (state.new ≡ call_state_c true (OnTable (RemoveSlot slot)) state.old) }
 {
@@ -141,13 +132,7 @@ pub extern "C" fn levelspruce_sender_remove(state: &mut [u8], slot: u32) -> u8
     keep(outcome, state)
 }
 
-#[unsafe(no_mangle)]
-pub extern "C" fn levelspruce_sender_report(
-    state: &mut [u8],
-    epoch: u32,
-    mst: u32,
-    rs_ack: u32,
-) -> u8
+pub fn levelspruce_sender_report(state: &mut [u8], epoch: u32, mst: u32, rs_ack: u32) -> u8
     ensures { (result ≡ call_answer_c (are_bytes epoch mst rs_ack) (OnTable (Report epoch mst rs_ack)) state.old)
         × (state.new ≡ call_state_c (are_bytes epoch mst rs_ack) (OnTable (Report epoch mst rs_ack)) state.old) }
 {
@@ -162,8 +147,7 @@ pub extern "C" fn levelspruce_sender_report(
     keep(outcome, state)
 }
 
-#[unsafe(no_mangle)]
-pub extern "C" fn levelspruce_sender_lapse(state: &mut [u8]) -> u8
+pub fn levelspruce_sender_lapse(state: &mut [u8]) -> u8
     ensures { (result ≡ call_answer_c true (OnTable Lapse) state.old)
         × (state.new ≡ call_state_c true (OnTable Lapse) state.old) }
 {
@@ -175,13 +159,7 @@ pub extern "C" fn levelspruce_sender_lapse(state: &mut [u8]) -> u8
     keep(outcome, state)
 }
 
-#[unsafe(no_mangle)]
-pub extern "C" fn levelspruce_sender_start_epoch(
-    state: &mut [u8],
-    gid: u32,
-    mst: u32,
-    rs_ack: u32,
-) -> u8
+pub fn levelspruce_sender_start_epoch(state: &mut [u8], gid: u32, mst: u32, rs_ack: u32) -> u8
     ensures { (result ≡ call_answer_c (are_bytes gid mst rs_ack) (StartEpoch gid mst rs_ack) state.old)
         × (state.new ≡ call_state_c (are_bytes gid mst rs_ack) (StartEpoch gid mst rs_ack) state.old) }
 {
@@ -196,8 +174,7 @@ pub extern "C" fn levelspruce_sender_start_epoch(
     keep(outcome, state)
 }
 
-#[unsafe(no_mangle)]
-pub extern "C" fn levelspruce_sender_packet(state: &[u8], slot: u32, h4: &mut [u8]) -> u8
+pub fn levelspruce_sender_packet(state: &[u8], slot: u32, h4: &mut [u8]) -> u8
     ensures { (result ≡ packet_answer_c state.now slot h4.old)
         × (h4.new ≡ packet_bytes_c state.now slot h4.old) }
 {
@@ -209,8 +186,7 @@ pub extern "C" fn levelspruce_sender_packet(state: &[u8], slot: u32, h4: &mut [u
     answer.number()
 }
 
-#[unsafe(no_mangle)]
-pub extern "C" fn levelspruce_sender_payload(
+pub fn levelspruce_sender_payload(
     state: &[u8],
     slot: u32,
     p: u32,

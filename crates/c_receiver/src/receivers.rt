@@ -14,8 +14,7 @@ fn is_failed(failed: u32) -> bool
     !(failed == 0)
 }
 
-#[unsafe(no_mangle)]
-pub extern "C" fn levelspruce_receiver_start(
+pub fn levelspruce_receiver_start(
     ports: u32,
     payload: u32,
     window: u32,
@@ -34,8 +33,7 @@ fn kind_byte(kind: u32) -> u8
     if kind < 256 { kind as u8 } else { 255 }
 }
 
-#[unsafe(no_mangle)]
-pub extern "C" fn levelspruce_receiver_start_as(
+pub fn levelspruce_receiver_start_as(
     kind: u32,
     ports: u32,
     payload: u32,
@@ -61,8 +59,7 @@ pub extern "C" fn levelspruce_receiver_start_as(
     )
 }
 
-#[unsafe(no_mangle)]
-pub extern "C" fn levelspruce_receiver_frame(
+pub fn levelspruce_receiver_frame(
     state: &mut [[u8; 16]],
     port: u32,
     failed: u32,
@@ -78,8 +75,7 @@ pub extern "C" fn levelspruce_receiver_frame(
     receiver::frame(state, port, flagged, h4, payload, store)
 }
 
-#[unsafe(no_mangle)]
-pub extern "C" fn levelspruce_receiver_fetch(
+pub fn levelspruce_receiver_fetch(
     state: &mut [[u8; 16]],
     store: &[u8],
     out: &mut [u8],
@@ -93,16 +89,14 @@ pub extern "C" fn levelspruce_receiver_fetch(
     receiver::fetch(state, store, out, report)
 }
 
-#[unsafe(no_mangle)]
-pub extern "C" fn levelspruce_receiver_ports(state: &[[u8; 16]], ports: &mut [[u8; 8]]) -> u8
+pub fn levelspruce_receiver_ports(state: &[[u8; 16]], ports: &mut [[u8; 8]]) -> u8
     ensures { (result ≡ ports_answer state.now (length ports.old))
         × (ports.new ≡ ports_out state.now ports.old) }
 {
     receiver::ports(state, ports)
 }
 
-#[unsafe(no_mangle)]
-pub extern "C" fn levelspruce_receiver_reply(state: &[[u8; 16]], epoch: u8, reply: &mut [u8]) -> u8
+pub fn levelspruce_receiver_reply(state: &[[u8; 16]], epoch: u8, reply: &mut [u8]) -> u8
     ensures { (result ≡ reply_answer state.now (length reply.old))
         × (reply.new ≡ reply_out state.now epoch reply.old) }
 {

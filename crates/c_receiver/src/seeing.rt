@@ -8,48 +8,42 @@ ghost use Rattle.receiver.specs.Heard.{heard_answer, heard_out};
 ghost use Rattle.receiver.specs.Seen.{seen_answer, seen_out};
 ghost use Rattle.receiver.specs.Settings.{settings_answer, settings_out};
 
-#[unsafe(no_mangle)]
-pub extern "C" fn levelspruce_receiver_seen(state: &[[u8; 16]], seen: &mut [[u8; 10]]) -> u8
+pub fn levelspruce_receiver_seen(state: &[[u8; 16]], seen: &mut [[u8; 10]]) -> u8
     ensures { (result ≡ seen_answer state.now (length seen.old))
         × (seen.new ≡ seen_out state.now seen.old) }
 {
     receiver::seen(state, seen)
 }
 
-#[unsafe(no_mangle)]
-pub extern "C" fn levelspruce_receiver_cause(state: &[[u8; 16]], cause: &mut [u8]) -> u8
+pub fn levelspruce_receiver_cause(state: &[[u8; 16]], cause: &mut [u8]) -> u8
     ensures { (result ≡ cause_answer state.now (length cause.old))
         × (cause.new ≡ cause_out state.now cause.old) }
 {
     receiver::cause(state, cause)
 }
 
-#[unsafe(no_mangle)]
-pub extern "C" fn levelspruce_receiver_heard(state: &[[u8; 16]], heard: &mut [u8]) -> u8
+pub fn levelspruce_receiver_heard(state: &[[u8; 16]], heard: &mut [u8]) -> u8
     ensures { (result ≡ heard_answer state.now (length heard.old))
         × (heard.new ≡ heard_out state.now heard.old) }
 {
     receiver::heard(state, heard)
 }
 
-#[unsafe(no_mangle)]
-pub extern "C" fn levelspruce_receiver_behind(state: &[[u8; 16]], behind: &mut [u32]) -> u8
+pub fn levelspruce_receiver_behind(state: &[[u8; 16]], behind: &mut [u32]) -> u8
     ensures { (result ≡ behind_answer state.now (length behind.old))
         × (behind.new ≡ behind_out state.now behind.old) }
 {
     receiver::behind(state, behind)
 }
 
-#[unsafe(no_mangle)]
-pub extern "C" fn levelspruce_receiver_anew(state: &mut [[u8; 16]], store: &[u8]) -> u8
+pub fn levelspruce_receiver_anew(state: &mut [[u8; 16]], store: &[u8]) -> u8
     ensures { (result ≡ anew_answer state.old (length store.now))
         × (state.new ≡ anew_rows state.old store.now) }
 {
     receiver::anew(state, store)
 }
 
-#[unsafe(no_mangle)]
-pub extern "C" fn levelspruce_receiver_settings(state: &[[u8; 16]], settings: &mut [u32]) -> u8
+pub fn levelspruce_receiver_settings(state: &[[u8; 16]], settings: &mut [u32]) -> u8
     ensures { (result ≡ settings_answer state.now (length settings.old))
         × (settings.new ≡ settings_out state.now settings.old) }
 {

@@ -2,5 +2,5 @@
 #![tactic(auto)]
 
 mod keeping;
-mod mends;
-mod replays;
+pub mod mends;
+pub mod replays;

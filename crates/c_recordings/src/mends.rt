@@ -2,8 +2,7 @@
 ghost use Rattle.std.specs.Prelude.{◌≡◌};
 ghost use Rattle.c_recordings.specs.Mends.{lengths_answer_c, mend_answer_c, mended_c, mended_length_c, notes_c, notes_length_c};
 
-#[unsafe(no_mangle)]
-pub extern "C" fn levelspruce_mend_lengths(
+pub fn levelspruce_mend_lengths(
     recording: &[u8],
     mended_length: &mut usize,
     notes_length: &mut usize,
@@ -21,8 +20,7 @@ pub extern "C" fn levelspruce_mend_lengths(
     0
 }
 
-#[unsafe(no_mangle)]
-pub extern "C" fn levelspruce_mend(recording: &[u8], mended: &mut [u8], notes: &mut [u8]) -> u8
+pub fn levelspruce_mend(recording: &[u8], mended: &mut [u8], notes: &mut [u8]) -> u8
     ensures { (result ≡ mend_answer_c recording.now mended.old notes.old)
         × (mended.new ≡ mended_c recording.now mended.old notes.old)
         × (notes.new ≡ notes_c recording.now mended.old notes.old) }

@@ -115,8 +115,7 @@ fn put_replay(replay: Replay, state: &mut [u8])
     keeping::put_bytes(&bytes, 0, state);
 }
 
-#[unsafe(no_mangle)]
-pub extern "C" fn levelspruce_replay_lengths(
+pub fn levelspruce_replay_lengths(
     recording: &[u8],
     store_length: &mut usize,
     out_length: &mut usize,
@@ -134,8 +133,7 @@ pub extern "C" fn levelspruce_replay_lengths(
     0
 }
 
-#[unsafe(no_mangle)]
-pub extern "C" fn levelspruce_replay_begin(state: &mut [u8]) -> u8
+pub fn levelspruce_replay_begin(state: &mut [u8]) -> u8
     ensures { (result ≡ begin_answer_c state.old) × (state.new ≡ begin_state_c state.old) }
 {
     if state.len() != REPLAY_BYTES {
@@ -152,8 +150,7 @@ fn is_last(last: u32) -> bool
     !(last == 0)
 }
 
-#[unsafe(no_mangle)]
-pub extern "C" fn levelspruce_replay_turn(
+pub fn levelspruce_replay_turn(
     state: &mut [u8],
     text: &[u8],
     at: &mut usize,

@@ -1,7 +1,7 @@
 """Shows that c-face catches what it is there to catch, and nothing else."""
-SOURCE = '#[no_mangle]\npub extern "C" fn f(x: u32, s: &[u8], t: &mut [u8]) -> u8 {\n    0\n}\nfn inner(x: u8) -> u8 {\n    x\n}\n'
+SOURCE = '#[unsafe(no_mangle)]\npub extern "C" fn f(x: u32, s: &[u8], t: &mut [u8]) -> u8 {\n    0\n}\nfn inner(x: u8) -> u8 {\n    x\n}\n'
 HEADER = "/* uint8_t gone(uint32_t x); */\nLEVELSPRUCE_MUST_USE\nuint8_t f(uint32_t x, const uint8_t *s, size_t s_length,\n          uint8_t *t, size_t t_length);\n"
-ROWS = 'rows = row "f" f f-copes ∷ []\n'
+ROWS = 'rows = row "f" f f_copes ∷ []\n'
 IN_ROWS = 'pub extern "C" fn f(\n    n: usize,\n    s: &[[u8; 16]],\n    t: &mut [[u8; 8]],\n) -> u8 {\n    0\n}\n'
 IN_ROWS_HEADER = "LEVELSPRUCE_MUST_USE\nuint8_t f(size_t n, const uint8_t (*s)[16], size_t s_length,\n          uint8_t (*t)[8], size_t t_length);\n"
 OF_WORDS = 'pub extern "C" fn f(s: &[[u32; 3]]) -> u8 {\n    0\n}\n'
@@ -35,13 +35,13 @@ TEXTS = [
     ("no call at all", "", "", "", "no C call found"),
 ]
 
-PATHS = ("crates/c_face/src/lib.rt", "include/levelspruce.h", "crates/conformance/specs/Rows.antt")
-TWO = dict(zip(PATHS, (SOURCE, HEADER + HEADER.replace("uint8_t f(", "uint8_t g("), ROWS.replace("[]", 'row "g" g g-copes ∷ []'))))
+PATHS = ("crates/c_face_c/src/lib.rt", "include/levelspruce.h", "crates/conformance/specs/Rows.antt")
+TWO = dict(zip(PATHS, (SOURCE, HEADER + HEADER.replace("uint8_t f(", "uint8_t g("), ROWS.replace("[]", 'row "g" g g_copes ∷ []'))))
 OTHER = SOURCE.replace("fn f(", "fn g(")
 # name; files; what the check must say
 OF_CRATES = [
-    ("calls of two crates", {**TWO, "crates/c_cards/src/lib.rt": OTHER}, ""),
-    ("one call of two crates", {**TWO, "crates/c_cards/src/lib.rt": OTHER + SOURCE}, "f\tis a C call twice"),
+    ("calls of two crates", {**TWO, "crates/c_cards_c/src/lib.rt": OTHER}, ""),
+    ("one call of two crates", {**TWO, "crates/c_cards_c/src/lib.rt": OTHER + SOURCE}, "f\tis a C call twice"),
     ("a call of a crate of which the library is not made", {**TWO, "crates/one/src/lib.rt": OTHER}, "g\tis a C call of one"),
 ]
 CASES = [(name, dict(zip(PATHS, texts)), wanted) for name, *texts, wanted in TEXTS] + OF_CRATES

@@ -1,0 +1,5 @@
+// The C calls of c_recordings, exported.
+#![tactic(auto)]
+
+mod mends;
+mod replays;
