@@ -3,13 +3,13 @@
 - The numbers are `frames`, `epochs`, `tags` and `lead` of packet's Kinds. What stands above knows them by packet's laws,
   which are stated over the kind and proved for two clocks (crates/packet/specs/Laws/Clock.antt).
 - An `unfolding` clause names none of them, nor a name that the file gives to one of them, in any file of
-  crates/*/specs and crates/*/proofs but packet's.
+  crates/*/specs and crates/*/proofs but packet's; nor does an `unfolding(..)` behind `tactic(auto` in crates/*/src.
 - The one name of a crate's file Opened opens its definitions, and these numbers with them: it is named as they are.
 - A run computed on a sample of a kind computes with its numbers: files Wrong, Samples, Examples and Opened, and those in
   such folders, may unfold them. So may crates/conformance and crates/pinned, which hold the definitions to the paper's own numbers.
 
-- `vc12Kind` is named in packet and step, which have the cases on the kind, in the proofs of phases' `is_sized` and of receiver's `arrive` with its laws (Arriving),
-  which ask for it once so that the compiler folds the rest (store's `packet_in` does so too, by packet's law `h4-row`), in recording, which reads its name, in
+- `vc12_kind` is named in packet and step, which have the cases on the kind, in the proofs of phases' `is_sized` and of receiver's `arrive` with its laws (Arriving),
+  which ask for it once so that the compiler folds the rest (store's `packet_in` does so too, by packet's law `h4_row`), in recording, which reads its name, in
   mending's Following, which says whose lines have a count of H4, and where runs are computed as above. What stands elsewhere is proved once over the kind.
 """
 import re
@@ -19,7 +19,7 @@ from checks.specs import code
 NUMBERS = ("frames", "epochs", "tags", "lead")
 OWN = ("packet", "conformance", "pinned")
 COMPUTED = ("Wrong", "Samples", "Examples", "Opened")
-VC12 = "vc12Kind"
+VC12 = "vc12_kind"
 CASES = ("packet", "step", "conformance", "pinned")
 
 
@@ -43,6 +43,12 @@ def clauses(text):
         yield at + 1, names
 
 
+def attributes(text):
+    """Each `unfolding(..)` of an attribute with the line it stands in: the names in the brackets."""
+    for found in re.finditer(r"\bunfolding\(([^)]*)\)", text):
+        yield text.count("\n", 0, found.start()) + 1, [path.strip().rpartition("::")[2] for path in found[1].split(",")]
+
+
 def may_name(crate, inside):
     """Whether a file may name VC-12's kind."""
     arrives = crate == "receiver" and inside.parts[0] == "proofs" and ("arrive" in inside.parts or inside.name == "Arriving.antt")
@@ -53,13 +59,13 @@ def may_name(crate, inside):
 
 def named_at(text, name):
     """The lines in which a name stands."""
-    whole = re.compile(rf"(?<![\w·′-]){re.escape(name)}(?![\w·′-])")
+    whole = re.compile(rf"(?<![\w'-]){re.escape(name)}(?![\w'-])")
     return [at + 1 for at, line in enumerate(text.splitlines()) if whole.search(line)]
 
 
 def aliases(text):
     """What the file calls a number by another name."""
-    return {new: old for old, new in re.findall(r"(?<![\w·′-])(\w+) as ([^\s,}]+)", text) if old in NUMBERS}
+    return {new: old for old, new in re.findall(r"(?<![\w'-])(\w+) as ([^\s,}]+)", text) if old in NUMBERS}
 
 
 def openers(text):
@@ -71,6 +77,10 @@ def openers(text):
 def check(top):
     wrong, count = [], 0
     for crate in sorted(top.glob("crates/*")):
+        for path in sorted(crate.glob("src/**/*.rt")) if crate.name not in OWN else ():
+            for line, names in attributes(code(path)):
+                count += 1
+                wrong += [f"{path.relative_to(top)}:{line}\tunfolds {name}" for name in names if name in NUMBERS]
         for path in sorted(crate.rglob("*.antt")):
             inside = path.relative_to(crate)
             if inside.parts[0] not in ("specs", "proofs"):

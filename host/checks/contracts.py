@@ -90,20 +90,16 @@ def module_path(file, src):
 
 
 def parted(clause):
-    """The name of the result that `λ .. r. body` binds last, and the parts of the body that × joins."""
-    bound = re.match(r"\s*λ((?:\s*(?:\([^()]*\)|[^\s().]+))+)\s*\.(.*)", clause, re.S)
-    if not bound:
-        return "_", []
-    last = re.findall(r"\(\s*([^\s:()]+)[^()]*\)|([^\s()]+)", bound[1])[-1]
-    body = re.sub(r"^\s*(do\b)?\s*⌜|⌝\s*$", "", bound[2]).strip()
+    """The parts of the clause that × joins."""
+    body = clause.strip()
     parts, depth, start = [], 0, 0
     for i, sign in enumerate(body):
-        depth += (sign in "({⟦") - (sign in ")}⟧")
+        depth += (sign in "({") - (sign in ")}")
         if sign == "×" and depth == 0:
             parts.append(body[start:i])
             start = i + 1
     parts.append(body[start:])
-    return last[0] or last[1], [unwrapped(p.strip()) for p in parts]
+    return [unwrapped(p.strip()) for p in parts]
 
 
 def unwrapped(part):

@@ -2,8 +2,8 @@
 
 A public function (a `pub fn`, also one with extern "C" or in an impl block, of crates/*/src) needs an exception if it
 - has a `requires`: then some call has no promise at all;
-- has a result r for which no `ensures` has an equation r ≡ .. that says it without r;
-- takes a `&mut` for whose value afterwards no `ensures` has an equation now (NAME .exit) ≡ .. that says it without .exit;
+- has a result for which no `ensures` has an equation result ≡ .. that says it without result;
+- takes a `&mut` for whose value afterwards no `ensures` has an equation NAME.new ≡ .. that says it without any .new;
 - has no result and no `&mut`: then there is nothing to promise, and a reader should be told what it is for.
 The main function of a program is no entry point.
 
@@ -15,7 +15,7 @@ import re
 
 from checks.contracts import functions, lent, module_path, parted
 
-PARTS = r"[\s(){}\[\],;.:⌜⌝⟦⟧«»λ]"  # what parts the names of antt, which may hold signs and primes
+PARTS = r"[\s(){}\[\],;.:«»λ]"  # what parts the names of antt, which may hold signs and primes
 
 
 def speaks_of(text, name):
@@ -24,16 +24,15 @@ def speaks_of(text, name):
 
 
 def says_result(clause):
-    """Whether a part is r ≡ .. with no r on the right."""
-    name, parts = parted(clause)
-    told = (re.match(rf"{re.escape(name)}\s+≡\s(.*)", p, re.S) for p in parts)
-    return name != "_" and any(t and not speaks_of(t[1], name) for t in told)
+    """Whether a part is result ≡ .. with no result on the right."""
+    told = (re.match(r"result\s+≡\s(.*)", p, re.S) for p in parted(clause))
+    return any(t and not speaks_of(t[1], "result") for t in told)
 
 
 def says_lent(clause, name):
-    """Whether a part is now (NAME .exit) ≡ .. with no .exit on the right."""
-    told = (re.match(rf"now\s+\(«?{re.escape(name)}»?\s+\.exit\)\s+≡\s(.*)", p, re.S) for p in parted(clause)[1])
-    return any(t and ".exit" not in t[1] for t in told)
+    """Whether a part is NAME.new ≡ .. with no .new on the right."""
+    told = (re.match(rf"«?{re.escape(name)}»?\.new\s+≡\s(.*)", p, re.S) for p in parted(clause))
+    return any(t and not re.search(r"\.new\b", t[1]) for t in told)
 
 
 def faults(f):

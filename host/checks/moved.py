@@ -1,13 +1,12 @@
-"""moved OLD NEW [OLD-OUTPUT NEW-OUTPUT]: what differs between two commits, crate by crate.
-moved --check OLD NEW: the same, and proves both from nothing for the seconds; that takes some minutes each.
+"""moved OLD NEW: what differs between two commits, crate by crate.
+moved --check OLD NEW: the same, and proves both from nothing (`rt ci --anew`) for the seconds; that takes long.
 
 One fact a line, fields parted by tabs: crate, kind, what happened, name, file. Kinds:
     definition  a definition of specs/ that others may unfold, or a type
     contract    a public function's parameters, result, requires and ensures
     law         the statement of a law of specs/, with the parameters of the modules round it
     proof       the proof of such a law, if the law stands in both, or a file under proofs/
-Then for each crate the seconds that its check took before and after: as the outputs of ./test (or rt ci) at the two
-commits say, where these are given, or as --check found. With neither, the seconds of the last check here, from target/log.
+Behind --check a last line has the seconds that both took, all crates together: rt does not say those of each.
 """
 import collections
 import pathlib
@@ -15,6 +14,7 @@ import re
 import subprocess
 import sys
 import tempfile
+import time
 
 from checks.contracts import functions, module_path
 
@@ -67,7 +67,7 @@ def facts(commit):
         crate, folder, file = parts[1], parts[2], "/".join(parts[2:])
         text = git("show", f"{commit}:{path}")
         if folder == "proofs":
-            said[crate, "proof", re.sub(r"^proofs/|/Proof\.antt$|\.antt$", "", file).replace("/", "::"), file] = text
+            said[crate, "proof", re.sub(r"^proofs/|/(?:Proof|Answers|Invariants)\.antt$|\.antt$", "", file).replace("/", "::"), file] = text
         elif folder == "src":
             src = pathlib.PurePath(*parts[:3])
             for f in functions(text, module_path(pathlib.PurePath(path), src)):
@@ -82,31 +82,27 @@ def facts(commit):
     return said
 
 
-def seconds(text):
-    return dict(re.findall(r"^rt: (\w+) proved \((\d+) s\)", text, re.M))
-
-
-def proved(commit):
-    """What proving a commit from nothing prints."""
+def seconds(commit):
+    """What proving a commit from nothing takes."""
     with tempfile.TemporaryDirectory() as room:
         packed = subprocess.run(["git", "archive", commit], stdout=subprocess.PIPE, check=True).stdout
         subprocess.run(["tar", "-x", "-C", room], input=packed, check=True)
-        print(f"proving {commit} from nothing: this takes some minutes", file=sys.stderr)
-        done = subprocess.Popen(["rt", "prove"], cwd=room, stdout=subprocess.PIPE, stderr=subprocess.STDOUT)
-        said = []
+        print(f"proving {commit} from nothing: this takes long", file=sys.stderr)
+        said, begun = [], time.monotonic()
+        done = subprocess.Popen(["rt", "ci", "--anew"], cwd=room, stdout=subprocess.PIPE, stderr=subprocess.STDOUT)
         for line in done.stdout:
             said.append(line.decode(errors="replace"))
-            if seconds(said[-1]):
+            if re.match(r"rt: \w+ proved", said[-1]):
                 sys.stderr.write(said[-1])
         if done.wait() != 0:
             sys.exit(f"{commit} is not proved:\n" + "".join(said[-20:]))
-        return "".join(said)
+        return round(time.monotonic() - begun)
 
 
 def main(words):
     check = words[:1] == ["--check"]
-    commits, outputs = words[check:check + 2], words[check + 2:]
-    if len(commits) != 2 or len(outputs) not in ([0] if check else [0, 2]) or any(c.startswith("-") for c in commits):
+    commits = words[check:]
+    if len(commits) != 2 or any(c.startswith("-") for c in commits):
         sys.exit(__doc__)
     for commit in commits:
         if subprocess.run(["git", "rev-parse", "-q", "--verify", commit + "^{commit}"], stdout=subprocess.DEVNULL).returncode:
@@ -119,11 +115,6 @@ def main(words):
         if old.get(key) != new.get(key) and not with_its_law:
             print(crate, kind, "added" if key not in old else "removed" if key not in new else "changed", name, file, sep="\t")
     sys.stdout.flush()
-    if check or outputs:
-        before, after = (seconds(proved(c)) for c in commits) if check else (seconds(pathlib.Path(p).read_text()) for p in outputs)
-        for crate in sorted(before.keys() | after.keys()):
-            print(crate, "seconds", before.get(crate, "none"), "then", after.get(crate, "none"), sep="\t")
-    else:
-        for log in sorted(pathlib.Path("target/log").glob("*.out")):
-            for crate, took in seconds(log.read_text()).items():
-                print(crate, "seconds", "not measured", "then", took, sep="\t")
+    if check:
+        before, after = (seconds(c) for c in commits)
+        print("all", "seconds", before, "then", after, sep="\t")

@@ -3,7 +3,7 @@
 The table (crates/conformance/specs/Refusals.antt) has rows `row "NAME" CALL PROOF`. A call is defined in a file beside
 it, by `stateless REFUSALS ANSWER LENT LEFT` or `stateful REFUSALS ANSWER LENT LEFT GIVEN RETURNED EMPTY`, or by another
 definition there that ends so. What is proved of it says something of the entry point only if these are the contract's
-own terms. So, with the call's parameters named by place as the function's are, and now (x .entry) read as x:
+own terms. So, with the call's parameters named by place as the function's are, and x.old and x.now of a lent one read as x:
 - the answer is the result of the `ensures`, or its part .answer or .number, under a function that a method `number` of
   the crates promises, or bare;
 - each slice lent to be changed is in LENT, and what stands for it in LEFT is what the `ensures` has for it afterwards; or
@@ -13,12 +13,13 @@ own terms. So, with the call's parameters named by place as the function's are, 
 import re
 
 from checks.contracts import functions, lent, module_path, parted
+from checks.exports import EXPORTS, LIBRARIES
 
-TOKEN = re.compile(r"\(|\)|,|[^\s(),]+")
+TOKEN = re.compile(r"\(|\)|,|\.\w+|[^\s(),.]+|\.")
 
 
 def term(text):
-    """The text as a list of words and of lists, which stand for what is in brackets."""
+    """The text as a list of words and of lists, which stand for what is in brackets, and for a thing with the part that is taken of it."""
     open_lists = [[]]
     for word in TOKEN.findall(text.replace("«", "").replace("»", "")):
         if word == "(":
@@ -26,20 +27,16 @@ def term(text):
         elif word == ")":
             inner = open_lists.pop()
             open_lists[-1].append(plain(inner))
+        elif word.startswith(".") and len(word) > 1 and open_lists[-1]:
+            open_lists[-1].append([open_lists[-1].pop(), word])
         else:
             open_lists[-1].append(word)
     return plain(open_lists[0])
 
 
 def plain(items):
-    """A list of one thing is that thing; now (x .entry) is x."""
-    out = []
-    for item in items:
-        if out and out[-1] == "now" and isinstance(item, list) and len(item) == 2 and item[1] == ".entry":
-            out[-1] = item[0]
-        else:
-            out.append(item)
-    return out[0] if len(out) == 1 else out
+    """A list of one thing is that thing."""
+    return items[0] if len(items) == 1 else list(items)
 
 
 def put(items, values):
@@ -106,7 +103,7 @@ def opened(made, file, call):
 def short(name):
     """crate::function or crate::Type::function: a name without its modules. A C call has its bare name."""
     parts = name.split("::")
-    if parts[0] in ("c_face", "c_receiver", "c_cards", "c_recordings"):
+    if parts[0] in LIBRARIES:
         return parts[-1]
     return "::".join(parts[:1] + [p for p in parts[1:-1] if p[0].isupper()] + parts[-1:])
 
@@ -115,31 +112,39 @@ def contracts(top):
     """The public functions by short name, and the functions that give an answer its number."""
     found, numbers = {}, set()
     for src in sorted(top.glob("crates/*/src")):
-        for file in sorted(src.rglob("*.rt")):
+        # an export has its library's contract (exports.py)
+        for file in sorted(src.rglob("*.rt")) if src.parent.name not in EXPORTS else ():
             for f in functions(file.read_text(), module_path(file, src)):
                 found.setdefault(short(f.name), []).append(f)
                 if f.name.endswith("::number"):
-                    numbers |= {told[0] for told in [result(f)] if isinstance(told, list) and told[1:] == ["self"]}
+                    numbers |= {told[0] for told in [result(f)] if isinstance(told, list) and told[1:] == ["self"] and isinstance(told[0], str)}
     return found, numbers
+
+
+def behind(parameters):
+    """The names of the parameters that stand behind a reference."""
+    if re.search(r"&\s*(?:'\w+\s+)?(?:mut\s+)?self\b", parameters):
+        yield "self"
+    yield from re.findall(r"(\w+)\s*:\s*&", parameters)
 
 
 def equations(f):
     """Each equation of the contract: its left side, and its right side as a term."""
+    borrowed = re.compile(rf"(?<![\w.])(«?(?:{'|'.join(behind(f.parameters)) or '(?!)'})»?)\.(?:old|now)\b")
     for kind, clause in f.clauses:
         if kind == "ensures":
-            name, parts = parted(clause)
-            for part in parts:
+            for part in parted(clause):
                 sides = re.split(r"\s≡\s", part, maxsplit=1)
                 if len(sides) == 2:
-                    yield "the result" if sides[0].strip() == name else sides[0], term(sides[1])
+                    yield sides[0].strip(), term(borrowed.sub(r"\1", sides[1]))
 
 
 def result(f):
-    return dict(equations(f)).get("the result")
+    return dict(equations(f)).get("result")
 
 
 def afterwards(f, name):
-    sides = [right for left, right in equations(f) if re.fullmatch(rf"now\s+\(«?{re.escape(name)}»?\s+\.exit\)", left.strip())]
+    sides = [right for left, right in equations(f) if re.fullmatch(rf"«?{re.escape(name)}»?\.new", left)]
     return sides[0] if sides else None
 
 
@@ -155,7 +160,7 @@ def faults(f, call, numbers):
     if not isinstance(call, list) or (call[0], len(call)) not in (("stateless", 5), ("stateful", 8)):
         return ["does not end in stateless or stateful"]
     wrong, told = [], result(f)
-    answer = call[2][1] if isinstance(call[2], list) and call[2][0] in numbers and len(call[2]) == 2 else call[2]
+    answer = call[2][1] if isinstance(call[2], list) and len(call[2]) == 2 and isinstance(call[2][0], str) and call[2][0] in numbers else call[2]
     # a contract may give the answer itself as a field of the call's outcome; then it is no part of the result
     answer, part = (answer, None) if answer == told else whole(answer, (".answer", ".number"))
     if answer != told:

@@ -9,9 +9,9 @@ import re
 START = re.compile(r"((?:unfoldable |abbrev |axiom |pub )*)(?:(data|record) )?([^\s(){}:]+)((?: \{[^}]*\}| \((?:[^()]|\([^()]*\))*\))*) :(?: |$)")
 USE = re.compile(r"\s*((?:pub |ghost |unfoldable )*)use\s+([^\s{;]+?)(?:\.\{([^}]*)\}|\s+as\s+([^\s;]+))?\s*;?\s*$")
 MODULE = re.compile(r"\s*(?:pub )?module (\S+)")
-TOKEN = re.compile(r"[^\s(){}\[\],;«»⌜⌝λ]+")
+TOKEN = re.compile(r"[^\s(){}\[\],;«»λ]+")
 NO_NAMES = ("use", "mod", "module", "unfolding", "where", "let", "in")
-THINGS = ("List", "ℕ", "Bool", "Type", "String", "Maybe", "Bytes", "Rows", "Epoch", "Tag")
+THINGS = ("List", "ℕ", "Bool", "Type", "String", "Option", "Bytes", "Rows", "Epoch", "Tag")
 
 
 class Declaration:
@@ -101,9 +101,9 @@ class File:
                 (current.unfolds if unfolding else current.clauses).append(line)
 
     def bring(self, marks, path, listed, alias):
-        if re.match(r"[A-Z]\w*(\.|$)", path) and not path.startswith("Prim."):
+        if re.match(r"[A-Z]\w*(\.|$)", path) and not path.startswith(("Rattle.", "Prim.")):
             crate, _, inside = self.name[:-len(".antt")].partition("/specs/")
-            path = f"Rattle·{crate}.specs.{inside.replace('/', '.')}.{path}"
+            path = f"Rattle.{crate}.specs.{inside.replace('/', '.')}.{path}"
         if listed is None:
             self.opened[alias or path.split(".")[-1]] = path
             return
@@ -168,7 +168,7 @@ class House:
     @staticmethod
     def place(path):
         """The crate and the file below its specs/ that a path of a use line means, or None."""
-        found = re.match(r"Rattle·([a-z0-9_]+?)(?:·specs)?\.specs\.(.+)$", path)
+        found = re.match(r"Rattle\.([a-z0-9_]+)\.specs\.(.+)$", path)
         return (found[1], found[2]) if found else None
 
     def brought(self, path, name):
@@ -190,7 +190,7 @@ class House:
             return [d for d in self.files[file].declarations if name in fields(d)]
         if "." in inside:
             outer, _, holder = inside.rpartition(".")
-            return self.brought(f"Rattle·{crate}.specs.{outer}", holder)
+            return self.brought(f"Rattle.{crate}.specs.{outer}", holder)
         return []
 
     def references(self, declaration):
@@ -206,8 +206,8 @@ class House:
         text = re.sub(r"([{;]\s*)[^\s=;{}]+(?=\s+=\s)", r"\1", text)
         operators = {}
         for name in list(file.brought) + [d.name for d in file.declarations]:
-            if "_" in name:
-                for part in name.split("_"):
+            if "◌" in name:
+                for part in name.split("◌"):
                     if part:
                         operators[part] = name
         found = []
@@ -219,7 +219,9 @@ class House:
                 alias, _, name = token.rpartition(".")
                 if alias in file.opened:
                     found += self.brought(file.opened[alias], name)
-                continue
+                    continue
+                # a part that is taken of a thing, x.part
+                token = token.partition(".")[0]
             if token in own and token not in file.brought or token == declaration.name:
                 continue
             token = token if token in file.brought or token in self.named_in[declaration.file] else operators.get(token, token)

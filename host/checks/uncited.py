@@ -19,14 +19,14 @@ NO_LAW = ("abbrev", "unfoldable", "record", "data", "axiom", "module", "mod", "u
 
 
 def words(text):
-    return collections.Counter(re.split(r"[\s(){}\[\],;.«»⌜⌝]+", text))
+    return collections.Counter(re.split(r"[\s(){}\[\],;.«»]+", text))
 
 
 def names(name, said, text):
     """Whether a text, of whose words there are so many, names what is called so: an operator by what stands between its gaps."""
     name = name.strip("«»")
-    parts = [p for p in name.split("_") if p]
-    return said[name] > 0 or name in ("[]",) and name in text or "_" in name and bool(parts) and all(said[p] for p in parts)
+    parts = [p for p in name.split("◌") if p]
+    return said[name] > 0 or name in ("[]",) and name in text or "◌" in name and bool(parts) and all(said[p] for p in parts)
 
 
 def brought_in(text):

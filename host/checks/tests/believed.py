@@ -7,7 +7,7 @@ RULE, THEOREM, LAWS = "crates/one/specs/Rule.antt", "crates/one/specs/Theorems/S
 SAYS = "# Rules\n\n## The demands\n\n| Rule | Stated | Proved | Tried |\n|---|---|---|---|\n| **Demand 1.** Sums. | | `sums` of [one/%s](../crates/one/specs/%s.antt) | |\n"
 NAMED = SAYS % ("Theorems/Sums", "Theorems/Sums")
 TWICE = "abbrev pub twice : ℕ → ℕ\ntwice n = n + n\n"
-PROVED = "use Rattle·one·specs.specs.%s.{twice}\n\npub sums : (n : ℕ) → twice n ≡ n + n\nsums n = refl\n"
+PROVED = "use Rattle.one.specs.%s.{twice}\n\npub sums : (n : ℕ) → twice n ≡ n + n\nsums n = refl\n"
 WELL = {RULES: NAMED, PROMISES: "# Promises\n", RULE: TWICE, THEOREM: PROVED % "Rule"}
 AMONG = "must be believed, and stands among proofs"
 
@@ -26,10 +26,10 @@ def with_files(**changed):
 
 IN_LAWS = {RULES: NAMED, PROMISES: "# Promises\n", LAWS: TWICE, THEOREM: PROVED % "Laws.Sums"}
 IN_THEOREM = {RULES: NAMED, PROMISES: "# Promises\n", THEOREM: TWICE + "\npub sums : (n : ℕ) → twice n ≡ n + n\nsums n = refl\n"}
-DEEP = with_files(**{RULE: "use Rattle·one·specs.specs.Laws.Sums.{plus}\n\nabbrev pub twice : ℕ → ℕ\ntwice n = plus n n\n", LAWS: "abbrev pub plus : ℕ → ℕ → ℕ\nplus m n = m + n\n"})
-TYPED = with_files(**{THEOREM: "use Rattle·one·specs.specs.declared.pair.Pair.{Pair}\n\npub sums : (p : Pair) → p .sum ≡ p .sum\nsums p = refl\n", "crates/one/src/pair.rt": "pub struct Pair {\n    pub sum: u8,\n}\n"})
+DEEP = with_files(**{RULE: "use Rattle.one.specs.Laws.Sums.{plus}\n\nabbrev pub twice : ℕ → ℕ\ntwice n = plus n n\n", LAWS: "abbrev pub plus : ℕ → ℕ → ℕ\nplus m n = m + n\n"})
+TYPED = with_files(**{THEOREM: "use Rattle.one.specs.declared.pair.Pair.{Pair}\n\npub sums : (p : Pair) → p.sum ≡ p.sum\nsums p = refl\n", "crates/one/src/pair.rt": "pub struct Pair {\n    pub sum: u8,\n}\n"})
 
-CONTRACT = with_files(**{"crates/one/src/lib.rt": "ghost use Rattle·one·specs.specs.Laws.Sums.{plus};\n\n%sfn add(n: u8) -> u8\n    ensures { λ r. ⌜ r ≡ plus n n ⌝ }\n{\n    n\n}\n", LAWS: "abbrev pub plus : ℕ → ℕ → ℕ\nplus m n = m + n\n"})
+CONTRACT = with_files(**{"crates/one/src/lib.rt": "ghost use Rattle.one.specs.Laws.Sums.{plus};\n\n%sfn add(n: u8) -> u8\n    ensures { result ≡ plus n n }\n{\n    n\n}\n", LAWS: "abbrev pub plus : ℕ → ℕ → ℕ\nplus m n = m + n\n"})
 
 
 def of_a_function(public):
@@ -48,9 +48,9 @@ CASES = [
     ("a parameter of a definition's name", listed(with_files(**{THEOREM: "abbrev half : ℕ → ℕ\nhalf n = n / 2\n\npub sums : (half : ℕ) → half ≡ half\nsums n = refl\n"})), ""),
     ("a name of a module for its own statements", listed(with_files(**{THEOREM: "module _ (n : ℕ) where\n  abbrev half : ℕ\n  half = n / 2\n\n  pub sums : half ≡ half\n  sums = refl\n"})), ""),
     ("such a name that is public", listed(with_files(**{THEOREM: "module _ (n : ℕ) where\n  abbrev pub half : ℕ\n  half = n / 2\n\n  pub sums : half ≡ half\n  sums = refl\n"})), f"half {AMONG}"),
-    ("a definition in the parameters of a module", listed(with_files(**{THEOREM: "use Rattle·one·specs.specs.Laws.Sums.{plus}\n\nmodule _ (n : ℕ) (e : plus n n ≡ n) where\n  pub sums : n ≡ n\n  sums = refl\n", LAWS: "abbrev pub plus : ℕ → ℕ → ℕ\nplus m n = m + n\n"})), f"plus {AMONG}"),
-    ("an operator among laws", listed(with_files(**{THEOREM: "use Rattle·one·specs.specs.Laws.Sums.{_⊕_}\n\npub sums : (n : ℕ) → n ⊕ n ≡ n\nsums n = refl\n", LAWS: "abbrev pub _⊕_ : ℕ → ℕ → ℕ\nm ⊕ n = m + n\n"})), f"_⊕_ {AMONG}"),
-    ("a file by another name", listed(with_files(**{THEOREM: "use Rattle·one·specs.specs.Laws.Sums as S\n\npub sums : (n : ℕ) → S.plus n n ≡ n\nsums n = refl\n", LAWS: "abbrev pub plus : ℕ → ℕ → ℕ\nplus m n = m + n\n"})), f"plus {AMONG}"),
+    ("a definition in the parameters of a module", listed(with_files(**{THEOREM: "use Rattle.one.specs.Laws.Sums.{plus}\n\nmodule _ (n : ℕ) (e : plus n n ≡ n) where\n  pub sums : n ≡ n\n  sums = refl\n", LAWS: "abbrev pub plus : ℕ → ℕ → ℕ\nplus m n = m + n\n"})), f"plus {AMONG}"),
+    ("an operator among laws", listed(with_files(**{THEOREM: "use Rattle.one.specs.Laws.Sums.{◌⊕◌}\n\npub sums : (n : ℕ) → n ⊕ n ≡ n\nsums n = refl\n", LAWS: "abbrev pub ◌⊕◌ : ℕ → ℕ → ℕ\nm ⊕ n = m + n\n"})), f"◌⊕◌ {AMONG}"),
+    ("a file by another name", listed(with_files(**{THEOREM: "use Rattle.one.specs.Laws.Sums as S\n\npub sums : (n : ℕ) → S.plus n n ≡ n\nsums n = refl\n", LAWS: "abbrev pub plus : ℕ → ℕ → ℕ\nplus m n = m + n\n"})), f"plus {AMONG}"),
     ("a theorem among laws", listed({RULES: SAYS % ("Laws/Sums", "Laws/Sums"), PROMISES: "", RULE: TWICE, LAWS: PROVED % "Rule"}), "sums is a theorem that the pages name, and stands among laws"),
     ("a law that no page names", listed(with_files(**{LAWS: "pub law : 0 ≡ 0\nlaw = refl\n"})), ""),
     ("what is tried", listed(with_files(**{RULES: NAMED.replace("| |\n", "| `tried` of [one/Laws/Sums](../crates/one/specs/Laws/Sums.antt) |\n"), LAWS: "pub tried : 0 ≡ 0\ntried = refl\n"})), ""),

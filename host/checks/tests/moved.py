@@ -9,7 +9,7 @@ CHECK = pathlib.Path(__file__).resolve().parents[2] / "check"
 SPECS, SOURCE, PROOF = "crates/one/specs/Laws.antt", "crates/one/src/lib.rt", "crates/one/proofs/call/Proof.antt"
 LAW = "pub law : (n : ℕ) → n ≡ n\nlaw n = refl\n"
 BOXED = "pub record Said : Type 0 where\n  pub it : ℕ\n\nmodule _ (n : ℕ)\n    (h : n ≡ 1)\n  where\n  pub inner : n ≡ 1\n  inner = h\n\n  module _ (m : ℕ) where\n    pub deep : m ≡ m\n    deep = refl\n"
-CALL = "pub fn call(x: u8) -> u8\n    ensures { λ r. ⌜ r ≡ x ⌝ }\n{\n    x\n}\n"
+CALL = "pub fn call(x: u8) -> u8\n    ensures { result ≡ x }\n{\n    x\n}\n"
 
 # name; the files before and after; what must be said, crate and file left out
 CASES = [
@@ -27,14 +27,17 @@ CASES = [
     ("a module's parameter", {SPECS: BOXED}, {SPECS: BOXED.replace("(h : n ≡ 1)", "(h : n ≡ 2)")}, ["law changed deep", "law changed inner"]),
     ("a law behind a module", {SPECS: BOXED + LAW}, {SPECS: BOXED.replace("m ≡ m", "m ≡ 0") + LAW}, ["law changed deep"]),
     ("one of two laws of a name", {SPECS: BOXED + BOXED}, {SPECS: BOXED + BOXED.replace("m ≡ m", "m ≡ 0")}, ["law changed deep"]),
-    ("a contract", {SOURCE: CALL}, {SOURCE: CALL.replace("r ≡ x", "r ≡ 0")}, ["contract changed one::call"]),
+    ("a contract", {SOURCE: CALL}, {SOURCE: CALL.replace("result ≡ x", "result ≡ 0")}, ["contract changed one::call"]),
     ("code alone", {SOURCE: CALL}, {SOURCE: CALL.replace("    x\n", "    x + 0\n")}, []),
     ("a proof of the code", {PROOF: "p = refl\n"}, {PROOF: "p = (refl)\n"}, ["proof changed call"]),
 ]
 
-# stands for rt: each crate takes as many seconds as its text has letters
+# stands for rt: where a law is inner, which the later commit alone has, it takes a second
 RT = """#!/bin/sh
-[ "$*" = prove ] && for crate in crates/*; do echo "rt: $(basename "$crate") proved ($(wc -c <"$crate/specs/Laws.antt") s)"; done
+[ "$*" = 'ci --anew' ] && if grep -q inner crates/one/specs/Laws.antt; then sleep 1; fi && echo 'rt: one proved'
+"""
+WRONG = """#!/bin/sh
+echo 'rt: one NOT PROVED' && exit 1
 """
 
 
@@ -58,13 +61,13 @@ def moved(room, *words):
                           stderr=subprocess.PIPE, universal_newlines=True)
 
 
-def in_repository(before, after, *words):
+def in_repository(before, after, *words, rt=RT):
     with tempfile.TemporaryDirectory() as room:
         git(room, "init")
         commit(room, before)
         commit(room, after)
         pathlib.Path(room, "bin").mkdir()
-        pathlib.Path(room, "bin/rt").write_text(RT)
+        pathlib.Path(room, "bin/rt").write_text(rt)
         pathlib.Path(room, "bin/rt").chmod(0o755)
         return moved(room, *words)
 
@@ -76,6 +79,8 @@ def results():
         said = [" ".join(line.split("\t")[1:4]) for line in done.stdout.splitlines()]
         yield name, done.returncode == 0 and said == wanted, done.stdout + done.stderr
     done = in_repository({SPECS: LAW}, {SPECS: LAW + BOXED}, "--check", "HEAD~1", "HEAD")
-    yield "the seconds of both", f"one\tseconds\t{len(LAW.encode())}\tthen\t{len((LAW + BOXED).encode())}\n" in done.stdout, done.stdout + done.stderr
+    yield "the seconds of both", "all\tseconds\t0\tthen\t1\n" in done.stdout, done.stdout + done.stderr
+    done = in_repository({SPECS: LAW}, {SPECS: LAW + BOXED}, "--check", "HEAD~1", "HEAD", rt=WRONG)
+    yield "a commit that is not proved", done.returncode == 1 and "HEAD~1 is not proved" in done.stderr, done.stdout + done.stderr
     done = in_repository({}, {}, "HEAD", "other")
     yield "a commit that is not there", done.returncode == 1 and done.stderr == "there is no commit 'other' here\n", done.stdout + done.stderr

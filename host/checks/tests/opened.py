@@ -1,9 +1,9 @@
 """Shows that opened catches what it is there to catch, and nothing else."""
 FILE, OPENED = "crates/one/specs/Rule.antt", "crates/one/specs/Opened.antt"
 RULE = "unfoldable pub twice : ℕ → ℕ\ntwice n = n + n\n"
-OPENER = "use Rattle·one·specs.specs.Rule.{%s}\n\nunfoldable pub oneOpen : ℕ\nunfolding %s\noneOpen = 0\n"
+OPENER = "use Rattle.one.specs.Rule.{%s}\n\nunfoldable pub one_open : ℕ\nunfolding %s\none_open = 0\n"
 WHOLE = OPENER % ("twice", "twice")
-KIT = "use lib.Dec.{eqb}\n\n" + RULE + "\nabbrev pub isNone : ℕ → Bool\nisNone n = eqb n 0\n"
+KIT = "use Rattle.std.specs.Prelude.{eqb}\n\n" + RULE + "\nabbrev pub is_none : ℕ → Bool\nis_none n = eqb n 0\n"
 
 # name; files and their texts; what the check must say ('' if all is well)
 CASES = [
@@ -14,15 +14,15 @@ CASES = [
     ("a name opened by another", {FILE: RULE, OPENED: OPENER % ("twice as two", "two")}, ""),
     ("an opener over two lines", {FILE: RULE + "\nunfoldable pub none : ℕ\nnone = 0\n", OPENED: OPENER % ("none, twice", "twice\n    none")}, ""),
     ("a crate with no opener", {FILE: RULE}, "twice is in no Opened.antt"),
-    ("a crate with no opener, opened above it", {FILE: RULE, "crates/two/specs/Opened.antt": WHOLE.replace("one·specs", "one")}, ""),
+    ("a crate with no opener, opened above it", {FILE: RULE, "crates/two/specs/Opened.antt": WHOLE}, ""),
     ("a definition for the crate itself", {FILE: RULE + "\nunfoldable own : ℕ\nown = 0\n", OPENED: WHOLE}, ""),
     ("a definition of a module", {FILE: "module _ (n : ℕ) where\n  unfoldable pub twice : ℕ\n  twice = n + n\n", OPENED: OPENER % ("", "")}, "twice is in no Opened.antt"),
     ("a definition among laws", {FILE: RULE, OPENED: WHOLE, "crates/one/specs/Laws/Rule.antt": "unfoldable pub thrice : ℕ → ℕ\nthrice n = n + n + n\n"}, ""),
     ("a crate above which nothing computes", {FILE: RULE, OPENED: WHOLE, "crates/groups/specs/Rule.antt": "unfoldable pub thrice : ℕ → ℕ\nthrice n = n + n + n\n"}, ""),
-    ("a definition in the kit's words", {FILE: KIT, OPENED: WHOLE}, f"{FILE}:6\tisNone is written with eqb"),
+    ("a definition in the kit's words", {FILE: KIT, OPENED: WHOLE}, f"{FILE}:6\tis_none is written with eqb"),
     ("a record in the kit's words", {FILE: RULE + "\npub record Small (n : ℕ) : Type 0 where\n  pub is : ltb n 2 ≡ true\n", OPENED: WHOLE}, "Small is written with ltb"),
     ("a law in the kit's words", {FILE: RULE + "\nlaw : (n : ℕ) → eqb n n ≡ true\nlaw n = refl\n", OPENED: WHOLE}, ""),
     ("the kit's words in a comment", {FILE: "-- not eqb\n" + RULE, OPENED: WHOLE}, ""),
-    ("the notation itself", {FILE: RULE, OPENED: WHOLE, "crates/ground/specs/Plain.antt": "abbrev pub _==_ : ℕ → ℕ → Bool\nm == n = eqb m n\n"}, ""),
+    ("the notation itself", {FILE: RULE, OPENED: WHOLE, "crates/ground/specs/Plain.antt": "abbrev pub ◌==◌ : ℕ → ℕ → Bool\nm == n = eqb m n\n"}, ""),
     ("no definition", {}, "no definition was found"),
 ]

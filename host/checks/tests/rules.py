@@ -1,6 +1,6 @@
 """Shows that rules catches what it is there to catch, and nothing else."""
 FILES = {
-    "crates/one/specs/Table.antt": "-- 'Add, from IDLE' (01, 'The table')\nunfoldable pub tableOf : ℕ → ℕ\n",
+    "crates/one/specs/Table.antt": "-- 'Add, from IDLE' (01, 'The table')\nunfoldable pub table_of : ℕ → ℕ\n",
     "crates/one/specs/Lib.antt": "pub mod Table\n",
     "crates/one/specs/Helping.antt": "-- one more\nabbrev pub more : ℕ → ℕ\n",
     "crates/one/specs/Wrong.antt": "-- 'Add, from IDLE' the other way round\nabbrev pub wrong : ℕ → ℕ\n",
@@ -9,28 +9,28 @@ FILES = {
     "crates/conformance/specs/Examples/Paper.antt": '-- rows\npub table : List Row\ntable =\n    row "P1 written" [] (1 ∷ []) same\n    ∷ []\n',
     "crates.txt": "one:\nconformance: one\npinned: one\n",
 }
-SAID = "- Adding. Stated: `tableOf` of crates/one/specs/Table.antt. "
+SAID = "- Adding. Stated: `table_of` of crates/one/specs/Table.antt. "
 MARK = "\n\n<!-- The table below is written by host/check rules -w. -->\n\n"
 HEAD = "| Definitions of | Named rows | Wrong readings and samples | Theorems | Named by none of these |\n|---|---|---|---|---|\n"
-NONE = "| [one](../crates/one) | | | | `more`, `tableOf` |\n"
+NONE = "| [one](../crates/one) | | | | `more`, `table_of` |\n"
 ROWS = "| [one](../crates/one) | `adds` 2 of [pinned/Sending](../crates/pinned/specs/Sending.antt) | | | `more` |\n"
 
 
 def pinned(rows, sentence="'Add, from IDLE' (01)"):
     """A table of named rows of crates/pinned."""
     said = f'pins "{sentence}"\n    ' if sentence else ""
-    return {"crates/pinned/specs/Sending.antt": f"use Rattle·one.specs.Table.{{tableOf}}\n\nadds : Pinned\nadds =\n    {said}({rows}\n    ∷ [])\n"}
+    return {"crates/pinned/specs/Sending.antt": f"use Rattle.one.specs.Table.{{table_of}}\n\nadds : Pinned\nadds =\n    {said}({rows}\n    ∷ [])\n"}
 
 
-TWO = pinned('row "one" (tableOf 1) 1 same\n    ∷ row "two" (tableOf (1 + 1)) 2 same')
+TWO = pinned('row "one" (table_of 1) 1 same\n    ∷ row "two" (table_of (1 + 1)) 2 same')
 
 # name; the page; more files; what the check must say ('' if all is well)
 TEXTS = [
     ("a rule with its definition", SAID, {}, ""),
     ("a row", SAID + 'Tried: "P1 written".', {}, ""),
     ("a row over two lines", SAID + 'Tried: "P1\n  written".', {}, ""),
-    ("a row of a table", "| Rule | Stated | Tried |\n|---|---|---|\n| Adding. | `tableOf` of [one/Table](../crates/one/specs/Table.antt) | \"P1 written\" |", {}, ""),
-    ("a row of a table with another file", "| Adding. | `tableOf` of [one/Helping](../crates/one/specs/Helping.antt) |", {}, "tableOf is not declared in"),
+    ("a row of a table", "| Rule | Stated | Tried |\n|---|---|---|\n| Adding. | `table_of` of [one/Table](../crates/one/specs/Table.antt) | \"P1 written\" |", {}, ""),
+    ("a row of a table with another file", "| Adding. | `table_of` of [one/Helping](../crates/one/specs/Helping.antt) |", {}, "table_of is not declared in"),
     ("a row that is not there", SAID + 'Tried: "P1 read".', {}, "no row is named P1 read"),
     ("a name that is not there", SAID + "Proved: `law` of crates/one/specs/Table.antt", {}, "law is not declared in"),
     ("a file that is not there", SAID + "crates/one/specs/Gone.antt", {}, "crates/one/specs/Gone.antt is not there"),
@@ -44,8 +44,8 @@ TEXTS = [
     ("what pins a definition, by none", SAID + MARK + HEAD + NONE.rstrip(), {}, ""),
     ("what pins a definition, by rows", SAID + MARK + HEAD + ROWS.rstrip(), TWO, ""),
     ("a table of pins that is old", SAID + MARK + HEAD + NONE.rstrip(), TWO, "is not current in what pins a definition"),
-    ("two rows of one name", SAID, pinned('row "one" (tableOf 1) 1 same\n    ∷ row "one" (tableOf 2) 2 same'), "two rows of adds are named one"),
-    ("a table with no sentence", SAID, pinned('row "one" (tableOf 1) 1 same', ""), "adds says no sentence that it pins"),
+    ("two rows of one name", SAID, pinned('row "one" (table_of 1) 1 same\n    ∷ row "one" (table_of 2) 2 same'), "two rows of adds are named one"),
+    ("a table with no sentence", SAID, pinned('row "one" (table_of 1) 1 same', ""), "adds says no sentence that it pins"),
     ("a page that names nothing", "words", {"crates/one/specs/Table.antt": ""}, "names nothing"),
 ]
 

@@ -6,7 +6,7 @@ from checks.unpinned.reading import Parser, parsed, tokens
 from checks.unpinned.values import VALUES
 
 # functions that give the same with two arguments exchanged
-EITHER = ("sameBytes", "sameRow", "sameBits", "apart", "plus")
+EITHER = ("same_bytes", "same_row", "same_bits", "apart", "plus")
 # a comparison, and the one that is put for it
 COMPARISONS = {"<?": "≤?", "≤?": "<?", "==": "≤?"}
 # types of numbers, of definitions and of structs
@@ -203,14 +203,14 @@ def inside(house, d, e, bound, text):
     elif e.kind == "projection":
         # of a struct that has all fields which are asked of the same thing here
         same_kind, own, base = set(), e.value.strip("«»"), of(e.kids[0])
-        asked = {f.strip("«»") for left, right in d.clauses for f in re.findall(re.escape(base) + r" \.(\S+?)(?=[\s();]|$)", text[right[0].start:right[-1].end])}
+        asked = {f.strip("«»") for left, right in d.clauses for f in re.findall(re.escape(base) + r"\.(\w+|«\w+»)", text[right[0].start:right[-1].end])}
         for fields in house.structs.values():
             if own in fields and asked <= set(fields):
                 names = [f for f in fields if fields[f] == fields[own]]
                 if len(names) > 1:
                     same_kind.add(names[(names.index(own) + 1) % len(names)])
         for f in sorted(same_kind):
-            yield e.kids[0].end, e.end, f" .«{f}»" if "_" in f else f" .{f}"
+            yield e.kids[0].end, e.end, f".{f}"
     elif e.kind == "record":
         fields = house.structs.get(frozenset(n.strip("«»") for n in e.value))
         for k, name in enumerate(e.value):
@@ -233,7 +233,7 @@ def inside(house, d, e, bound, text):
             for k in range(min(len(args), len(own)) - 1):
                 if own[k] == own[k + 1] and of(args[k]) != of(args[k + 1]) and head.value not in EITHER:
                     yield args[k].start, args[k + 1].end, f"{of(args[k + 1])} {of(args[k])}"
-        elif what == ("library", "getD") and len(args) == 3:
+        elif what == ("library", "get_or") and len(args) == 3:
             # what stands for a place beyond the list is left as it is
             for kid in args[:2]:
                 yield from inside(house, d, kid, bound, text)

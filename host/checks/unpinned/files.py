@@ -33,6 +33,7 @@ class Module:
 class House:
     def __init__(self, top):
         self.modules, self.definitions, self.structs, self.variants = {}, [], {}, {}
+        self.crates = {path.name for path in (top / "crates").glob("*")}
         for path in sorted((top / "crates").glob("*/specs/**/*.antt")):
             m = Module(top, path)
             self.modules[(m.crate,) + m.parts] = m
@@ -98,7 +99,7 @@ class House:
             elif re.match(r"(pub )?record |(pub )?mod |infix|unfolding |open |private", text):
                 continue
             else:
-                toks = tokens(m.text, start, end)
+                toks = tokens(m.text, start, end, m.aliases)
                 self.declare(m, toks, parameters)
 
     def use(self, m, text):
@@ -140,9 +141,14 @@ class House:
         else:
             d.clauses.append((toks[k + 1:mark], toks[mark + 1:]))
 
+    def own(self, source):
+        """The crate and the rest of the path where a source of names is a file of this repository."""
+        found = re.match(r"Rattle\.([a-z0-9_]+)\.specs\.(.+)", source)
+        return found if found and found[1] in self.crates else None
+
     def found(self, source):
         """The module of a source of names, and what is left of its path: the name of a type in it."""
-        m = re.match(r"Rattle·([a-z_]+)(?:·specs)?\.specs\.(.+)", source)
+        m = self.own(source)
         if not m:
             return None, None
         parts = m[2].split(".")
@@ -159,13 +165,13 @@ class House:
             return "constructor", name
         if name in m.imports:
             source, own = m.imports[name]
-            if not source.startswith("Rattle·"):
+            if not self.own(source):
                 return "library", own
             return self.from_source(source, own, seen)
         if "." in name:
             alias, own = name.split(".", 1)
             if alias in m.aliases:
-                if not m.aliases[alias].startswith("Rattle·"):
+                if not self.own(m.aliases[alias]):
                     return "library", own
                 return self.from_source(m.aliases[alias], own, seen)
             if alias in m.types or alias in m.imports:
@@ -182,7 +188,7 @@ class House:
             return m.crate, front
         if front in m.imports:
             source = m.imports[front][0] + "." + m.imports[front][1]
-        found = re.match(r"Rattle·([a-z_]+)(?:·specs)?\.specs\.(.+)", source)
+        found = self.own(source)
         words = [w for w in found[2].split(".") + front.split(".")[1:] if w != "the-variants"] if found else [""]
         return (found[1] if found else ""), words[-1]
 

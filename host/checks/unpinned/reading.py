@@ -19,7 +19,15 @@ class Token:
         self.kind, self.text, self.start, self.end = kind, text, start, end
 
 
-def tokens(text, start=0, end=None):
+def parts(names, at_):
+    """What is taken of a thing, part of part: each begins with a dot."""
+    for name in names:
+        yield Token("projection", name, at_, at_ + 1 + len(name))
+        at_ += 1 + len(name)
+
+
+def tokens(text, start=0, end=None, aliases=()):
+    """The words of a text. What stands behind a dot is a part that is taken of a thing, but in a path, whose first name is a type's or an alias."""
     found, at_, end = [], start, len(text) if end is None else end
     while at_ < end:
         m = WORD.match(text, at_, end)
@@ -38,13 +46,17 @@ def tokens(text, start=0, end=None):
         elif w == ".":
             found.append(Token("dot", w, a, at_))
         elif w[0] == ".":
-            found.append(Token("projection", w[1:], a, at_))
+            found += parts(w[1:].split("."), a)
         elif w[0] == "λ" and len(w) > 1:
             found.append(Token("word", "λ", a, a + 1))
             at_ = a + 1
         elif w[-1] == "." and len(w) > 1:
             found.append(Token("word", w[:-1], a, at_ - 1))
             found.append(Token("dot", ".", at_ - 1, at_))
+        elif "." in w and w[0].islower() and w.partition(".")[0] not in aliases:
+            first, *taken = w.split(".")
+            found.append(Token("word", first, a, a + len(first)))
+            found += parts(taken, a + len(first))
         else:
             found.append(Token("word", w, a, at_))
     return found
@@ -139,12 +151,7 @@ class Parser:
         args, start = [], head.start
         while True:
             t = self.peek()
-            if t.kind == "projection":
-                self.at += 1
-                if args:
-                    head, args = Node("application", None, [head] + args, start, args[-1].end), []
-                head = Node("projection", t.text, [head], start, t.end)
-            elif t.text == "{" and t.kind == "{":
+            if t.text == "{" and t.kind == "{":
                 self.at += 1
                 self.skip("}")
             elif t.kind in ("number", "string", "(") or t.kind == "word" and (t.text not in KEYWORDS or t.text == "record"):
@@ -153,6 +160,14 @@ class Parser:
                 return Node("application", None, [head] + args, start, args[-1].end) if args else head
 
     def atom(self):
+        """A thing with the parts that are taken of it."""
+        node = self.thing()
+        while self.peek().kind == "projection" and self.peek().start == node.end:
+            t = self.take()
+            node = Node("projection", t.text, [node], node.start, t.end)
+        return node
+
+    def thing(self):
         t = self.take()
         if t.kind == "number":
             return Node("number", int(t.text, 0), [], t.start, t.end)

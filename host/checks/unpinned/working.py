@@ -221,8 +221,8 @@ class Compiler:
             head = head.kids[0]
         if head.kind != "name":
             return f"A({self.value(head, env)}, {', '.join(self.later(k, env) for k in args)})"
-        if head.value.strip("_") in OPERATORS or head.value.split(".")[-1].strip("_") in OPERATORS:
-            sign = head.value.split(".")[-1].strip("_")
+        if head.value.strip("◌") in OPERATORS or head.value.split(".")[-1].strip("◌") in OPERATORS:
+            sign = head.value.split(".")[-1].strip("◌")
             return self.operator(Node("operator", sign, args, e.start, e.end), env)
         code, n, call = self.name(head.value, env)
         if n is None or len(args) < n:
