@@ -34,7 +34,6 @@ use Rattle.phases.specs.Settling.{begun_of, cleared_step, settled_of, stopped_of
 use Rattle.phases.specs.Sizes.{ports_in, store_for}
 use Rattle.receiver.specs.Fetch.{fetch_of}
 use Rattle.receiver.specs.Frame.{frame_of, marks_by, odd_in, store_by, taken_in}
-use Rattle.receiver.specs.Laws.Answers.{unrefused}
 use Rattle.receiver.specs.Laws.Frames.{frame_other, frame_port, frame_on}
 use Rattle.receiver.specs.Laws.Outcomes.{fetch_cases, taken_answer}
 use Rattle.receiver.specs.Laws.Passed.{cleared_joined, passed_kind, passed_oldest, passed_origin, passed_payload, passed_window}

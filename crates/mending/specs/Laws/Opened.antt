@@ -8,7 +8,6 @@ use Rattle.mending.specs.Laws.Texts.{Ended, lines_text, with_ended}
 use Rattle.mending.specs.Lines.{Line, judged, judged_by, line_text, lines_with, text_of}
 pub use Rattle.mending.specs.Mending.{Opened}
 use Rattle.mending.specs.Mending.{answer_by, fitting, mended_by, mended_in, mended_of, notes_by, notes_from, notes_in, notes_of, opening_of, read_answer}
-use Rattle.recording.specs.declared.pairs.Settings.{Settings}
 use Rattle.recording.specs.Opening.{Opening, line_opening}
 use Rattle.recording.specs.Opening.{Opening as O}
 use Rattle.text.specs.Text.{LINE-END}

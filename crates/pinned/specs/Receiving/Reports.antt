@@ -18,7 +18,6 @@ use Rattle.rows.specs.Group.{group_at, put_group}
 use Rattle.rows.specs.Member.{member_at, put_member}
 use Rattle.rows.specs.Packets.{put_marks, put_packets}
 use Rattle.rows.specs.Step.{put_step}
-use Rattle.step.specs.Arrival.{readable}
 use Rattle.store.specs.Frames.{ring_of, stored_at}
 use Rattle.pinned.specs.Opened.{all_open}
 use Rattle.tables.specs.Rows.{Pinned, pins, row, same}

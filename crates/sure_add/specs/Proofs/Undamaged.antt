@@ -11,7 +11,6 @@ use Rattle.ground.specs.Table.{length_tabulate}
 use Rattle.ground.specs.Truth.{and_left, and_right, and-true, eq_or_ne, same_test}
 use Rattle.ground.specs.Counting.Laws.Numbers.{count_le}
 use Rattle.ground.specs.Counting.Laws.Tests.{some_at, some_one}
-use Rattle.ground.specs.Counting.Words.{some}
 use Rattle.packet.specs.declared.ruling.Ruling.{Ruling}
 use Rattle.packet.specs.Kinds.{epoch_of, fixed_kind, mst_fails}
 use Rattle.packet.specs.Mst.{Spoken}
@@ -40,7 +39,7 @@ use Rattle.rows.specs.Group.{group_at, put_group}
 use Rattle.rows.specs.Laws.Port.{port_member}
 use Rattle.rows.specs.Member.{member_at}
 use Rattle.rows.specs.Packets.{marks_at, packets_at}
-use Rattle.rows.specs.Port.{Port, port_at}
+use Rattle.rows.specs.Port.{Port}
 use Rattle.rows.specs.Rows.{rows_for}
 use Rattle.rows.specs.Step.{step_at}
 use Rattle.sender.specs.declared.table.State.{State}

@@ -6,7 +6,7 @@ use Rattle.ground.specs.Drawn.{fill_at}
 use Rattle.judge.specs.declared.seen.Seen.{Seen}
 use Rattle.judge.specs.Verdict.{HELD, judge_of}
 use Rattle.packet.specs.Kinds.{frames}
-use Rattle.phases.specs.Sizes.{ports_in, sized}
+use Rattle.phases.specs.Sizes.{ports_in}
 use Rattle.receiver.specs.Fetch.{due_in, fetch_of, lent_fits, out_if_due}
 use Rattle.receiver.specs.Laws.Answers.{lent}
 use Rattle.receiver.specs.Laws.Bytes.{frames_into_lem}
