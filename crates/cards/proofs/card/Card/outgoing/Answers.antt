@@ -1,0 +1,7 @@
+use Rattle.cards.specs.Readings.{outgoing_shown}
+use borrow.Author.Rules.{rules}
+use Rattle.cards.proofs.card.Card.outgoing.Goals as goal
+
+pub returns : goal.returns
+unfolding outgoing_shown
+returns c = rw (c.group_answer.ensures, c.shown_sender-sender.ensures)

@@ -1,0 +1,18 @@
+-- `owned_bytes` meets its contract. By the loop: the first i bytes say whether their slots are the group's.
+use mathlib.Core.Path.{◌≡◌, refl, ◌∙◌}
+use mathlib.Core.Bool.{◌&&◌}
+use Prim.Native.Nat.{◌≤◌, ◌-◌}
+use native.Mathlib.Omega.{arith}
+use lib.Dec.{eqb}
+use lib.ListN.{length, get_or}
+use Rattle.ground.specs.Flags.{one_if}
+use Rattle.cards.specs.Owners.{owned_bytes}
+use Rattle.ground.specs.Counting.Each.{Done, done_none, done_more, done_table}
+use borrow.Author.Rules.{rules}
+use Rattle.cards.proofs.owners.owned_bytes.Given as goal
+
+abbrev pub invariant-loop-i : goal.invariant-loop-i
+invariant-loop-i l = (length l.initial.out ≡ 64) × (l.i ≤ 64) × Done l.i (λ j. one_if (l.is_group && eqb (get_or l.owners j 0) l.mark)) l.initial.out l.out
+
+abbrev pub decreases-loop-i : goal.decreases-loop-i
+decreases-loop-i l = 64 - l.i

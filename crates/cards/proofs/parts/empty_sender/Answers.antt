@@ -1,0 +1,7 @@
+use Rattle.cards.specs.Parts.{empty_sender}
+use borrow.Author.Rules.{rules}
+use Rattle.cards.proofs.parts.empty_sender.Goals as goal
+
+pub returns : goal.returns
+unfolding empty_sender
+returns c = rw c.start-outcome.ensures

@@ -1,0 +1,7 @@
+use Rattle.cards.specs.Parts.{is_slot}
+use borrow.Author.Rules.{rules}
+use Rattle.cards.proofs.parts.is_slot.Goals as goal
+
+pub returns : goal.returns
+unfolding is_slot
+returns c = rw (c.size-n.ensures, c.sender_of-sender.ensures)

@@ -1,0 +1,7 @@
+use native.Mathlib.Omega.{arith}
+use Rattle.sender.specs.Table.{slot_count}
+use Rattle.cards.proofs.parts.size.Goals as goal
+
+pub returns : goal.returns
+unfolding slot_count
+returns c = c.size_byte.ensures
