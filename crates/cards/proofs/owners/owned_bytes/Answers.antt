@@ -1,13 +1,7 @@
-use mathlib.Core.Path.{◌≡◌, refl, ◌∙◌}
-use mathlib.Core.Bool.{◌&&◌}
-use Prim.Native.Nat.{◌≤◌, ◌-◌}
+use mathlib.Core.Path.{refl, ◌∙◌}
 use native.Mathlib.Omega.{arith}
-use lib.Dec.{eqb}
-use lib.ListN.{length, get_or}
-use Rattle.ground.specs.Flags.{one_if}
 use Rattle.cards.specs.Owners.{owned_bytes}
-use Rattle.ground.specs.Counting.Each.{Done, done_none, done_more, done_table}
-use borrow.Author.Rules.{rules}
+use Rattle.ground.specs.Counting.Each.{done_none, done_more, done_table}
 use Rattle.cards.proofs.owners.owned_bytes.Goals as goal
 
 pub loop-i-init : goal.loop-i-init

@@ -1,14 +1,11 @@
 -- `owned_bytes` meets its contract. By the loop: the first i bytes say whether their slots are the group's.
-use mathlib.Core.Path.{◌≡◌, refl, ◌∙◌}
+use mathlib.Core.Path.{◌≡◌}
 use mathlib.Core.Bool.{◌&&◌}
 use Prim.Native.Nat.{◌≤◌, ◌-◌}
-use native.Mathlib.Omega.{arith}
 use lib.Dec.{eqb}
 use lib.ListN.{length, get_or}
 use Rattle.ground.specs.Flags.{one_if}
-use Rattle.cards.specs.Owners.{owned_bytes}
-use Rattle.ground.specs.Counting.Each.{Done, done_none, done_more, done_table}
-use borrow.Author.Rules.{rules}
+use Rattle.ground.specs.Counting.Each.{Done}
 use Rattle.cards.proofs.owners.owned_bytes.Given as goal
 
 abbrev pub invariant-loop-i : goal.invariant-loop-i

@@ -1,6 +1,5 @@
 use native.Mathlib.Omega.{arith}
 use Rattle.cards.proofs.Rows.{row_with}
-use borrow.Author.Rules.{rules}
 use Rattle.cards.proofs.owners.with_owner.Goals as goal
 
 pub returns : goal.returns

@@ -1,5 +1,4 @@
 use Rattle.cards.specs.Parts.{empty_sender}
-use borrow.Author.Rules.{rules}
 use Rattle.cards.proofs.parts.empty_sender.Goals as goal
 
 pub returns : goal.returns

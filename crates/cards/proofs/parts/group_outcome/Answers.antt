@@ -1,5 +1,4 @@
 use Rattle.cards.specs.Parts.{group_outcome}
-use borrow.Author.Rules.{rules}
 use Rattle.cards.proofs.parts.group_outcome.Goals as goal
 
 pub returns : goal.returns

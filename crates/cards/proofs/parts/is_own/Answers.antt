@@ -1,5 +1,4 @@
 use Rattle.cards.specs.Parts.{owns}
-use borrow.Author.Rules.{rules}
 use Rattle.cards.proofs.parts.is_own.Goals as goal
 
 pub returns : goal.returns

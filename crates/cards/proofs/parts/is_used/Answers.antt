@@ -1,5 +1,4 @@
 use Rattle.cards.specs.Parts.{is_used}
-use borrow.Author.Rules.{rules}
 use Rattle.cards.proofs.parts.is_used.Goals as goal
 
 pub returns : goal.returns

@@ -1,5 +1,4 @@
 use Rattle.cards.specs.Parts.{marked}
-use borrow.Author.Rules.{rules}
 use Rattle.cards.proofs.parts.mark.Goals as goal
 
 pub returns : goal.returns

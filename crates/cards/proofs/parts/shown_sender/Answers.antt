@@ -1,6 +1,5 @@
 use borrow.Author.Tests.{lt-ltb, le-ltb}
 use Rattle.cards.specs.Parts.{shown_sender}
-use borrow.Author.Rules.{rules}
 use Rattle.cards.proofs.parts.shown_sender.Goals as goal
 
 pub returns-then-group-lt2 : goal.returns-then-group-lt2

@@ -1,4 +1,3 @@
-use native.Mathlib.Omega.{arith}
 use Rattle.sender.specs.Table.{slot_count}
 use Rattle.cards.proofs.parts.size.Goals as goal
 

@@ -1,7 +1,5 @@
 -- `Card::claim` meets its contract: no such slot, one that is owned, else the slot is the group's. Each exit cites one law of claiming.
-use borrow.Author.Tests.{not-true, not-false}
 use Rattle.cards.proofs.Answering.{slot_low, claim_no_slot, claim_owned, claim_done}
-use borrow.Author.Rules.{rules}
 use Rattle.cards.proofs.card.Card.claim.Goals as goal
 
 pub returns-then-not-is_slot : goal.returns-then-not-is_slot

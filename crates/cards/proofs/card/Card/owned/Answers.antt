@@ -1,5 +1,4 @@
 use Rattle.cards.specs.Readings.{owned_shown}
-use borrow.Author.Rules.{rules}
 use Rattle.cards.proofs.card.Card.owned.Goals as goal
 
 pub returns : goal.returns

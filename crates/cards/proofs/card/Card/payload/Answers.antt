@@ -1,8 +1,6 @@
 -- `Card::payload` meets its contract: 1, 14, and then what the group's own sender answers and writes.
 -- Each exit cites one law of Answering, with the tests before it; the sender that is asked is the group's.
-use borrow.Author.Tests.{not-true, not-false}
 use Rattle.cards.proofs.Answering.{payload_no_slot, payload_other, payload_done}
-use borrow.Author.Rules.{rules}
 use Rattle.cards.proofs.card.Card.payload.Goals as goal
 
 pub returns-then-not-is_slot : goal.returns-then-not-is_slot

@@ -1,5 +1,4 @@
 use Rattle.cards.specs.Readings.{ranks_shown}
-use borrow.Author.Rules.{rules}
 use Rattle.cards.proofs.card.Card.ranks.Goals as goal
 
 pub returns : goal.returns

@@ -1,7 +1,5 @@
 -- `Card::release` meets its contract: no such slot, another group's, one in use, else the slot is free. Each exit cites one law of releasing.
-use borrow.Author.Tests.{not-true, not-false}
 use Rattle.cards.proofs.Answering.{slot_low, release_no_slot, release_other, release_used, release_done}
-use borrow.Author.Rules.{rules}
 use Rattle.cards.proofs.card.Card.release.Goals as goal
 
 pub returns-then-not-is_slot : goal.returns-then-not-is_slot

@@ -1,7 +1,5 @@
 -- `Card::remove` meets its contract: no such slot, another group's slot, else the group's own remove. Each exit cites one law of a command, in the order of the tests.
-use borrow.Author.Tests.{not-true, not-false}
 use Rattle.cards.proofs.Answering.{command_no_slot, command_other, command_done}
-use borrow.Author.Rules.{rules}
 use Rattle.cards.proofs.card.Card.remove.Goals as goal
 
 pub returns-then-not-is_slot : goal.returns-then-not-is_slot

@@ -1,5 +1,4 @@
 use Rattle.cards.proofs.Answering.{no_group, group_done}
-use borrow.Author.Rules.{rules}
 use Rattle.cards.proofs.card.Card.report.Goals as goal
 
 pub returns-then-group-ge2 : goal.returns-then-group-ge2

@@ -1,5 +1,4 @@
 use Rattle.cards.specs.Commands.{start_of}
-use borrow.Author.Rules.{rules}
 use Rattle.cards.proofs.card.Card.start.Goals as goal
 
 pub returns : goal.returns
