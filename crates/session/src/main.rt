@@ -4,8 +4,8 @@
 ghost use Rattle.std.specs.Prelude.{◌≡◌};
 ghost use Rattle.session_lines.specs.Session.{used_of};
 
-use libc::{STDIN_FILENO, STDOUT_FILENO};
 use session_lines::Session;
+use std::io::Read;
 
 #[derive(Clone, Copy)]
 struct Turn {
@@ -22,14 +22,14 @@ struct Turned {
 }
 
 // A part of the input up to its first line end, and what that is answered.
-fn feed_some(session: Session, input: &[u8]) -> Turn
+fn feed_some(rt: &impl Print, session: Session, input: &[u8]) -> Turn
     ensures { result.used ≡ used_of input.now }
 {
     let mut out = [0u8; 1095];
     let fed = session_lines::feed(session, input, &mut out);
     let after = fed.session;
     let written = fed.written;
-    let wrote = io::write_all(STDOUT_FILENO, &out[..written]);
+    let wrote = rt.write_all(&out[..written]).is_ok();
     Turn {
         session: after,
         used: fed.used,
@@ -38,12 +38,12 @@ fn feed_some(session: Session, input: &[u8]) -> Turn
 }
 
 // A whole part of the input. Where an answer cannot be written there is nobody to read on for.
-fn feed_all(session: Session, input: &[u8]) -> Turned {
+fn feed_all(rt: &impl Print, session: Session, input: &[u8]) -> Turned {
     let mut s = session;
     let mut goes_on = true;
     let mut at = 0;
     while at < input.len() {
-        let turn = feed_some(s, &input[at..]);
+        let turn = feed_some(rt, s, &input[at..]);
         let next = turn.session;
         s = next;
         goes_on = goes_on & turn.wrote;
@@ -55,43 +55,41 @@ fn feed_all(session: Session, input: &[u8]) -> Turned {
     }
 }
 
-fn read_some(session: Session) -> Turned {
-    let mut buffer = io::buffer();
-    let got = libc::read(STDIN_FILENO, &mut buffer);
-    if got <= 0 {
-        return Turned {
+// Where a read fails there is no more input.
+fn read_some(rt: &impl Print, from: &mut impl Read, session: Session) -> Turned {
+    let mut buffer = [0u8; 4096];
+    match from.read(&mut buffer) {
+        Ok(0) | Err(_) => Turned {
             session,
             goes_on: false,
-        };
+        },
+        Ok(n) => feed_all(rt, session, &buffer[..n]),
     }
-    let n = io::count(got, &buffer);
-    feed_all(session, &buffer[..n])
 }
 
-// A proved loop has to end, and nothing says that the input does: the turns are counted down from a number that no run uses up.
-fn read_all(session: Session) -> Session {
+// A proved loop has to end, and nothing says that the input does: the turns are counted up to a number that no run uses up.
+fn read_all(rt: &impl Print, from: &mut impl Read, session: Session) -> Session {
     let mut s = session;
-    let mut goes_on = true;
-    let mut turns = u64::MAX;
-    while goes_on & (turns > 0) {
-        let turn = read_some(s);
+    for _ in 0..u64::MAX {
+        let turn = read_some(rt, from, s);
         let next = turn.session;
         s = next;
-        goes_on = turn.goes_on;
-        turns -= 1;
+        if !turn.goes_on {
+            break;
+        }
     }
     s
 }
 
 // The last line may lack its end.
-fn finish(session: Session) {
+fn finish(rt: &impl Print, session: Session) {
     let mut out = [0u8; 1095];
     let fed = session_lines::finish(session, &mut out);
     let written = fed.written;
-    io::write_all(STDOUT_FILENO, &out[..written]);
+    let _ = rt.write_all(&out[..written]);
 }
 
-fn main() {
-    let s = read_all(session_lines::begin());
-    finish(s);
+fn main(rt: HostRuntime) {
+    let s = read_all(&rt, &mut rt.stdin(), session_lines::begin());
+    finish(&rt, s);
 }
