@@ -4,8 +4,9 @@
 ghost use Rattle.std.specs.Prelude.{◌≡◌};
 ghost use Rattle.session_lines.specs.Session.{used_of};
 
-use libc::{STDIN_FILENO, STDOUT_FILENO};
 use speak_lines::Listener;
+use std::io::Read;
+use std::rt::Env;
 
 #[derive(Clone, Copy)]
 struct Turn {
@@ -22,14 +23,14 @@ struct Turned {
 }
 
 // A part of the input up to its first line end, and what that prints.
-fn feed_some(listener: Listener, input: &[u8]) -> Turn
+fn feed_some(rt: &impl Print, listener: Listener, input: &[u8]) -> Turn
     ensures { result.used ≡ used_of input.now }
 {
     let mut out = [0u8; 2188];
     let fed = speak_lines::feed(listener, input, &mut out);
     let after = fed.listener;
     let written = fed.written;
-    let wrote = io::write_all(STDOUT_FILENO, &out[..written]);
+    let wrote = rt.write_all(&out[..written]).is_ok();
     Turn {
         listener: after,
         used: fed.used,
@@ -38,12 +39,12 @@ fn feed_some(listener: Listener, input: &[u8]) -> Turn
 }
 
 // A whole part of the input. Where a line cannot be written there is nobody to read on for.
-fn feed_all(listener: Listener, input: &[u8]) -> Turned {
+fn feed_all(rt: &impl Print, listener: Listener, input: &[u8]) -> Turned {
     let mut l = listener;
     let mut goes_on = true;
     let mut at = 0;
     while at < input.len() {
-        let turn = feed_some(l, &input[at..]);
+        let turn = feed_some(rt, l, &input[at..]);
         let next = turn.listener;
         l = next;
         goes_on = goes_on & turn.wrote;
@@ -55,51 +56,51 @@ fn feed_all(listener: Listener, input: &[u8]) -> Turned {
     }
 }
 
-fn read_some(listener: Listener) -> Turned {
-    let mut buffer = io::buffer();
-    let got = libc::read(STDIN_FILENO, &mut buffer);
-    if got <= 0 {
-        return Turned {
+// Where a read fails there is no more input.
+fn read_some(rt: &impl Print, from: &mut impl Read, listener: Listener) -> Turned {
+    let mut buffer = [0u8; 4096];
+    match from.read(&mut buffer) {
+        Ok(0) | Err(_) => Turned {
             listener,
             goes_on: false,
-        };
+        },
+        Ok(n) => feed_all(rt, listener, &buffer[..n]),
     }
-    let n = io::count(got, &buffer);
-    feed_all(listener, &buffer[..n])
 }
 
-// A proved loop has to end, and nothing says that the input does: the turns are counted down from a number that no run uses up.
-fn read_all(listener: Listener) -> Listener {
+// A proved loop has to end, and nothing says that the input does: the turns are counted up to a number that no run uses up.
+fn read_all(rt: &impl Print, from: &mut impl Read, listener: Listener) -> Listener {
     let mut l = listener;
-    let mut goes_on = true;
-    let mut turns = u64::MAX;
-    while goes_on & (turns > 0) {
-        let turn = read_some(l);
+    for _ in 0..u64::MAX {
+        let turn = read_some(rt, from, l);
         let next = turn.listener;
         l = next;
-        goes_on = turn.goes_on;
-        turns -= 1;
+        if !turn.goes_on {
+            break;
+        }
     }
     l
 }
 
 // The last line may lack its end.
-fn finish(listener: Listener) {
+fn finish(rt: &impl Print, listener: Listener) {
     let mut out = [0u8; 2188];
     let fed = speak_lines::finish(listener, &mut out);
     let written = fed.written;
-    io::write_all(STDOUT_FILENO, &out[..written]);
+    let _ = rt.write_all(&out[..written]);
 }
 
 // Whether the first argument is --each. What else may stand there is for the script that runs this to look at.
-fn tells_each() -> bool {
-    let mut word = io::buffer();
-    let length = os::arg(1, &mut word);
-    text::same(&word, 0, length, b"--each")
+fn tells_each(rt: &impl Env) -> bool {
+    let mut word = [0u8; 4096];
+    match rt.arg(1, &mut word) {
+        Ok(length) => text::same(&word, 0, length, b"--each"),
+        Err(_) => false,
+    }
 }
 
-fn main() {
-    let each = tells_each();
-    let l = read_all(speak_lines::begin(!each));
-    finish(l);
+fn main(rt: HostRuntime) {
+    let each = tells_each(&rt);
+    let l = read_all(&rt, &mut rt.stdin(), speak_lines::begin(!each));
+    finish(&rt, l);
 }
