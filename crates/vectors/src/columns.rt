@@ -4,33 +4,33 @@ ghost use Rattle.std.specs.Prelude.{◌<◌};
 
 use crate::show;
 
-pub(crate) fn run() {
-    vc4_by_five(1, 1296);
-    vc4_by_five(9, 1300);
-    vc3_by_three(1, 250);
-    vc3_by_three(2, 1);
+pub(crate) fn run(rt: &impl Print) {
+    vc4_by_five(rt, 1, 1296);
+    vc4_by_five(rt, 9, 1300);
+    vc3_by_three(rt, 1, 250);
+    vc3_by_three(rt, 2, 1);
 }
 
 // 260 columns, so 1,300 in the group's rows.
-fn vc4_by_five(row: usize, column: usize) {
+fn vc4_by_five(rt: &impl Print, row: usize, column: usize) {
     let mut frame = [0u8; 11700];
     let mut members = [0u8; 11700];
     let at = from_zero(row) * 1300 + from_zero(column);
     mark(&mut frame, at);
     let found = spread(5, 2340, &frame, &mut members);
-    show::text(b"column\tVC-4\tX 5");
-    line(row, column, found / 2340, found % 2340);
+    show::text(rt, b"column\tVC-4\tX 5");
+    line(rt, row, column, found / 2340, found % 2340);
 }
 
 // 84 columns, so 252 in the group's rows.
-fn vc3_by_three(row: usize, column: usize) {
+fn vc3_by_three(rt: &impl Print, row: usize, column: usize) {
     let mut frame = [0u8; 2268];
     let mut members = [0u8; 2268];
     let at = from_zero(row) * 252 + from_zero(column);
     mark(&mut frame, at);
     let found = spread(3, 756, &frame, &mut members);
-    show::text(b"column\tVC-3\tX 3");
-    line(row, column, found / 756, found % 756);
+    show::text(rt, b"column\tVC-3\tX 3");
+    line(rt, row, column, found / 756, found % 756);
 }
 
 // One less, for a count from 1 that is below 4,096.
@@ -53,20 +53,16 @@ fn mark(frame: &mut [u8], at: usize) {
 }
 
 fn first(bytes: &[u8]) -> usize {
-    let mut i = 0;
-    while i < bytes.len() {
-        if bytes[i] == 1 {
-            return i;
-        }
-        i += 1;
+    match bytes.iter().position(|byte| *byte == 1) {
+        Some(i) => i,
+        None => bytes.len(),
     }
-    i
 }
 
-fn line(row: usize, column: usize, rank: usize, byte: usize) {
-    show::named(b"\trow ", as_u16(row));
-    show::named(b"\tcolumn ", as_u16(column));
-    show::pair(b"\trank ", as_u16(rank), b"\tbyte ", as_u16(byte));
+fn line(rt: &impl Print, row: usize, column: usize, rank: usize, byte: usize) {
+    show::named(rt, b"\trow ", as_u16(row));
+    show::named(rt, b"\tcolumn ", as_u16(column));
+    show::pair(rt, b"\trank ", as_u16(rank), b"\tbyte ", as_u16(byte));
 }
 
 fn as_u16(number: usize) -> u16 {

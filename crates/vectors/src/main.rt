@@ -13,9 +13,9 @@ mod show;
 mod text;
 mod vc12;
 
-fn main() {
-    packets::run();
-    columns::run();
-    received::run();
-    vc12::run();
+fn main(rt: HostRuntime) {
+    packets::run(&rt);
+    columns::run(&rt);
+    received::run(&rt);
+    vc12::run(&rt);
 }

@@ -5,41 +5,40 @@ ghost use Rattle.std.specs.Prelude.{◌<◌};
 use crate::{given, show, text};
 use packet::Fields;
 
-pub(crate) fn run() {
+pub(crate) fn run(rt: &HostRuntime) {
     let mut file = [0u8; 8192];
-    let n = text::read(b"packets.txt", &mut file);
-    lines(&file[..n]);
+    let n = text::read(rt, "packets.txt", &mut file);
+    lines(rt, &file[..n]);
 }
 
-fn lines(file: &[u8]) {
-    let mut start = 0;
-    while start < file.len() {
-        let end = bytes::scan::find(file, start, file.len(), b'\n');
-        line(&file[start..end]);
-        start = end + 1;
+fn lines(rt: &impl Print, file: &[u8]) {
+    for one in file.split(|byte| *byte == b'\n') {
+        line(rt, one);
     }
 }
 
 // A line that is no whole row is passed over.
-fn line(line: &[u8]) {
+fn line(rt: &impl Print, line: &[u8]) {
     if line.len() < 134 {
         return;
     }
     if line[0] != b'H' {
         return;
     }
-    show::text(b"row\t");
-    show::text(&line[0..84]);
-    row(fields_in(line), bytes_in(line));
+    show::text(rt, b"row\t");
+    show::text(rt, &line[0..84]);
+    row(rt, fields_in(line), bytes_in(line));
 }
 
-fn row(fields: Fields, h4: [u8; 16]) {
+fn row(rt: &impl Print, fields: Fields, h4: [u8; 16]) {
     show::either(
+        rt,
         is_written_as(fields, h4),
         b"\twritten as given",
         b"\tNOT written as given",
     );
     show::either(
+        rt,
         given::is_read_as(h4, fields),
         b"\tread as given\n",
         b"\tNOT read as given\n",
@@ -47,8 +46,7 @@ fn row(fields: Fields, h4: [u8; 16]) {
 }
 
 fn is_written_as(fields: Fields, h4: [u8; 16]) -> bool {
-    let own = given::written(fields);
-    check::same(&own, &h4)
+    given::written(fields) == h4
 }
 
 fn fields_in(line: &[u8]) -> Fields {
@@ -76,10 +74,8 @@ fn reserved_at(line: &[u8], at: usize) -> u32
 
 fn bytes_in(line: &[u8]) -> [u8; 16] {
     let mut bytes = [0u8; 16];
-    let mut i = 0;
-    while i < 16 {
+    for i in 0..16 {
         bytes[i] = byte_at(line, 87 + 3 * i);
-        i += 1;
     }
     bytes
 }

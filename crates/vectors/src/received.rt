@@ -15,25 +15,22 @@ struct At {
     epoch: u8,
 }
 
-pub(crate) fn run() {
-    let mut file = io::buffer();
-    let n = text::read(b"receiver.txt", &mut file);
+pub(crate) fn run(rt: &HostRuntime) {
+    let mut file = [0u8; 4096];
+    let n = text::read(rt, "receiver.txt", &mut file);
     let mut state = [[0u8; 16]; 51];
     let mut store = [0u8; 480];
-    lines(&file[..n], &mut state, &mut store);
+    lines(rt, &file[..n], &mut state, &mut store);
 }
 
-fn lines(file: &[u8], state: &mut [[u8; 16]], store: &mut [u8]) {
+fn lines(rt: &impl Print, file: &[u8], state: &mut [[u8; 16]], store: &mut [u8]) {
     let mut at = At { ports: 0, epoch: 0 };
-    let mut start = 0;
-    while start < file.len() {
-        let end = bytes::scan::find(file, start, file.len(), b'\n');
-        at = line(&file[start..end], at, state, store);
-        start = end + 1;
+    for one in file.split(|byte| *byte == b'\n') {
+        at = line(rt, one, at, state, store);
     }
 }
 
-fn line(line: &[u8], before: At, state: &mut [[u8; 16]], store: &mut [u8]) -> At {
+fn line(rt: &impl Print, line: &[u8], before: At, state: &mut [[u8; 16]], store: &mut [u8]) -> At {
     let at = at_line(line, before);
     let ports = at.ports as usize;
     let rows = group::rows_for(at.ports);
@@ -44,7 +41,7 @@ fn line(line: &[u8], before: At, state: &mut [[u8; 16]], store: &mut [u8]) -> At
     if store.len() < bytes {
         return before;
     }
-    row(line, at, &mut state[0..rows], &mut store[0..bytes]);
+    row(rt, line, at, &mut state[0..rows], &mut store[0..bytes]);
     counted_on(line, at)
 }
 
@@ -71,20 +68,20 @@ fn counted_on(line: &[u8], at: At) -> At {
 }
 
 // A line that begins otherwise is passed over.
-fn row(line: &[u8], at: At, state: &mut [[u8; 16]], store: &mut [u8]) {
+fn row(rt: &impl Print, line: &[u8], at: At, state: &mut [[u8; 16]], store: &mut [u8]) {
     match text::column(line, 0) {
-        b'p' => start(line, at.ports, state, store.len()),
-        b'e' => epochs(line, at, state, store),
-        b'r' => reply(line, state),
+        b'p' => start(rt, line, at.ports, state, store.len()),
+        b'e' => epochs(rt, line, at, state, store),
+        b'r' => reply(rt, line, state),
         _ => {}
     }
 }
 
-fn start(line: &[u8], ports: u8, state: &mut [[u8; 16]], store: usize) {
-    show::text(line);
+fn start(rt: &impl Print, line: &[u8], ports: u8, state: &mut [[u8; 16]], store: usize) {
+    show::text(rt, line);
     let answer = receiver::start(H4, ports as u32, link::PAYLOAD, 16, store, state);
-    show::named(b"\tstart ", answer as u16);
-    show::end_line();
+    show::named(rt, b"\tstart ", answer as u16);
+    show::end_line(rt);
 }
 
 // The reply of an epoch: MST, then RS-Ack.
@@ -94,26 +91,26 @@ fn reply_of(state: &[[u8; 16]], epoch: u8) -> [u8; 2] {
     out
 }
 
-fn reply(line: &[u8], state: &[[u8; 16]]) {
-    show::text(line);
+fn reply(rt: &impl Print, line: &[u8], state: &[[u8; 16]]) {
+    show::text(rt, line);
     let out = reply_of(state, text::number_at(line, 7));
-    show::byte(b"\tMST ", out[0]);
-    show::named(b"\tRS-Ack ", out[1] as u16);
-    show::end_line();
+    show::byte(rt, b"\tMST ", out[0]);
+    show::named(rt, b"\tRS-Ack ", out[1] as u16);
+    show::end_line(rt);
 }
 
-fn epochs(line: &[u8], at: At, state: &mut [[u8; 16]], store: &mut [u8]) {
-    show::text(line);
+fn epochs(rt: &impl Print, line: &[u8], at: At, state: &mut [[u8; 16]], store: &mut [u8]) {
+    show::text(rt, line);
     let mut out = [0u8; 320];
     let mut report = [0u8; 8];
     let turns = turns_in(line, at, state, store, &mut out, &mut report);
-    show_states(state, at.ports);
+    show_states(rt, state, at.ports);
     let told = reply_of(state, 0);
-    show::byte(b"\tMST ", told[0]);
-    show::named(b"\tturns ", turns as u16);
-    show::report(report);
-    show_frame(report[2], &out);
-    show::end_line();
+    show::byte(rt, b"\tMST ", told[0]);
+    show::named(rt, b"\tturns ", turns as u16);
+    show::report(rt, report);
+    show_frame(rt, report[2], &out);
+    show::end_line(rt);
 }
 
 // The epochs of a line, each one fetched: how often RS-Ack turned.
@@ -127,11 +124,9 @@ fn turns_in(
 ) -> u8 {
     let count = text::number_at(line, 7);
     let mut turns: u8 = 0;
-    let mut i: u8 = 0;
-    while i < count {
+    for i in 0..count {
         let epoch = std::num::wrapping_add_u8(at.epoch, i);
         turns += turns_at(line, at.ports, epoch, state, store, out, report);
-        i += 1;
     }
     turns
 }
@@ -157,18 +152,14 @@ fn turns_at(
 // An epoch's frames, each tag to every port.
 fn send(line: &[u8], ports: u8, epoch: u8, state: &mut [[u8; 16]], store: &mut [u8]) {
     let first = kinds::first_tag(H4, epoch);
-    let mut i: u16 = 0;
-    while i < 16 {
+    for i in 0..16 {
         send_tag(line, ports, link::tag_after(first, i), state, store);
-        i += 1;
     }
 }
 
 fn send_tag(line: &[u8], ports: u8, tag: u16, state: &mut [[u8; 16]], store: &mut [u8]) {
-    let mut port: u8 = 0;
-    while port < ports {
+    for port in 0..ports {
         link::frame(port, sent_in(line, port), tag, state, store);
-        port += 1;
     }
 }
 
@@ -192,37 +183,35 @@ fn number_in(word: Word, column: u8) -> u8 {
     }
 }
 
-fn show_states(state: &[[u8; 16]], ports: u8) {
+fn show_states(rt: &impl Print, state: &[[u8; 16]], ports: u8) {
     let mut seen = [[0u8; 8]; 10];
     let n = ports as usize;
     if n <= 10 {
-        show_seen(state, &mut seen[0..n]);
+        show_seen(rt, state, &mut seen[0..n]);
     }
 }
 
-fn show_seen(state: &[[u8; 16]], seen: &mut [[u8; 8]]) {
-    show::text(b"\tstates");
+fn show_seen(rt: &impl Print, state: &[[u8; 16]], seen: &mut [[u8; 8]]) {
+    show::text(rt, b"\tstates");
     receiver::ports(state, seen);
-    let mut i = 0;
-    while i < seen.len() {
-        show_state(seen[i][0]);
-        i += 1;
+    for one in seen.iter() {
+        show_state(rt, one[0]);
     }
 }
 
-fn show_state(state: u8) {
+fn show_state(rt: &impl Print, state: u8) {
     match state {
-        Port::OK => show::text(b" OK"),
-        Port::FAIL => show::text(b" FAIL"),
-        _ => show::text(b" IDLE"),
+        Port::OK => show::text(rt, b" OK"),
+        Port::FAIL => show::text(rt, b" FAIL"),
+        _ => show::text(rt, b" IDLE"),
     }
 }
 
 // The last one of the sixteen group frames.
-fn show_frame(x: u8, out: &[u8]) {
-    show::text(b"\tframe");
+fn show_frame(rt: &impl Print, x: u8, out: &[u8]) {
+    show::text(rt, b"\tframe");
     let bytes = x as usize * 2;
     if bytes * 16 <= out.len() {
-        show::bytes(&out[bytes * 15..bytes * 16]);
+        show::bytes(rt, &out[bytes * 15..bytes * 16]);
     }
 }

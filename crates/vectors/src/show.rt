@@ -1,32 +1,29 @@
-// What the program prints: words, numbers and bytes, to standard output.
-use libc::STDOUT_FILENO;
-
-pub(crate) fn text(words: &[u8]) {
-    io::write_all(STDOUT_FILENO, words);
+// What the program prints: words, numbers and bytes, to standard output. What cannot be written is left out: whoever compares the lines misses it.
+pub(crate) fn text(rt: &impl Print, words: &[u8]) {
+    let _ = rt.write_all(words);
 }
 
-pub(crate) fn end_line() {
-    text(b"\n");
+pub(crate) fn end_line(rt: &impl Print) {
+    text(rt, b"\n");
 }
 
 // Words, and a number after them.
-pub(crate) fn named(words: &[u8], number: u16) {
-    text(words);
-    io::print_decimal(STDOUT_FILENO, number as u64);
+pub(crate) fn named(rt: &impl Print, words: &[u8], number: u16) {
+    text(rt, words);
+    let _ = rt.print(number);
 }
 
 // A whole line of two such pairs.
-pub(crate) fn pair(words: &[u8], number: u16, then: &[u8], other: u16) {
-    named(words, number);
-    named(then, other);
-    end_line();
+pub(crate) fn pair(rt: &impl Print, words: &[u8], number: u16, then: &[u8], other: u16) {
+    named(rt, words, number);
+    named(rt, then, other);
+    end_line(rt);
 }
 
 // Words, and a byte after them in two digits, in upper case as 01 and the rows have them.
-pub(crate) fn byte(words: &[u8], byte: u8) {
-    text(words);
-    let digits = [digit(byte / 16), digit(byte % 16)];
-    io::write_all(STDOUT_FILENO, &digits);
+pub(crate) fn byte(rt: &impl Print, words: &[u8], byte: u8) {
+    text(rt, words);
+    text(rt, &[digit(byte / 16), digit(byte % 16)]);
 }
 
 fn digit(nibble: u8) -> u8 {
@@ -38,41 +35,36 @@ fn digit(nibble: u8) -> u8 {
 }
 
 // Each byte with a space before it.
-pub(crate) fn bytes(all: &[u8]) {
-    let mut i = 0;
-    while i < all.len() {
-        byte(b" ", all[i]);
-        i += 1;
+pub(crate) fn bytes(rt: &impl Print, all: &[u8]) {
+    for one in all {
+        byte(rt, b" ", *one);
     }
 }
 
 // One of two words, by what a test found.
-pub(crate) fn either(found: bool, yes: &[u8], no: &[u8]) {
+pub(crate) fn either(rt: &impl Print, found: bool, yes: &[u8], no: &[u8]) {
     if found {
-        text(yes);
+        text(rt, yes);
     } else {
-        text(no);
+        text(rt, no);
     }
 }
 
 // Numbers below ten, each as its digit.
-pub(crate) fn small(all: &[u8]) {
-    let mut i = 0;
-    while i < all.len() {
-        let own = [digit(all[i] % 10)];
-        text(&own);
-        i += 1;
+pub(crate) fn small(rt: &impl Print, all: &[u8]) {
+    for number in all {
+        text(rt, &[digit(*number % 10)]);
     }
 }
 
 // The epoch and the mark of a report.
-pub(crate) fn report(report: [u8; 8]) {
-    named(b"\tepoch ", report[1] as u16);
+pub(crate) fn report(rt: &impl Print, report: [u8; 8]) {
+    named(rt, b"\tepoch ", report[1] as u16);
     let mark = report[0];
     match mark {
-        0 => text(b"\tnone due"),
-        1 => text(b"\theld"),
-        2 => text(b"\tdoubtful"),
-        _ => text(b"\tsure"),
+        0 => text(rt, b"\tnone due"),
+        1 => text(rt, b"\theld"),
+        2 => text(rt, b"\tdoubtful"),
+        _ => text(rt, b"\tsure"),
     }
 }

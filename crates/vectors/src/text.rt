@@ -1,21 +1,41 @@
 // A file of data, and the columns of its lines.
-ghost use Rattle.std.specs.Prelude.{◌<◌};
-ghost use Rattle.io.specs.Counts.{IsPrefixLen};
+ghost use Rattle.std.specs.Prelude.{◌≡◌, ◌≤◌, ◌<◌, length, take};
 
 use packet::Word;
+use std::{fs, io};
 
 // A file of data: how many bytes it has.
-pub(crate) fn read(path: &[u8], file: &mut [u8]) -> usize
-    ensures { IsPrefixLen result file.new }
+pub(crate) fn read(rt: &HostRuntime, path: &str, file: &mut [u8]) -> usize
+    ensures in_bounds { result ≤ length file.new }
+    ensures prefix { result ≡ length (take result file.new) }
 {
-    let fd = os::open_read(path);
-    if fd < 0 {
-        os::fail(path);
-        return 0;
+    match fs::read(rt, path) {
+        Ok(bytes) => put(bytes.as_slice(), file),
+        Err(error) => {
+            fail(rt, path, error);
+            0
+        }
     }
-    let n = io::read_full(fd, file);
-    libc::close(fd);
+}
+
+// Bytes at a buffer's front, as many as it has room for: how many those are.
+fn put(bytes: &[u8], buffer: &mut [u8]) -> usize
+    ensures { result ≤ length buffer.new }
+{
+    let n = bytes.len().min(buffer.len());
+    buffer[..n].copy_from_slice(&bytes[..n]);
     n
+}
+
+// A line to standard error: what could not be read, and the system's words for why, without their number.
+fn fail(rt: &HostRuntime, path: &str, error: io::Error) {
+    let _ = match format!(in rt.alloc(); "{error}") {
+        Ok(said) => match said.split_once(" (os error ") {
+            Some((words, _)) => eprintln!(rt; "{path}: {words}"),
+            None => eprintln!(rt; "{path}: {said}"),
+        },
+        Err(_) => eprintln!(rt; "{path}: {error}"),
+    };
 }
 
 // The byte in a column; 0 behind the line's end.
