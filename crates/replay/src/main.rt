@@ -19,12 +19,13 @@ const ROWS_MOST: usize = 321;
 // 'a store above 65,536 bytes in the program' is 4. No other length is lent: `run_file` asks for STORE.
 const STORE_BYTES: usize = 65536;
 
-// at: the place of the text to which it has come.
+// at: the place of the text to which it has come. wrote: whether what it prints could be written.
 #[derive(Clone, Copy)]
 struct Done {
     replay: Replay,
     at: usize,
     goes_on: bool,
+    wrote: bool,
 }
 
 fn at_most(n: usize, most: usize) -> usize
@@ -57,6 +58,7 @@ fn take_turn(
         replay: after,
         at: at_most(turn.used, text.len()),
         goes_on: wrote & !turn.wants,
+        wrote,
     }
 }
 
@@ -78,12 +80,14 @@ fn run_text(
     let mut now = replay;
     let mut at = 0;
     let mut goes_on = true;
+    let mut wrote = true;
     for _ in 0..u64::MAX {
         let turn = take_turn(rt, now, text, at, last, rows, store, out, &mut said);
         let next = turn.replay;
         now = next;
         at = turn.at;
         goes_on = turn.goes_on;
+        wrote = turn.wrote;
         if !goes_on {
             break;
         }
@@ -92,6 +96,7 @@ fn run_text(
         replay: now,
         at,
         goes_on,
+        wrote,
     }
 }
 
@@ -166,7 +171,7 @@ fn run_some(
     Part {
         replay: after,
         kept: keep_rest(buffer, used, end),
-        goes_on: !last,
+        goes_on: done.wrote & !last,
     }
 }
 
