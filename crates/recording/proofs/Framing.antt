@@ -47,9 +47,9 @@ module _ (ports : ℕ) (p h : Number) (flag : ℕ) (payload : Bool) (place next 
   unfolding frame_by
   no_frame x y e k t = rw (e, k, t)
 
-pub h4_below : (x y ports flag : ℕ) (payload : Bool) → (ltb x ports && ltb y 256 && ltb flag 2 && payload) ≡ true → y < 256
+pub h4_below : (x y ports : ℕ) (flag payload : Bool) → (ltb x ports && ltb y 256 && flag && payload) ≡ true → y < 256
 h4_below x y ports flag payload t =
-    ltb-true y 256 (and_right (ltb x ports) (ltb y 256) (and_left (ltb x ports && ltb y 256) (ltb flag 2) (and_left (ltb x ports && ltb y 256 && ltb flag 2) payload t)))
+    ltb-true y 256 (and_right (ltb x ports) (ltb y 256) (and_left (ltb x ports && ltb y 256) flag (and_left (ltb x ports && ltb y 256 && flag) payload t)))
 
 module _ (a b c : Number) (pairs : List (List ℕ)) (next : ℕ) where
   pub no_count : a ≡ Unreadable → O.Malformed ≡ settings_by a b c pairs next

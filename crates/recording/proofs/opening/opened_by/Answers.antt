@@ -1,4 +1,4 @@
--- `opened_by` meets its contract: settings where no pair is left half; what is still awaited is a case (`opened-is`).
+-- `opened_by` meets its contract: settings where no pair is left half; what is still awaited is a case (`opened_is`).
 use mathlib.Core.Path.{◌∙◌}
 use Rattle.recording.proofs.Reading.{opened_is}
 use Rattle.recording.specs.declared.pairs.Awaited.TheVariants.{Name, Kind, Time, Nothing}

@@ -1,5 +1,5 @@
--- One case for each way a line's end is found or not (`record-nothing`, `record-open`, `record-long`, `record-ends`).
--- An end that is found lies at the place or behind it and within the text, so that the line can be read (`ends-within`).
+-- One case for each way a line's end is found or not (`record_nothing`, `record_open`, `record_long`, `record_ends`).
+-- An end that is found lies at the place or behind it and within the text, so that the line can be read (`ends_within`).
 use mathlib.Core.Path.{sym, ◌∙◌}
 use native.Mathlib.Omega.{arith}
 use Rattle.recording.specs.Laws.Parting.{ends_within, record_ends, record_long, record_nothing, record_open}
