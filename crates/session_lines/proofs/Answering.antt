@@ -26,6 +26,7 @@ use Rattle.session_lines.specs.Output.{ROOM, answer_text, board_text}
 use Rattle.session_lines.specs.Replies.{is_board, output_of, reply_of}
 use Rattle.session_lines.specs.Session.{fed_session, fed_text, feed_bytes, feed_of, finish_bytes, finish_of, last_session, last_text, over, refused, said_to, table_after, used_of}
 use Rattle.session_lines.specs.Shown.{shown_bytes, shown_length}
+use Rattle.text.specs.Laws.Parted.{index_le}
 use Rattle.text.specs.Output.{Put}
 use Rattle.text.specs.Text.{LINE-END}
 use Rattle.session_lines.proofs.Lengths.{answer_le, board_le}
@@ -72,10 +73,12 @@ answered t k l r out new next e f p = (ap (λ (y : Reply). y.table) (f ∙ ap (r
 
 -- the first line end of the whole input
 pub end_is : (input : List ℕ) (end : ℕ) → end ≡ 0 + index_of LINE-END (slice 0 (length input) input) → end ≡ index_of LINE-END input
-unfolding slice
 end_is input end e =
     let z : 0 + index_of LINE-END input ≡ index_of LINE-END input = omega arith in
     rw (take-length, z) at e
+
+pub end_within : (input : List ℕ) (end : ℕ) → end ≡ 0 + index_of LINE-END (slice 0 (length input) input) → end ≤ length input
+end_within input end e = let s = end_is input end e in let m = index_le LINE-END input in omega arith
 
 module _ (before : Kept) (input : List ℕ) (end : ℕ) (e : end ≡ index_of LINE-END input) (k : Kept) (f : k ≡ keep_all before (take end input)) where
   pub gathered_line : end < length input → ◌≡◌ {A = Gathered} (record { kept = k; used = end + 1; ended = true }) (gathered_of before input)

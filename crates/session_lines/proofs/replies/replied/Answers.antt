@@ -1,0 +1,5 @@
+use borrow.Author.Rules.{rules}
+use Rattle.session_lines.proofs.replies.replied.Goals as goal
+
+pub returns : goal.returns
+returns c = rw c.number.ensures
