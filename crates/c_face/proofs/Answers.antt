@@ -1,12 +1,12 @@
 -- Each way out of the packet's C calls, as the definitions have it.
 use mathlib.Core.Path.{◌≡◌, refl, ◌∙◌, sym, ap}
 use mathlib.Core.Bool.{Bool, true, false, ◌&&◌, false≢true}
-use mathlib.Core.List.{List, ◌++◌}
+use mathlib.Core.List.{List}
 use Prim.Native.Nat.{ℕ, ◌<◌}
 use native.Mathlib.Omega.{arith}
 use borrow.Author.Tests.{eq-eqb, ne_eqb, lt-ltb, ltb-true}
 use lib.Dec.{ltb}
-use lib.ListN.{length, drop, drop_of_length-le}
+use lib.ListN.{length}
 use Rattle.ground.specs.Truth.{and_left, and_right, fails}
 use Rattle.packet.specs.Theorems.Sent.{sent_h4_lem, sent_vc12}
 use Rattle.packet.specs.declared.layout.Fields.{Fields}
@@ -119,7 +119,3 @@ module _ (h4 s : List ℕ) where
 -- a packet's values put for a reading that is this packet
 pub reading_put : (t : Reading) (f : Fields) (s v : List ℕ) → t ≡ Packet f → v ≡ values_in f → (0 ≡ reading_number t) × (v ≡ values_or t s)
 reading_put t f s v e h = rw e (refl, h)
-
--- ten bytes copied over ten
-pub put : (f : Fields) (s t : List ℕ) → length s ≡ 10 → t ≡ values_in f ++ drop 10 s → t ≡ values_in f
-put f s t h e = e ∙ rw (drop_of_length-le s {i = 10} (omega arith)) refl

@@ -1,0 +1,9 @@
+-- `put_sender` meets its contract: slots, both boards' rows and the fields, at their places.
+-- Four pieces are written one behind the other and fill the whole state, so that nothing of the old one is left (`put_whole`).
+use native.Mathlib.Omega.{arith}
+use Rattle.c_face.proofs.Pieces.{put_whole}
+use Rattle.c_face.proofs.keeping.put_sender.Goals as goal
+
+pub returns : goal.returns
+returns c =
+    put_whole c.args.sender _ c.args.state.now _ _ _ _ c.requires c.field_bytes-fields.ensures c.put_slots.ensures c.put_rows.ensures c.put_rows-2.ensures c.put_bytes.ensures

@@ -1,0 +1,6 @@
+use mathlib.Core.Path.{refl}
+use native.Mathlib.Omega.{arith}
+use Rattle.c_face.proofs.keeping.slot_in.Goals as goal
+
+pub returns : goal.returns
+returns c = rw c.state_of.ensures refl

@@ -1,0 +1,7 @@
+use mathlib.Core.Path.{◌∙◌, ap}
+use native.Mathlib.Omega.{arith}
+use Rattle.packet.specs.Writing.{writing_number}
+use Rattle.c_face.proofs.packets.levelspruce_packet_write_fixed.Goals as goal
+
+pub returns : goal.returns
+returns c = (c.number.ensures ∙ ap writing_number c.write_fixed-written.ensures.0, c.write_fixed-written.ensures.1)

@@ -1,0 +1,15 @@
+use mathlib.Core.Bool.{true}
+use mathlib.Core.Path.{refl}
+use native.Mathlib.Omega.{arith}
+use Rattle.c_face.proofs.SenderCalls.{call_length, call_kept}
+use Rattle.sender.specs.Calls.Call.{AddSlot}
+use Rattle.sender.specs.Epochs.SenderCall.{OnTable}
+use Rattle.c_face.proofs.senders.levelspruce_sender_add.Goals as goal
+
+pub returns-then-state-ne-SENDER_BYTES : goal.returns-then-state-ne-SENDER_BYTES
+returns-then-state-ne-SENDER_BYTES c =
+    call_length _ true (OnTable (AddSlot c.args.slot)) c.if-state-ne-SENDER_BYTES.true
+
+pub returns : goal.returns
+returns c =
+    call_kept _ true (OnTable (AddSlot c.args.slot)) _ _ _ _ c.if-state-ne-SENDER_BYTES.false refl c.sender_of-sender.ensures c.add-outcome.ensures c.keep.ensures
