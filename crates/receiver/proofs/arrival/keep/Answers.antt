@@ -1,0 +1,6 @@
+use mathlib.Core.Path.{refl, ◌∙◌}
+use borrow.Author.Rules.{rules}
+use Rattle.receiver.proofs.arrival.keep.Goals as goal
+
+pub returns : goal.returns
+returns c = c.put.ensures ∙ rw c.place-place.ensures refl

@@ -1,0 +1,8 @@
+use mathlib.Core.Path.{refl}
+use Rattle.receiver.specs.Fetch.{record_of}
+use borrow.Author.Rules.{rules}
+use Rattle.receiver.proofs.fetching.record_of.Goals as goal
+
+pub returns : goal.returns
+unfolding record_of
+returns c = refl

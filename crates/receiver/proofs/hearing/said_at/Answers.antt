@@ -1,0 +1,8 @@
+use mathlib.Core.Path.{refl}
+use Rattle.receiver.specs.Heard.{said_at}
+use borrow.Author.Rules.{rules}
+use Rattle.receiver.proofs.hearing.said_at.Goals as goal
+
+pub returns : goal.returns
+unfolding said_at
+returns c = rw c.carried_at-carried.ensures refl

@@ -1,0 +1,26 @@
+use mathlib.Core.Path.{◌≡◌, refl, ap, ◌∙◌}
+use Prim.Native.Nat.{◌≤◌, ◌-◌}
+use native.Mathlib.Numerals.{add-one}
+use native.Mathlib.Omega.{arith}
+use lib.ListN.{length}
+use borrow.Author.Rules.{rules}
+use Rattle.receiver.specs.Report.{frames_into}
+use Rattle.receiver.specs.Laws.Lengths.{length_frames_into}
+use Rattle.receiver.proofs.joining.frames_alone.Goals as goal
+
+pub loop-k-init : goal.loop-k-init
+unfolding frames_into
+loop-k-init c = (omega arith, refl)
+
+pub alone_into-requires : goal.alone_into-requires
+alone_into-requires c = (c.requires, refl)
+
+pub loop-k-preserved : goal.loop-k-preserved
+unfolding frames_into
+loop-k-preserved c = (omega arith, rw (add-one, ← c.loop-k.invariant.1) c.alone_into.ensures)
+
+pub shape_of-out : goal.shape_of-out
+shape_of-out c = ap length c.loop-k.invariant.1 ∙ length_frames_into _ _ _ _ _
+
+pub returns : goal.returns
+returns c = let e : c.loop-k.k ≡ c.args.count = omega arith in rw e at c.loop-k.invariant.1

@@ -1,0 +1,19 @@
+use mathlib.Core.Path.{◌≡◌, refl}
+use Prim.Native.Nat.{◌≤◌, ◌+◌, ◌-◌, ◌*◌}
+use native.Mathlib.Omega.{arith}
+use lib.ListN.{length, get_or}
+use borrow.Author.Rules.{rules}
+use Rattle.ground.specs.Counting.Each.{Done, done_none, done_more, done_all}
+use Rattle.judge.specs.Laws.Sizes.{size_le}
+use Rattle.receiver.specs.Laws.Rings.{rings_of}
+use Rattle.receiver.proofs.joining.rings_of.Goals as goal
+
+pub loop-rank-init : goal.loop-rank-init
+loop-rank-init c = (refl, omega arith, rw c.size_byte-n.ensures (size_le c.args.x), omega arith, done_none _ _)
+
+pub loop-rank-preserved : goal.loop-rank-preserved
+loop-rank-preserved c = (c.loop-rank.invariant.0, c.loop-rank.invariant.1, c.loop-rank.invariant.2, omega arith, done_more _ c.loop-rank.invariant.4 c.ring_at.ensures)
+
+pub returns : goal.returns
+unfolding rings_of
+returns c = rw (← c.size_byte-n.ensures) (done_all {n = c.size_byte-n.result} c.loop-rank.invariant.4 (omega arith))

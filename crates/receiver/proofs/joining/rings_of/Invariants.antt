@@ -1,0 +1,16 @@
+-- The first x places hold the rings' starts of the ranked ports, the others 0: after each turn the places below the rank are done (`Done`).
+use mathlib.Core.Path.{◌≡◌, refl}
+use Prim.Native.Nat.{◌≤◌, ◌+◌, ◌-◌, ◌*◌}
+use native.Mathlib.Omega.{arith}
+use lib.ListN.{length, get_or}
+use borrow.Author.Rules.{rules}
+use Rattle.ground.specs.Counting.Each.{Done, done_none, done_more, done_all}
+use Rattle.judge.specs.Laws.Sizes.{size_le}
+use Rattle.receiver.specs.Laws.Rings.{rings_of}
+use Rattle.receiver.proofs.joining.rings_of.Given as goal
+
+abbrev pub invariant-loop-rank : goal.invariant-loop-rank
+invariant-loop-rank l = (length l.initial.rings ≡ 64) × (length l.ports ≡ 64) × (l.n ≤ 64) × (l.rank ≤ l.n) × Done l.rank (λ r. get_or l.ports r 0 * l.group.window * (l.group.payload + 1)) l.initial.rings l.rings
+
+abbrev pub decreases-loop-rank : goal.decreases-loop-rank
+decreases-loop-rank l = l.n - l.rank

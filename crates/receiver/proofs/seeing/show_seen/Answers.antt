@@ -1,0 +1,19 @@
+use Prim.Native.Nat.{◌≤◌, ◌-◌}
+use native.Mathlib.Omega.{arith}
+use lib.ListN.{length}
+use borrow.Author.Rules.{rules}
+use Rattle.ground.specs.Counting.Each.{Done, done_none, done_more, done_all}
+use Rattle.receiver.specs.Seen.{seen_in}
+use Rattle.receiver.proofs.seeing.show_seen.Goals as goal
+
+pub loop-i-init : goal.loop-i-init
+loop-i-init c = (c.requires, omega arith, done_none _ _)
+
+pub loop-i-preserved : goal.loop-i-preserved
+loop-i-preserved c = (c.loop-i.invariant.0, omega arith, done_more _ c.loop-i.invariant.2 c.seen_in-row.ensures)
+
+pub shape_of-out : goal.shape_of-out
+shape_of-out c = c.loop-i.invariant.2.len
+
+pub returns : goal.returns
+returns c = done_all c.loop-i.invariant.2 (omega arith)

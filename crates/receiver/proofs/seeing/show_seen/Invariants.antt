@@ -1,0 +1,14 @@
+-- Every port's ten bytes as the definition has them: after i turns the first i places are done and the others as given (`Done`).
+use Prim.Native.Nat.{◌≤◌, ◌-◌}
+use native.Mathlib.Omega.{arith}
+use lib.ListN.{length}
+use borrow.Author.Rules.{rules}
+use Rattle.ground.specs.Counting.Each.{Done, done_none, done_more, done_all}
+use Rattle.receiver.specs.Seen.{seen_in}
+use Rattle.receiver.proofs.seeing.show_seen.Given as goal
+
+abbrev pub invariant-loop-i : goal.invariant-loop-i
+invariant-loop-i l = (l.count ≤ length l.initial.out) × (l.i ≤ l.count) × Done l.i (seen_in l.group l.state) l.initial.out l.out
+
+abbrev pub decreases-loop-i : goal.decreases-loop-i
+decreases-loop-i l = l.count - l.i

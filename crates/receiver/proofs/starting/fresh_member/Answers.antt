@@ -1,0 +1,6 @@
+use mathlib.Core.Path.{refl}
+use borrow.Author.Rules.{rules}
+use Rattle.receiver.proofs.starting.fresh_member.Goals as goal
+
+pub returns : goal.returns
+returns c = rw c.idle_number-none.ensures refl

@@ -1,0 +1,8 @@
+use mathlib.Core.Path.{refl, ◌∙◌}
+use Rattle.receiver.specs.Report.{state_put}
+use borrow.Author.Rules.{rules}
+use Rattle.receiver.proofs.states.put_state.Goals as goal
+
+pub returns : goal.returns
+unfolding state_put
+returns c = c.put_standing.ensures ∙ rw c.standing_at-new.ensures refl

@@ -1,0 +1,23 @@
+use mathlib.Core.Path.{◌≡◌, refl, ap, ◌∙◌}
+use Prim.Native.Nat.{◌≤◌, ◌-◌}
+use native.Mathlib.Numerals.{add-one}
+use native.Mathlib.Omega.{arith}
+use lib.ListN.{length}
+use borrow.Author.Rules.{rules}
+use Rattle.receiver.specs.Report.{states_put}
+use Rattle.receiver.specs.Laws.Lengths.{length_told_ports}
+use Rattle.receiver.proofs.states.put_states.Goals as goal
+
+pub loop-i-init : goal.loop-i-init
+unfolding states_put
+loop-i-init c = (omega arith, refl)
+
+pub loop-i-preserved : goal.loop-i-preserved
+unfolding states_put
+loop-i-preserved c = (omega arith, rw (add-one, ← c.loop-i.invariant.1) c.put_state.ensures)
+
+pub shape_of-state : goal.shape_of-state
+shape_of-state c = ap length c.loop-i.invariant.1 ∙ length_told_ports _ _ _
+
+pub returns : goal.returns
+returns c = let e : c.loop-i.i ≡ c.args.ports = omega arith in rw e at c.loop-i.invariant.1
