@@ -1,10 +1,9 @@
--- Loops that make a list of ports anew, and short slices that are written whole.
-use mathlib.Core.Path.{◌≡◌, refl, ◌∙◌}
-use mathlib.Core.List.{List, [], ◌∷◌, ◌++◌, append-nil}
+-- Loops that make a list of ports anew, and a short slice that is written whole.
+use mathlib.Core.Path.{◌≡◌, refl}
+use mathlib.Core.List.{List, [], ◌∷◌}
 use Prim.Native.Nat.{ℕ}
 use native.Mathlib.Omega.{arith}
-use lib.ListN.{length, replicate, set, take, drop, drop_of_length-le}
-use lib.Seq.{take-length}
+use lib.ListN.{length, replicate, set}
 use Rattle.ground.specs.Counting.Each.{each}
 
 module _ {A : Type 0} where
@@ -16,9 +15,3 @@ two_bytes [] a b e = absurd (omega arith)
 two_bytes (x ∷ []) a b e = absurd (omega arith)
 two_bytes (x ∷ y ∷ []) a b e = refl
 two_bytes (x ∷ y ∷ z ∷ rest) a b e = absurd (omega arith)
-
--- a copy over a slice of the same length
-pub copied : (from to out : List ℕ) → length to ≡ length from → out ≡ take (length from) from ++ drop (length from) to → out ≡ from
-copied from to out h e =
-    e
-    ∙ rw (take-length from, drop_of_length-le to {i = length from} (omega arith)) (append-nil from)

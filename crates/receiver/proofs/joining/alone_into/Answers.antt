@@ -9,6 +9,7 @@ use lib.ListN.{length}
 use borrow.Author.Tests.{leb-true}
 use Rattle.ground.specs.Truth.{and_right}
 use Rattle.payload.specs.Answers.{PAYLOAD-MOST}
+use Rattle.rows.specs.declared.group.Group.{Group}
 use Rattle.store.specs.Frames.{place_in}
 use Rattle.store.specs.Laws.Places.{place_fits}
 use Rattle.receiver.proofs.Alone.{alone_run, alone_short}
@@ -16,24 +17,19 @@ use Rattle.receiver.proofs.Numbers.{pair_fits}
 use borrow.Author.Rules.{rules}
 use Rattle.receiver.proofs.joining.alone_into.Goals as goal
 
-start_fits : (c : goal.After-struct_known-1) → c.place-start.result + c.args.group.payload ≤ 1103789883855
-start_fits c =
-    let b = place_fits c.args.group c.args.port c.args.k (omega arith) (omega arith) (omega arith) (omega arith) (omega arith) in
-    omega (arith, c.place-start.ensures)
+alone_fits : (g : Group) (port d start : ℕ) → port ≤ 255 → g.window ≤ 65535 → g.origin ≤ 65535 → d ≤ 65535 → g.payload ≤ 65535 → start ≡ place_in g port d → start + g.payload ≤ 1103789883855
+alone_fits g port d start hp hw ho hd hl e = omega (arith, e, place_fits g port d hp hw ho hd hl)
 
 pub overflow_add-start : goal.overflow_add-start
-overflow_add-start c = omega (arith, start_fits c)
+overflow_add-start c = omega (arith, alone_fits c.args.group c.args.port c.args.k c.place-start.result (omega arith) (omega arith) (omega arith) (omega arith) (omega arith) c.place-start.ensures)
 
 pub overflow_add-start-then-p-start : goal.overflow_add-start-then-p-start
-overflow_add-start-then-p-start c = omega (arith, start_fits c.before)
+overflow_add-start-then-p-start c = omega (arith, alone_fits c.args.group c.args.port c.args.k c.place-start.result (omega arith) (omega arith) (omega arith) (omega arith) (omega arith) c.place-start.ensures)
 
--- LEFT no goal slice-bounds-lay-end
--- part-lay-end : tie.Need-slice-bounds-lay-end
--- part-lay-end c =
---     let a = c.before.before.before.before.before.args in
---     let start = c.before.before.place.result in
---     let w = leb-true (start + a.group.payload) (length a.store.now) (and_right (leb 1 a.group.payload && leb a.group.payload PAYLOAD-MOST) (leb (start + a.group.payload) (length a.store.now)) c.if1.true) in
---     omega arith
+pub slice_bounds-lay-end : goal.slice_bounds-lay-end
+slice_bounds-lay-end c =
+    leb-true (c.place-start.result + c.args.group.payload) (length c.args.store.now)
+    (and_right (leb 1 c.args.group.payload && leb c.args.group.payload PAYLOAD-MOST) (leb (c.place-start.result + c.args.group.payload) (length c.args.store.now)) c.if-p-start.true)
 
 pub overflow_mul-k : goal.overflow_mul-k
 overflow_mul-k c = let a = c.args in omega (arith, pair_fits a.k a.group.payload (omega arith) (omega arith))
