@@ -1,7 +1,6 @@
 -- A frame that is neither 1 nor 9 does what the definition decides, whichever way it goes: three exits are the call of `decided` itself.
 -- The short way is right since a steady frame in mid-epoch changes the next tag, one symbol and the store alone, and answers 0 (`arrive-steady`).
 use mathlib.Core.Path.{sym, ◌∙◌}
-use borrow.Author.Rules.{rules}
 use borrow.Author.Tests.{ne_eqb}
 use Rattle.receiver.proofs.Arriving.{arrive_steady}
 use Rattle.receiver.proofs.arrival.arrive.Goals as goal

@@ -2,7 +2,6 @@
 -- Each value read is the definition's, so that the decision is the definition's too, and `take` does what it says (`decided-by`).
 use mathlib.Core.Path.{refl}
 use Rattle.receiver.proofs.Arriving.{decided_by}
-use borrow.Author.Rules.{rules}
 use Rattle.receiver.proofs.arrival.decided.Goals as goal
 
 pub returns : goal.returns

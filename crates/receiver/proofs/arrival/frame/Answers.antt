@@ -3,7 +3,6 @@
 use mathlib.Core.Path.{sym, ◌∙◌}
 use native.Mathlib.Omega.{arith}
 use Rattle.receiver.proofs.Arriving.{refused_below, frame_refused, frame_decided}
-use borrow.Author.Rules.{rules}
 use Rattle.receiver.proofs.arrival.frame.Goals as goal
 
 pub returns-then-refusal-ne-DONE : goal.returns-then-refusal-ne-DONE

@@ -1,5 +1,4 @@
 use Rattle.receiver.proofs.Arriving.{gather_counted, gather_none}
-use borrow.Author.Rules.{rules}
 use Rattle.receiver.proofs.arrival.gather.Goals as goal
 
 pub returns-then-counted : goal.returns-then-counted

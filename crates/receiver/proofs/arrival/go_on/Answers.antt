@@ -1,7 +1,6 @@
 use mathlib.Core.Path.{refl}
 use Rattle.receiver.specs.Frame.{steady_rows}
 use Rattle.receiver.proofs.Arriving.{packets_after_step}
-use borrow.Author.Rules.{rules}
 use Rattle.receiver.proofs.arrival.go_on.Goals as goal
 
 pub returns : goal.returns

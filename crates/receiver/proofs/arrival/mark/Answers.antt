@@ -2,7 +2,6 @@
 -- Where nothing is written, the definition leaves the marks as they are (`mark-none`).
 use mathlib.Core.Path.{refl, ◌∙◌}
 use Rattle.receiver.proofs.Arriving.{mark_none}
-use borrow.Author.Rules.{rules}
 use Rattle.receiver.proofs.arrival.mark.Goals as goal
 
 pub returns-then-taken-ends : goal.returns-then-taken-ends

@@ -1,7 +1,6 @@
 -- The four ways through the tests are the cases of the definition: cut on joining, marked at an epoch's last frame, else as they were.
 use mathlib.Core.Path.{refl}
 use Rattle.receiver.specs.Frame.{marks_by}
-use borrow.Author.Rules.{rules}
 use Rattle.receiver.proofs.arrival.marks_by.Goals as goal
 
 pub returns-then-taken : goal.returns-then-taken

@@ -1,6 +1,5 @@
 use mathlib.Core.Path.{refl}
 use Rattle.receiver.specs.Frame.{store_by}
-use borrow.Author.Rules.{rules}
 use Rattle.receiver.proofs.arrival.put_frame.Goals as goal
 
 pub returns-then-taken : goal.returns-then-taken

@@ -1,5 +1,4 @@
 use Rattle.receiver.proofs.Arriving.{port_rows_lem}
-use borrow.Author.Rules.{rules}
 use Rattle.receiver.proofs.arrival.put_port.Goals as goal
 
 pub returns : goal.returns

@@ -1,6 +1,5 @@
 -- The definition's packet with the frame's symbol differs from the old one in one entry alone, and that is the one written (`symbol-put`).
 use Rattle.receiver.proofs.Arriving.{symbol_put}
-use borrow.Author.Rules.{rules}
 use Rattle.receiver.proofs.arrival.put_symbol.Goals as goal
 
 pub returns : goal.returns

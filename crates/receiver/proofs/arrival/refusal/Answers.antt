@@ -1,7 +1,6 @@
 use mathlib.Core.Path.{refl}
 use borrow.Author.Tests.{lt-ltb, le-ltb}
 use Rattle.receiver.specs.Frame.{refusal_by}
-use borrow.Author.Rules.{rules}
 use Rattle.receiver.proofs.arrival.refusal.Goals as goal
 
 pub returns-then-ports-port : goal.returns-then-ports-port

@@ -1,6 +1,5 @@
 use mathlib.Core.Path.{refl}
 use Rattle.receiver.specs.Frame.{settled_by}
-use borrow.Author.Rules.{rules}
 use Rattle.receiver.proofs.arrival.settle_by.Goals as goal
 
 pub returns-then-settles : goal.returns-then-settles

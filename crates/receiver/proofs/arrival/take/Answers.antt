@@ -4,7 +4,6 @@ use mathlib.Core.Path.{refl}
 use borrow.Author.Tests.{eq-eqb}
 use Rattle.receiver.specs.Frame.{taken_frame}
 use Rattle.receiver.proofs.Arriving.{taken_frame_lem}
-use borrow.Author.Rules.{rules}
 use Rattle.receiver.proofs.arrival.take.Goals as goal
 
 pub returns-then-taken-ne-OUTSIDE : goal.returns-then-taken-ne-OUTSIDE

@@ -1,7 +1,5 @@
 use mathlib.Core.Path.{sym, ◌∙◌}
-use borrow.Author.Tests.{not-true, not-false}
 use Rattle.receiver.proofs.Reading.{cause_length, cause_put, cause_unfit}
-use borrow.Author.Rules.{rules}
 use Rattle.receiver.proofs.blaming.cause.Goals as goal
 
 pub returns-then-not-is_fit : goal.returns-then-not-is_fit

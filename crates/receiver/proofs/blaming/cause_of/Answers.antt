@@ -1,7 +1,6 @@
 use mathlib.Core.Path.{refl}
 use Rattle.judge.specs.Cause.{blamed_of}
 use Rattle.receiver.specs.Cause.{cause_in}
-use borrow.Author.Rules.{rules}
 use Rattle.receiver.proofs.blaming.cause_of.Goals as goal
 
 pub returns : goal.returns

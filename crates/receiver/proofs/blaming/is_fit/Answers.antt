@@ -1,6 +1,5 @@
 use mathlib.Core.Path.{refl}
 use Rattle.receiver.specs.Cause.{cause_fit}
-use borrow.Author.Rules.{rules}
 use Rattle.receiver.proofs.blaming.is_fit.Goals as goal
 
 pub returns : goal.returns

@@ -1,10 +1,8 @@
 -- `fetch` answers 9 and changes nothing, or reports if a report is due and writes the record.
 -- The record has its eight bytes because the lengths were found right (`record-length`).
 use mathlib.Core.Path.{sym, ◌∙◌}
-use borrow.Author.Tests.{not-true, not-false}
 use Rattle.receiver.proofs.Fetched.{fetch_unfit, fetch_fit}
 use Rattle.receiver.proofs.Sizes.{record_length}
-use borrow.Author.Rules.{rules}
 use Rattle.receiver.proofs.fetching.fetch.Goals as goal
 
 pub returns-then-not-is_fetch : goal.returns-then-not-is_fetch

@@ -1,6 +1,5 @@
 use mathlib.Core.Path.{refl}
 use Rattle.receiver.specs.Fetch.{due_in}
-use borrow.Author.Rules.{rules}
 use Rattle.receiver.proofs.fetching.is_due.Goals as goal
 
 pub returns-then-ports-is_set : goal.returns-then-ports-is_set

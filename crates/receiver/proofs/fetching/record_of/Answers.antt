@@ -1,6 +1,5 @@
 use mathlib.Core.Path.{refl}
 use Rattle.receiver.specs.Fetch.{record_of}
-use borrow.Author.Rules.{rules}
 use Rattle.receiver.proofs.fetching.record_of.Goals as goal
 
 pub returns : goal.returns

@@ -1,6 +1,5 @@
 -- Report, rows and output are those of a due report, or with none due an empty report and all as given: one law for each (`given-due`, `given-none`).
 use Rattle.receiver.proofs.Fetched.{given_due, given_none}
-use borrow.Author.Rules.{rules}
 use Rattle.receiver.proofs.fetching.report_if_due.Goals as goal
 
 pub returns-then-is_due : goal.returns-then-is_due

@@ -1,7 +1,6 @@
 -- Report and output follow from what was seen before the epoch was passed: cause, mark and order are worked out of that alone (`given_is`).
 -- The rows are those of the passing.
 use Rattle.receiver.proofs.Fetched.{given_is}
-use borrow.Author.Rules.{rules}
 use Rattle.receiver.proofs.fetching.report_oldest.Goals as goal
 
 pub returns : goal.returns

@@ -1,4 +1,3 @@
-use borrow.Author.Rules.{rules}
 use Rattle.receiver.proofs.fetching.see_and_pass.Goals as goal
 
 pub returns : goal.returns

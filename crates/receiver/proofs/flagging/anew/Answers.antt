@@ -1,6 +1,4 @@
-use borrow.Author.Tests.{not-true, not-false}
 use Rattle.receiver.proofs.Reading.{anew_done, anew_unfit}
-use borrow.Author.Rules.{rules}
 use Rattle.receiver.proofs.flagging.anew.Goals as goal
 
 pub returns-then-not-is_anew : goal.returns-then-not-is_anew

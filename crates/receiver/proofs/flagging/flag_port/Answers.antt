@@ -1,6 +1,5 @@
 -- `flag_port` meets its contract: the step is put, and what follows for all ports where something does (`flagged-by`).
 use Rattle.receiver.proofs.Reading.{flagged_by, settled_none, settled_some}
-use borrow.Author.Rules.{rules}
 use Rattle.receiver.proofs.flagging.flag_port.Goals as goal
 
 pub returns-then-taken : goal.returns-then-taken

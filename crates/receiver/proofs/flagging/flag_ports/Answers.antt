@@ -1,9 +1,7 @@
 use mathlib.Core.Path.{◌≡◌, refl, ap, ◌∙◌}
-use Prim.Native.Nat.{◌≤◌, ◌-◌}
 use native.Mathlib.Numerals.{add-one}
 use native.Mathlib.Omega.{arith}
 use lib.ListN.{length}
-use borrow.Author.Rules.{rules}
 use Rattle.receiver.specs.Laws.Anew.{flagged_ports, length_flagged_ports}
 use Rattle.receiver.proofs.flagging.flag_ports.Goals as goal
 

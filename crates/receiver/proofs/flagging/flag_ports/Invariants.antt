@@ -1,11 +1,7 @@
 -- A flagged frame on every port, in port order: after i turns the rows are those with the first i ports flagged.
-use mathlib.Core.Path.{◌≡◌, refl, ap, ◌∙◌}
+use mathlib.Core.Path.{◌≡◌}
 use Prim.Native.Nat.{◌≤◌, ◌-◌}
-use native.Mathlib.Numerals.{add-one}
-use native.Mathlib.Omega.{arith}
-use lib.ListN.{length}
-use borrow.Author.Rules.{rules}
-use Rattle.receiver.specs.Laws.Anew.{flagged_ports, length_flagged_ports}
+use Rattle.receiver.specs.Laws.Anew.{flagged_ports}
 use Rattle.receiver.proofs.flagging.flag_ports.Given as goal
 
 abbrev pub invariant-loop-i : goal.invariant-loop-i

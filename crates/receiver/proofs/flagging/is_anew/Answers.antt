@@ -1,6 +1,5 @@
 use mathlib.Core.Path.{refl}
 use Rattle.receiver.specs.Anew.{anew_fits}
-use borrow.Author.Rules.{rules}
 use Rattle.receiver.proofs.flagging.is_anew.Goals as goal
 
 pub returns : goal.returns

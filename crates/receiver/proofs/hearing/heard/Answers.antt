@@ -1,7 +1,5 @@
 use mathlib.Core.Path.{sym, ◌∙◌}
-use borrow.Author.Tests.{not-true, not-false}
 use Rattle.receiver.proofs.Reading.{heard_length, heard_put, heard_unfit}
-use borrow.Author.Rules.{rules}
 use Rattle.receiver.proofs.hearing.heard.Goals as goal
 
 pub returns-then-not-is_heard : goal.returns-then-not-is_heard

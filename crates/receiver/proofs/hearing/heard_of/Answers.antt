@@ -1,12 +1,10 @@
-use Prim.Native.Nat.{ℕ, ◌≤◌, ◌-◌}
+use Prim.Native.Nat.{ℕ}
 use mathlib.Core.Path.{◌≡◌, refl, sym, ◌∙◌}
 use mathlib.Core.Bool.{true, false}
 use native.Mathlib.Omega.{arith}
-use Rattle.ground.specs.Counting.Words.{some}
 use Rattle.receiver.specs.Heard.{good_at}
 use Rattle.receiver.specs.Laws.Heard.{heard_first, heard_none}
 use Rattle.receiver.proofs.Reading.{good_is, none_more}
-use borrow.Author.Rules.{rules}
 use Rattle.receiver.proofs.hearing.heard_of.Goals as goal
 
 pub loop-i-init : goal.loop-i-init

@@ -1,14 +1,10 @@
 -- What the lowest port with a whole and good packet says: as long as the search goes on, no port below i has one.
 -- So the first found is the lowest (`heard-first`), and at the end there is none (`heard-none`).
-use Prim.Native.Nat.{ℕ, ◌≤◌, ◌-◌}
-use mathlib.Core.Path.{◌≡◌, refl, sym, ◌∙◌}
-use mathlib.Core.Bool.{true, false}
-use native.Mathlib.Omega.{arith}
+use Prim.Native.Nat.{◌≤◌, ◌-◌}
+use mathlib.Core.Path.{◌≡◌}
+use mathlib.Core.Bool.{false}
 use Rattle.ground.specs.Counting.Words.{some}
 use Rattle.receiver.specs.Heard.{good_at}
-use Rattle.receiver.specs.Laws.Heard.{heard_first, heard_none}
-use Rattle.receiver.proofs.Reading.{good_is, none_more}
-use borrow.Author.Rules.{rules}
 use Rattle.receiver.proofs.hearing.heard_of.Given as goal
 
 abbrev pub invariant-loop-i : goal.invariant-loop-i

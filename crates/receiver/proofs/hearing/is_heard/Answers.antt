@@ -1,6 +1,5 @@
 use mathlib.Core.Path.{refl}
 use Rattle.receiver.specs.Heard.{heard_fit}
-use borrow.Author.Rules.{rules}
 use Rattle.receiver.proofs.hearing.is_heard.Goals as goal
 
 pub returns : goal.returns

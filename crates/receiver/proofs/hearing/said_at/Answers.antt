@@ -1,6 +1,5 @@
 use mathlib.Core.Path.{refl}
 use Rattle.receiver.specs.Heard.{said_at}
-use borrow.Author.Rules.{rules}
 use Rattle.receiver.proofs.hearing.said_at.Goals as goal
 
 pub returns : goal.returns

@@ -14,7 +14,6 @@ use Rattle.store.specs.Frames.{place_in}
 use Rattle.store.specs.Laws.Places.{place_fits}
 use Rattle.receiver.proofs.Alone.{alone_run, alone_short}
 use Rattle.receiver.proofs.Numbers.{pair_fits}
-use borrow.Author.Rules.{rules}
 use Rattle.receiver.proofs.joining.alone_into.Goals as goal
 
 alone_fits : (g : Group) (port d start : ℕ) → port ≤ 255 → g.window ≤ 65535 → g.origin ≤ 65535 → d ≤ 65535 → g.payload ≤ 65535 → start ≡ place_in g port d → start + g.payload ≤ 1103789883855

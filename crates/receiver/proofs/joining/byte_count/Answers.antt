@@ -1,6 +1,5 @@
 use native.Mathlib.Omega.{arith}
 use Rattle.receiver.proofs.Numbers.{pair_fits, bytes_fit}
-use borrow.Author.Rules.{rules}
 use Rattle.receiver.proofs.joining.byte_count.Goals as goal
 
 pub overflow_mul-result : goal.overflow_mul-result

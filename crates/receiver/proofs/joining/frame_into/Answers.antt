@@ -4,7 +4,6 @@ use native.Mathlib.Omega.{arith}
 use Rattle.receiver.specs.Laws.Rings.{frame_beyond}
 use Rattle.receiver.proofs.Alone.{frame_by_lem}
 use Rattle.receiver.proofs.Numbers.{pair_fits, place_fits}
-use borrow.Author.Rules.{rules}
 use Rattle.receiver.proofs.joining.frame_into.Goals as goal
 
 pub overflow_mul-x : goal.overflow_mul-x

@@ -1,12 +1,7 @@
 -- After k turns the output holds the first k group frames of the one member, as the definition lays them; its port is the order's first.
-use mathlib.Core.Path.{◌≡◌, refl, ap, ◌∙◌}
+use mathlib.Core.Path.{◌≡◌}
 use Prim.Native.Nat.{◌≤◌, ◌-◌}
-use native.Mathlib.Numerals.{add-one}
-use native.Mathlib.Omega.{arith}
-use lib.ListN.{length}
-use borrow.Author.Rules.{rules}
 use Rattle.receiver.specs.Report.{frames_into}
-use Rattle.receiver.specs.Laws.Lengths.{length_frames_into}
 use Rattle.receiver.proofs.joining.frames_alone.Given as goal
 
 abbrev pub invariant-loop-k : goal.invariant-loop-k

@@ -1,9 +1,7 @@
 use mathlib.Core.Path.{◌≡◌, refl, ap, ◌∙◌}
-use Prim.Native.Nat.{◌≤◌, ◌-◌}
 use native.Mathlib.Numerals.{add-one}
 use native.Mathlib.Omega.{arith}
 use lib.ListN.{length}
-use borrow.Author.Rules.{rules}
 use Rattle.receiver.specs.Report.{frames_into}
 use Rattle.receiver.specs.Laws.Lengths.{length_frames_into}
 use Rattle.receiver.proofs.joining.frames_joined.Goals as goal

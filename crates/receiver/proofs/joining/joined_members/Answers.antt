@@ -1,5 +1,4 @@
 use mathlib.Core.Path.{refl}
-use borrow.Author.Rules.{rules}
 use Rattle.receiver.proofs.joining.joined_members.Goals as goal
 
 pub returns-then-is_held : goal.returns-then-is_held

@@ -1,8 +1,6 @@
 -- A held epoch leaves the output as given, any other gets as many frames as an epoch of its kind has: the two cases of the definition.
 use mathlib.Core.Path.{refl}
-use borrow.Author.Tests.{not-true, not-false}
 use Rattle.receiver.specs.Report.{output_by}
-use borrow.Author.Rules.{rules}
 use Rattle.receiver.proofs.joining.output_by.Goals as goal
 
 pub returns-then-not-is_held : goal.returns-then-not-is_held

@@ -1,6 +1,5 @@
 use mathlib.Core.Path.{refl}
 use Rattle.receiver.specs.Report.{report_by}
-use borrow.Author.Rules.{rules}
 use Rattle.receiver.proofs.joining.report_by.Goals as goal
 
 pub returns : goal.returns

@@ -2,7 +2,6 @@
 use Prim.Native.Nat.{◌+◌}
 use native.Mathlib.Omega.{arith}
 use Rattle.receiver.proofs.Numbers.{pair_fits, product_fits}
-use borrow.Author.Rules.{rules}
 use Rattle.receiver.proofs.joining.ring_at.Goals as goal
 
 pub overflow_mul-result : goal.overflow_mul-result

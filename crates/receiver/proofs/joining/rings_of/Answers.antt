@@ -1,9 +1,6 @@
-use mathlib.Core.Path.{◌≡◌, refl}
-use Prim.Native.Nat.{◌≤◌, ◌+◌, ◌-◌, ◌*◌}
+use mathlib.Core.Path.{refl}
 use native.Mathlib.Omega.{arith}
-use lib.ListN.{length, get_or}
-use borrow.Author.Rules.{rules}
-use Rattle.ground.specs.Counting.Each.{Done, done_none, done_more, done_all}
+use Rattle.ground.specs.Counting.Each.{done_none, done_more, done_all}
 use Rattle.judge.specs.Laws.Sizes.{size_le}
 use Rattle.receiver.specs.Laws.Rings.{rings_of}
 use Rattle.receiver.proofs.joining.rings_of.Goals as goal

@@ -1,12 +1,8 @@
 -- The first x places hold the rings' starts of the ranked ports, the others 0: after each turn the places below the rank are done (`Done`).
-use mathlib.Core.Path.{◌≡◌, refl}
+use mathlib.Core.Path.{◌≡◌}
 use Prim.Native.Nat.{◌≤◌, ◌+◌, ◌-◌, ◌*◌}
-use native.Mathlib.Omega.{arith}
 use lib.ListN.{length, get_or}
-use borrow.Author.Rules.{rules}
-use Rattle.ground.specs.Counting.Each.{Done, done_none, done_more, done_all}
-use Rattle.judge.specs.Laws.Sizes.{size_le}
-use Rattle.receiver.specs.Laws.Rings.{rings_of}
+use Rattle.ground.specs.Counting.Each.{Done}
 use Rattle.receiver.proofs.joining.rings_of.Given as goal
 
 abbrev pub invariant-loop-rank : goal.invariant-loop-rank

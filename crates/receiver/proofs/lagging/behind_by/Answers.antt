@@ -1,5 +1,4 @@
 use mathlib.Core.Path.{refl}
-use borrow.Author.Rules.{rules}
 use Rattle.receiver.specs.Behind.{behind_by}
 use Rattle.receiver.proofs.lagging.behind_by.Goals as goal
 

@@ -1,10 +1,5 @@
-use Prim.Native.Nat.{◌≤◌, ◌-◌}
 use native.Mathlib.Omega.{arith}
-use lib.ListN.{length}
-use borrow.Author.Rules.{rules}
-use Rattle.ground.specs.Counting.Each.{Done, done_none, done_more, done_all}
-use Rattle.receiver.specs.Behind.{behind_by}
-use Rattle.rows.specs.Step.{step_at}
+use Rattle.ground.specs.Counting.Each.{done_none, done_more, done_all}
 use Rattle.receiver.proofs.lagging.show_behind.Goals as goal
 
 pub loop-i-init : goal.loop-i-init

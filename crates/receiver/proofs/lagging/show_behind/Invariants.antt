@@ -1,9 +1,7 @@
 -- Every port's number is how far it lies behind the foremost: after i turns the first i places are done and the others as given (`Done`).
 use Prim.Native.Nat.{◌≤◌, ◌-◌}
-use native.Mathlib.Omega.{arith}
 use lib.ListN.{length}
-use borrow.Author.Rules.{rules}
-use Rattle.ground.specs.Counting.Each.{Done, done_none, done_more, done_all}
+use Rattle.ground.specs.Counting.Each.{Done}
 use Rattle.receiver.specs.Behind.{behind_by}
 use Rattle.rows.specs.Step.{step_at}
 use Rattle.receiver.proofs.lagging.show_behind.Given as goal

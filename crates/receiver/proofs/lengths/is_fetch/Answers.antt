@@ -1,6 +1,5 @@
 use mathlib.Core.Path.{refl}
 use Rattle.receiver.specs.Lengths.{fetch_fits}
-use borrow.Author.Rules.{rules}
 use Rattle.receiver.proofs.lengths.is_fetch.Goals as goal
 
 pub returns : goal.returns

@@ -1,6 +1,5 @@
 use mathlib.Core.Path.{refl}
 use Rattle.receiver.specs.Lengths.{frame_fits}
-use borrow.Author.Rules.{rules}
 use Rattle.receiver.proofs.lengths.is_frame.Goals as goal
 
 pub returns : goal.returns

@@ -1,6 +1,5 @@
 use mathlib.Core.Path.{refl}
 use Rattle.receiver.specs.Lengths.{rows_fit}
-use borrow.Author.Rules.{rules}
 use Rattle.receiver.proofs.lengths.is_rows.Goals as goal
 
 pub returns : goal.returns

@@ -2,7 +2,6 @@ use mathlib.Core.Path.{refl}
 use native.Mathlib.Omega.{arith}
 use Rattle.receiver.specs.Lengths.{output_for}
 use Rattle.receiver.proofs.Numbers.{product_fits, pair_fits}
-use borrow.Author.Rules.{rules}
 use Rattle.receiver.proofs.lengths.output_for.Goals as goal
 
 pub overflow_mul-result : goal.overflow_mul-result

@@ -1,6 +1,5 @@
 use mathlib.Core.Path.{refl}
 use Rattle.receiver.specs.Report.{ruling_epoch}
-use borrow.Author.Rules.{rules}
 use Rattle.receiver.proofs.report.ruling_epoch.Goals as goal
 
 pub returns : goal.returns

@@ -1,6 +1,5 @@
 use mathlib.Core.Path.{◌∙◌}
 use native.Mathlib.Omega.{arith}
-use borrow.Author.Rules.{rules}
 use Rattle.step.specs.Theorems.ByTable.{own_ruling_with_lem}
 use Rattle.receiver.proofs.report.ruling_of.Goals as goal
 

@@ -1,9 +1,6 @@
-use mathlib.Core.Path.{◌≡◌, refl, ◌∙◌}
-use Prim.Native.Nat.{◌≤◌, ◌-◌}
+use mathlib.Core.Path.{refl, ◌∙◌}
 use native.Mathlib.Omega.{arith}
-use lib.ListN.{length}
-use borrow.Author.Rules.{rules}
-use Rattle.ground.specs.Counting.Each.{Done, done_none, done_more, done_all}
+use Rattle.ground.specs.Counting.Each.{done_none, done_more, done_all}
 use Rattle.judge.specs.Laws.Sizes.{size_le}
 use Rattle.receiver.specs.Report.{seen_of, seen_all}
 use Rattle.receiver.proofs.Lists.{each_both}

@@ -1,13 +1,9 @@
 -- What is seen of each port, in a table of 64: after i turns the first i places are done and the others still the empty one (`Done`).
-use mathlib.Core.Path.{◌≡◌, refl, ◌∙◌}
+use mathlib.Core.Path.{◌≡◌}
 use Prim.Native.Nat.{◌≤◌, ◌-◌}
-use native.Mathlib.Omega.{arith}
 use lib.ListN.{length}
-use borrow.Author.Rules.{rules}
-use Rattle.ground.specs.Counting.Each.{Done, done_none, done_more, done_all}
-use Rattle.judge.specs.Laws.Sizes.{size_le}
-use Rattle.receiver.specs.Report.{seen_of, seen_all}
-use Rattle.receiver.proofs.Lists.{each_both}
+use Rattle.ground.specs.Counting.Each.{Done}
+use Rattle.receiver.specs.Report.{seen_of}
 use Rattle.receiver.proofs.report.seen_all.Given as goal
 
 abbrev pub invariant-loop-i : goal.invariant-loop-i

@@ -1,7 +1,6 @@
 -- Each field of what is seen of a port is read by a function that gives the definition's value; word, number and GID are the ruling packet's.
 use mathlib.Core.Path.{refl}
 use Rattle.receiver.specs.Report.{seen_of}
-use borrow.Author.Rules.{rules}
 use Rattle.receiver.proofs.report.seen_of.Goals as goal
 
 pub returns : goal.returns

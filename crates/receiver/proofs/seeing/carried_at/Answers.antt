@@ -1,6 +1,5 @@
 use mathlib.Core.Path.{refl}
 use Rattle.receiver.specs.Seen.{carried_at}
-use borrow.Author.Rules.{rules}
 use Rattle.receiver.proofs.seeing.carried_at.Goals as goal
 
 pub returns : goal.returns

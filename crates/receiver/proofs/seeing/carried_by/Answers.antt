@@ -1,6 +1,5 @@
 -- One case for each way a packet can be read: a packet gives its fields, each refusal its number and nothing else.
 use mathlib.Core.Path.{refl}
-use borrow.Author.Rules.{rules}
 use Rattle.receiver.proofs.seeing.carried_by.Goals as goal
 
 pub returns-in-Packet : goal.returns-in-Packet

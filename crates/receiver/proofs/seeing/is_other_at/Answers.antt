@@ -1,5 +1,4 @@
 use mathlib.Core.Path.{refl}
-use borrow.Author.Rules.{rules}
 use Rattle.receiver.proofs.seeing.is_other_at.Goals as goal
 
 pub returns : goal.returns

@@ -1,9 +1,7 @@
 use mathlib.Core.Path.{sym, ◌∙◌}
 use native.Mathlib.Omega.{arith}
-use borrow.Author.Tests.{not-true, not-false}
 use Rattle.receiver.proofs.Reading.{seen_unfit, seen_shown}
 use Rattle.receiver.proofs.Sizes.{shown_length_lem}
-use borrow.Author.Rules.{rules}
 use Rattle.receiver.proofs.seeing.seen.Goals as goal
 
 pub returns-then-not-is_shown : goal.returns-then-not-is_shown

@@ -1,6 +1,5 @@
 use mathlib.Core.Path.{refl}
 use Rattle.receiver.specs.Seen.{seen_in}
-use borrow.Author.Rules.{rules}
 use Rattle.receiver.proofs.seeing.seen_in.Goals as goal
 
 pub returns : goal.returns

@@ -1,6 +1,5 @@
 use mathlib.Core.Path.{refl}
 use Rattle.receiver.specs.Seen.{seen_row}
-use borrow.Author.Rules.{rules}
 use Rattle.receiver.proofs.seeing.seen_row.Goals as goal
 
 pub returns-then-whole : goal.returns-then-whole

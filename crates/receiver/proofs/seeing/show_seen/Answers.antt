@@ -1,9 +1,5 @@
-use Prim.Native.Nat.{◌≤◌, ◌-◌}
 use native.Mathlib.Omega.{arith}
-use lib.ListN.{length}
-use borrow.Author.Rules.{rules}
-use Rattle.ground.specs.Counting.Each.{Done, done_none, done_more, done_all}
-use Rattle.receiver.specs.Seen.{seen_in}
+use Rattle.ground.specs.Counting.Each.{done_none, done_more, done_all}
 use Rattle.receiver.proofs.seeing.show_seen.Goals as goal
 
 pub loop-i-init : goal.loop-i-init

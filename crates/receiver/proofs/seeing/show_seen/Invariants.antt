@@ -1,9 +1,7 @@
 -- Every port's ten bytes as the definition has them: after i turns the first i places are done and the others as given (`Done`).
 use Prim.Native.Nat.{◌≤◌, ◌-◌}
-use native.Mathlib.Omega.{arith}
 use lib.ListN.{length}
-use borrow.Author.Rules.{rules}
-use Rattle.ground.specs.Counting.Each.{Done, done_none, done_more, done_all}
+use Rattle.ground.specs.Counting.Each.{Done}
 use Rattle.receiver.specs.Seen.{seen_in}
 use Rattle.receiver.proofs.seeing.show_seen.Given as goal
 

@@ -1,6 +1,5 @@
 use mathlib.Core.Path.{refl}
 use Rattle.receiver.specs.Settings.{settings_fit}
-use borrow.Author.Rules.{rules}
 use Rattle.receiver.proofs.setting.is_fit.Goals as goal
 
 pub returns : goal.returns

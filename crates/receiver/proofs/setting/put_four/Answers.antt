@@ -1,5 +1,4 @@
 use Rattle.receiver.proofs.Reading.{four_numbers}
-use borrow.Author.Rules.{rules}
 use Rattle.receiver.proofs.setting.put_four.Goals as goal
 
 pub returns : goal.returns

@@ -1,7 +1,5 @@
 use mathlib.Core.Path.{sym, ◌∙◌}
-use borrow.Author.Tests.{not-true, not-false}
 use Rattle.receiver.proofs.Reading.{settings_length, settings_put, settings_unfit}
-use borrow.Author.Rules.{rules}
 use Rattle.receiver.proofs.setting.settings.Goals as goal
 
 pub returns-then-not-is_fit : goal.returns-then-not-is_fit

@@ -1,6 +1,5 @@
 use mathlib.Core.Path.{refl}
 use Rattle.receiver.specs.Shown.{reply_fit}
-use borrow.Author.Rules.{rules}
 use Rattle.receiver.proofs.shown.is_reply.Goals as goal
 
 pub returns : goal.returns

@@ -1,6 +1,5 @@
 use mathlib.Core.Path.{refl}
 use Rattle.receiver.specs.Shown.{shown_fit}
-use borrow.Author.Rules.{rules}
 use Rattle.receiver.proofs.shown.is_shown.Goals as goal
 
 pub returns : goal.returns

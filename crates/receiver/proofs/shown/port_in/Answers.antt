@@ -1,6 +1,5 @@
 use mathlib.Core.Path.{refl}
 use Rattle.receiver.specs.Shown.{port_in}
-use borrow.Author.Rules.{rules}
 use Rattle.receiver.proofs.shown.port_in.Goals as goal
 
 pub returns : goal.returns

@@ -1,7 +1,6 @@
 -- The eight bytes shown of a port are the definition's because each is worked out by a function that gives the definition's value.
 use mathlib.Core.Path.{refl}
 use Rattle.receiver.specs.Shown.{port_shown}
-use borrow.Author.Rules.{rules}
 use Rattle.receiver.proofs.shown.port_shown.Goals as goal
 
 pub returns : goal.returns

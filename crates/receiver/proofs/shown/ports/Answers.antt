@@ -2,10 +2,8 @@
 -- The output has a place for each port because its length was found right (`shown-length`).
 use mathlib.Core.Path.{sym, ◌∙◌}
 use native.Mathlib.Omega.{arith}
-use borrow.Author.Tests.{not-true, not-false}
 use Rattle.receiver.proofs.Showing.{ports_unfit, ports_shown}
 use Rattle.receiver.proofs.Sizes.{shown_length_lem}
-use borrow.Author.Rules.{rules}
 use Rattle.receiver.proofs.shown.ports.Goals as goal
 
 pub returns-then-not-is_shown : goal.returns-then-not-is_shown

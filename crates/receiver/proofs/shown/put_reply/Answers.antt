@@ -1,5 +1,4 @@
 use Rattle.receiver.proofs.Lists.{two_bytes}
-use borrow.Author.Rules.{rules}
 use Rattle.receiver.proofs.shown.put_reply.Goals as goal
 
 pub returns : goal.returns

@@ -1,10 +1,8 @@
 -- `reply` answers 9 and writes nothing, or writes MST and RS-Ack of the ports as they stand, zeros for a fixed group.
 -- The output has its two bytes because its length was found right (`reply-length`).
 use mathlib.Core.Path.{sym, ◌∙◌}
-use borrow.Author.Tests.{not-true, not-false}
 use Rattle.receiver.proofs.Showing.{reply_unfit, reply_shown}
 use Rattle.receiver.proofs.Sizes.{reply_length}
-use borrow.Author.Rules.{rules}
 use Rattle.receiver.proofs.shown.reply.Goals as goal
 
 pub returns-then-not-is_reply : goal.returns-then-not-is_reply

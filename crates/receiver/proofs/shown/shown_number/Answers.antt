@@ -1,6 +1,5 @@
 use mathlib.Core.Path.{refl}
 use borrow.Author.Tests.{eq-eqb, ne_eqb}
-use borrow.Author.Rules.{rules}
 use Rattle.receiver.proofs.shown.shown_number.Goals as goal
 
 pub returns-then-member-eq-IDLE : goal.returns-then-member-eq-IDLE

@@ -1,6 +1,5 @@
 use native.Mathlib.Omega.{arith}
 use borrow.Author.Tests.{lt-ltb, le-ltb}
-use borrow.Author.Rules.{rules}
 use Rattle.receiver.proofs.starting.capped.Goals as goal
 
 pub returns-then-count-lt-TIMER_MOST : goal.returns-then-count-lt-TIMER_MOST

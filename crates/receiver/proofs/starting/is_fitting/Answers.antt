@@ -3,7 +3,6 @@ use Prim.Native.Nat.{◌+◌}
 use native.Mathlib.Omega.{arith}
 use Rattle.receiver.specs.Starting.{start_fits}
 use Rattle.receiver.proofs.Numbers.{product_fits, pair_fits}
-use borrow.Author.Rules.{rules}
 use Rattle.receiver.proofs.starting.is_fitting.Goals as goal
 
 pub overflow_mul-whole : goal.overflow_mul-whole

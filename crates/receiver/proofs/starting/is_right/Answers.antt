@@ -1,6 +1,5 @@
 use mathlib.Core.Path.{refl}
 use Rattle.receiver.specs.Starting.{start_right}
-use borrow.Author.Rules.{rules}
 use Rattle.receiver.proofs.starting.is_right.Goals as goal
 
 pub returns : goal.returns

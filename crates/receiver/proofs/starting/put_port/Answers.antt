@@ -1,7 +1,6 @@
 -- A fresh port: step, member, packets and marks are put one after the other, in the definition's order, each with the definition's fresh value.
 use mathlib.Core.Path.{refl}
 use Rattle.receiver.specs.Starting.{fresh_port}
-use borrow.Author.Rules.{rules}
 use Rattle.receiver.proofs.starting.put_port.Goals as goal
 
 pub returns : goal.returns

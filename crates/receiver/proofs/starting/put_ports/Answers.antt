@@ -1,9 +1,7 @@
 use mathlib.Core.Path.{◌≡◌, refl, ap, ◌∙◌}
-use Prim.Native.Nat.{◌≤◌, ◌-◌}
 use native.Mathlib.Numerals.{add-one}
 use native.Mathlib.Omega.{arith}
 use lib.ListN.{length}
-use borrow.Author.Rules.{rules}
 use Rattle.receiver.specs.Starting.{fresh_ports}
 use Rattle.receiver.specs.Laws.Lengths.{length_fresh_ports}
 use Rattle.receiver.proofs.starting.put_ports.Goals as goal

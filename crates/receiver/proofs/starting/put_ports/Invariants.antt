@@ -1,12 +1,7 @@
 -- Every port fresh: after i turns the rows are those with the first i ports fresh.
-use mathlib.Core.Path.{◌≡◌, refl, ap, ◌∙◌}
+use mathlib.Core.Path.{◌≡◌}
 use Prim.Native.Nat.{◌≤◌, ◌-◌}
-use native.Mathlib.Numerals.{add-one}
-use native.Mathlib.Omega.{arith}
-use lib.ListN.{length}
-use borrow.Author.Rules.{rules}
 use Rattle.receiver.specs.Starting.{fresh_ports}
-use Rattle.receiver.specs.Laws.Lengths.{length_fresh_ports}
 use Rattle.receiver.proofs.starting.put_ports.Given as goal
 
 abbrev pub invariant-loop-i : goal.invariant-loop-i

@@ -5,7 +5,6 @@ use native.Mathlib.Omega.{arith}
 use Rattle.receiver.specs.Starting.{start_as_answer, start_as_rows}
 use Rattle.receiver.proofs.Sizes.{window_most}
 use Rattle.receiver.proofs.Started.{right_sizes}
-use borrow.Author.Rules.{rules}
 use Rattle.receiver.proofs.starting.start_as.Goals as goal
 
 pub overflow_cast-count : goal.overflow_cast-count

@@ -1,7 +1,5 @@
 -- 9 for a length that does not fit, with the rows as given (`sized-unfit`); else every port fresh and then the group (`sized-done`).
 use mathlib.Core.Path.{refl, ◌∙◌}
-use borrow.Author.Tests.{not-true, not-false}
-use borrow.Author.Rules.{rules}
 use Rattle.receiver.proofs.Started.{sized_done, sized_unfit}
 use Rattle.receiver.proofs.starting.start_sized.Goals as goal
 

@@ -1,7 +1,6 @@
 use mathlib.Core.Path.{refl}
 use native.Mathlib.Omega.{arith}
 use lib.ListN.{get_or-eq_default}
-use borrow.Author.Rules.{rules}
 use Rattle.receiver.proofs.starting.time_of.Goals as goal
 
 pub returns-then-i-counts : goal.returns-then-i-counts

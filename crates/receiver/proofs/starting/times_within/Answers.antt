@@ -1,12 +1,8 @@
 use mathlib.Core.Path.{◌≡◌, refl}
-use Prim.Native.Nat.{◌≤◌, ◌-◌}
 use native.Mathlib.Numerals.{add-one}
 use native.Mathlib.Omega.{arith}
-use lib.Dec.{leb}
-use lib.ListN.{get_or, length}
-use Rattle.ground.specs.Counting.Words.{every}
+use lib.ListN.{length}
 use Rattle.receiver.specs.Starting.{times_within}
-use borrow.Author.Rules.{rules}
 use Rattle.receiver.proofs.starting.times_within.Goals as goal
 
 pub loop-i-init : goal.loop-i-init

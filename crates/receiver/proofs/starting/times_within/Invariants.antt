@@ -1,13 +1,9 @@
 -- No time is above 5000: after i turns the answer is whether this is so of the first i.
-use mathlib.Core.Path.{◌≡◌, refl}
+use mathlib.Core.Path.{◌≡◌}
 use Prim.Native.Nat.{◌≤◌, ◌-◌}
-use native.Mathlib.Numerals.{add-one}
-use native.Mathlib.Omega.{arith}
 use lib.Dec.{leb}
 use lib.ListN.{get_or, length}
 use Rattle.ground.specs.Counting.Words.{every}
-use Rattle.receiver.specs.Starting.{times_within}
-use borrow.Author.Rules.{rules}
 use Rattle.receiver.proofs.starting.times_within.Given as goal
 
 abbrev pub invariant-loop-i : goal.invariant-loop-i

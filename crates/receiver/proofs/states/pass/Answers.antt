@@ -1,7 +1,6 @@
 use mathlib.Core.Path.{refl, ◌∙◌}
 use Rattle.phases.specs.Theorems.ByTable.{passed_with_lem}
 use Rattle.receiver.specs.Report.{reported_of}
-use borrow.Author.Rules.{rules}
 use Rattle.receiver.proofs.states.pass.Goals as goal
 
 pub returns : goal.returns

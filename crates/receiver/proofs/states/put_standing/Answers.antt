@@ -1,5 +1,4 @@
 use mathlib.Core.Path.{refl}
-use borrow.Author.Rules.{rules}
 use Rattle.receiver.proofs.states.put_standing.Goals as goal
 
 pub returns : goal.returns

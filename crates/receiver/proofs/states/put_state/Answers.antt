@@ -1,6 +1,5 @@
 use mathlib.Core.Path.{refl, ◌∙◌}
 use Rattle.receiver.specs.Report.{state_put}
-use borrow.Author.Rules.{rules}
 use Rattle.receiver.proofs.states.put_state.Goals as goal
 
 pub returns : goal.returns

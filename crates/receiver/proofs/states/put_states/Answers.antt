@@ -1,9 +1,7 @@
 use mathlib.Core.Path.{◌≡◌, refl, ap, ◌∙◌}
-use Prim.Native.Nat.{◌≤◌, ◌-◌}
 use native.Mathlib.Numerals.{add-one}
 use native.Mathlib.Omega.{arith}
 use lib.ListN.{length}
-use borrow.Author.Rules.{rules}
 use Rattle.receiver.specs.Report.{states_put}
 use Rattle.receiver.specs.Laws.Lengths.{length_told_ports}
 use Rattle.receiver.proofs.states.put_states.Goals as goal

@@ -1,6 +1,5 @@
 use mathlib.Core.Path.{refl}
 use Rattle.receiver.specs.Report.{reply_port}
-use borrow.Author.Rules.{rules}
 use Rattle.receiver.proofs.states.reply_port.Goals as goal
 
 pub returns : goal.returns

@@ -1,7 +1,6 @@
 use mathlib.Core.Path.{sym}
 use native.Mathlib.Omega.{arith}
 use lib.ListN.{get_or-eq_default}
-use borrow.Author.Rules.{rules}
 use Rattle.reply.specs.Waiting.{no_standing}
 use Rattle.receiver.proofs.states.standing_at.Goals as goal
 

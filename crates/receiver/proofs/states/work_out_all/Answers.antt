@@ -1,7 +1,6 @@
 -- States and RS-Ack are worked out of the ports before either is put, as in the definition; then the states are put, and the group last.
 use mathlib.Core.Path.{refl}
 use Rattle.receiver.specs.Report.{states_worked_out}
-use borrow.Author.Rules.{rules}
 use Rattle.receiver.proofs.states.work_out_all.Goals as goal
 
 pub returns : goal.returns

@@ -1,6 +1,5 @@
 -- With one port the state and RS-Ack worked out of it alone are those the tables of 64 would give (`states-alone`).
 use Rattle.receiver.proofs.Alone.{states_alone}
-use borrow.Author.Rules.{rules}
 use Rattle.receiver.proofs.states.work_out_alone.Goals as goal
 
 pub returns : goal.returns

@@ -1,4 +1,3 @@
-use borrow.Author.Rules.{rules}
 use Rattle.receiver.proofs.states.work_out_states.Goals as goal
 
 pub returns-then-ports-eq1 : goal.returns-then-ports-eq1
