@@ -1,3 +1,1 @@
-pub mod LentAgain
-pub mod Places
 pub mod Turned

@@ -2,9 +2,8 @@
 use mathlib.Core.Path.{◌≡◌, refl, sym, ap, subst}
 use mathlib.Core.Bool.{Bool, true, false, cond}
 use mathlib.Core.List.{List}
-use Prim.Native.Nat.{ℕ, ◌+◌, ◌*◌, ◌<◌, ◌≤◌, ◌^◌, zero-le}
+use Prim.Native.Nat.{ℕ, ◌+◌, ◌≤◌, zero-le}
 use native.Mathlib.Nat.{le_refl}
-use native.Mathlib.Omega.{arith}
 use lib.Dec.{T, eqb, eqb→eq}
 use lib.ListN.{length, get_or}
 use Rattle.cards.specs.declared.answers.Answer.{Answer}
@@ -46,10 +45,6 @@ turns_right m k = go (eqb m k) refl
     go : (b : Bool) → eqb m k ≡ b → cond b m 0 ≤ k
     go true e = subst (λ (j : ℕ). m ≤ j) (eqb→eq m k (subst T (sym e) tt)) (le_refl m)
     go false e = zero-le
-
--- the place of a command, 12 bytes each, is a number of 64 bits
-pub place_fits : (j m : ℕ) → j < m → m * 12 < 2 ^ 63 → j * 12 < 2 ^ 64
-place_fits j m less big = omega arith
 
 -- ---- all of them
 pub card_left_lem : (card : Card) (cs : List Command) (k : ℕ) → finish_of (card_at card cs (turns_of (length cs) k)) (length cs) k ≡ ordered_of card cs k

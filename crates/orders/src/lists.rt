@@ -1,4 +1,4 @@
-// An order is a list of commands. `order` and `first_of` are proved by a walk of their own, since they have a slice of structs in them: they hold one loop and one call, and no test.
+// An order is a list of commands.
 ghost use Rattle.std.specs.Prelude.{◌≡◌, ◌≤◌, length, take};
 ghost use Rattle.orders.specs.Orders.{answers_of, finish_of, first_answers, first_ordered, ordered_of, turns_of};
 
