@@ -1,4 +1,3 @@
-use borrow.Author.Rules.{rules}
 use Rattle.session_lines.specs.Output.{board_text}
 use Rattle.session_lines.proofs.Lengths.{wait_room}
 use Rattle.text.specs.Laws.Putting.{put_then}

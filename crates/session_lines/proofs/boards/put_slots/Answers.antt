@@ -1,11 +1,6 @@
 use mathlib.Core.Path.{◌≡◌}
-use Prim.Native.Nat.{◌-◌, ◌≤◌}
 use native.Mathlib.Numerals.{add-one}
 use native.Mathlib.Omega.{arith}
-use lib.ListN.{length}
-use borrow.Author.Rules.{rules}
-use Rattle.text.specs.Output.{Put}
-use Rattle.session_lines.specs.Output.{slots_text}
 use Rattle.session_lines.proofs.Lengths.{slot_room}
 use Rattle.text.specs.Laws.Putting.{put_then}
 use Rattle.session_lines.proofs.boards.put_slots.Goals as goal

@@ -1,4 +1,3 @@
-use borrow.Author.Rules.{rules}
 use Rattle.session_lines.proofs.Answering.{board_count, shown_board, shown_short}
 use Rattle.session_lines.proofs.boards.show.Goals as goal
 

@@ -1,4 +1,3 @@
-use borrow.Author.Rules.{rules}
 use borrow.Author.Tests.{lt-ltb, le-ltb}
 use Rattle.session_lines.specs.Kept.{keep_of}
 use Rattle.session_lines.proofs.kept.keep.Goals as goal

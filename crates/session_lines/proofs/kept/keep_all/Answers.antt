@@ -1,9 +1,7 @@
 use mathlib.Core.Path.{◌≡◌, refl, ◌∙◌}
-use Prim.Native.Nat.{◌-◌, ◌≤◌, ◌<◌}
+use Prim.Native.Nat.{◌<◌}
 use native.Mathlib.Omega.{arith}
-use lib.ListN.{length, take}
-use borrow.Author.Rules.{rules}
-use Rattle.session_lines.specs.Kept.{keep_all}
+use lib.ListN.{length}
 use Rattle.session_lines.proofs.Keeping.{keep_turn}
 use Rattle.session_lines.proofs.kept.keep_all.Goals as goal
 

@@ -1,11 +1,8 @@
 -- After i turns what is kept is the definition's for the first i bytes of the input; keeping one byte more gives that for i + 1 (`keep_turn`).
-use mathlib.Core.Path.{◌≡◌, refl, ◌∙◌}
-use Prim.Native.Nat.{◌-◌, ◌≤◌, ◌<◌}
-use native.Mathlib.Omega.{arith}
-use lib.ListN.{length, take}
-use borrow.Author.Rules.{rules}
+use mathlib.Core.Path.{◌≡◌}
+use Prim.Native.Nat.{◌-◌, ◌≤◌}
+use lib.ListN.{take}
 use Rattle.session_lines.specs.Kept.{keep_all}
-use Rattle.session_lines.proofs.Keeping.{keep_turn}
 use Rattle.session_lines.proofs.kept.keep_all.Given as goal
 
 abbrev pub invariant-loop-i : goal.invariant-loop-i

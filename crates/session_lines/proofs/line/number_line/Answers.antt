@@ -2,7 +2,6 @@
 -- Each exit is one word that agreed behind those that did not, and cites the law of Reading for just that.
 use mathlib.Core.Path.{sym, ◌∙◌}
 use lib.Seq.{slice}
-use borrow.Author.Rules.{rules}
 use Rattle.session_lines.proofs.Reading.{unread_number, size_line, add_line, remove_line, other_line}
 use Rattle.session_lines.proofs.line.number_line.Goals as goal
 

@@ -1,5 +1,4 @@
 use mathlib.Core.Path.{◌∙◌}
-use borrow.Author.Rules.{rules}
 use Rattle.session_lines.proofs.Parting.{line_none, line_long, line_read}
 use Rattle.text.specs.Laws.Slices.{end_le}
 use Rattle.session_lines.proofs.line.read_line.Goals as goal

@@ -1,8 +1,6 @@
 -- `report_line` meets its contract: of a word and more than one field behind it only `report` with three fields is a line.
 -- A third and a fifth piece refuse the line, then its word does; each exit cites the law of Parting for the pieces found so far, and the last one reads the three fields.
 use mathlib.Core.Path.{sym, ◌∙◌}
-use borrow.Author.Rules.{rules}
-use borrow.Author.Tests.{not-true, not-false}
 use Rattle.session_lines.proofs.Parting.{three, five, other_word, report_word}
 use Rattle.session_lines.proofs.line.report_line.Goals as goal
 

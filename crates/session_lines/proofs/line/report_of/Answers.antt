@@ -1,7 +1,6 @@
 -- `report_of` meets its contract: a report where epoch, MST and RS-Ack could be read and are in range, and otherwise malformed.
 -- Three fields are told apart one after the other; each exit cites the law of Reading for those that were read. In range means that the three numbers are bytes (`bounded`).
 use native.Mathlib.Omega.{arith}
-use borrow.Author.Rules.{rules}
 use Rattle.session_lines.proofs.Reading.{bounded, unread_epoch, unread_mst, unread_ack, read_report, refused_report}
 use Rattle.session_lines.proofs.line.report_of.Goals as goal
 

@@ -1,6 +1,5 @@
 -- Where no tab follows, the rest is one field and read as a number (`two`); else the field up to the tab is the next of at least three (`more`).
 use mathlib.Core.Path.{◌∙◌}
-use borrow.Author.Rules.{rules}
 use Rattle.session_lines.proofs.Parting.{two, more}
 use Rattle.session_lines.proofs.line.rest_line.Goals as goal
 

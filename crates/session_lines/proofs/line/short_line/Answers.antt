@@ -1,5 +1,4 @@
 use mathlib.Core.Path.{◌∙◌}
-use borrow.Author.Rules.{rules}
 use Rattle.session_lines.proofs.Parting.{one, some}
 use Rattle.session_lines.proofs.line.short_line.Goals as goal
 

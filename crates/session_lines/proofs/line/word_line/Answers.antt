@@ -1,5 +1,4 @@
 -- Three exits are the three cases of the definition: the one field is `lapse`, or `board`, or malformed.
-use borrow.Author.Rules.{rules}
 use Rattle.session_lines.specs.Line.{word_line}
 use Rattle.session_lines.proofs.line.word_line.Goals as goal
 

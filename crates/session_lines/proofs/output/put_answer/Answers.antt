@@ -1,5 +1,4 @@
 use lib.ListN.{length}
-use borrow.Author.Rules.{rules}
 use Rattle.text.specs.Laws.Putting.{is_put, put_then, room, shorter}
 use Rattle.text.specs.Output.{decimal_text, ended}
 use Rattle.text.specs.Text.{LINE-END, TAB}

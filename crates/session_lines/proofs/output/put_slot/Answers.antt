@@ -1,7 +1,6 @@
 -- The four parts of the line are put one behind the other, and together are its text (`put_then`); room for all of it is room for each (`shorter`).
 use mathlib.Core.List.{◌++◌}
 use lib.ListN.{length}
-use borrow.Author.Rules.{rules}
 use Rattle.text.specs.Laws.Putting.{is_put, put_then, room, shorter}
 use Rattle.text.specs.Output.{decimal_text, ended, word_text}
 use Rattle.text.specs.Text.{LINE-END, TAB}

@@ -1,6 +1,5 @@
 -- The word and then the bit as a number are together the text (`put_then`); room for both is room for each (`shorter`).
 use lib.ListN.{length}
-use borrow.Author.Rules.{rules}
 use Rattle.text.specs.Laws.Putting.{is_put, put_then, room, shorter}
 use Rattle.text.specs.Output.{decimal_text, ended}
 use Rattle.text.specs.Text.{LINE-END, TAB}

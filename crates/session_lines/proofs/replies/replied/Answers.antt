@@ -1,4 +1,3 @@
-use borrow.Author.Rules.{rules}
 use Rattle.session_lines.proofs.replies.replied.Goals as goal
 
 pub returns : goal.returns

@@ -1,6 +1,5 @@
 -- One case for each line: its own call of the sender, replied by number and table; the board is 0 and a malformed line 13, and both leave the table.
 use mathlib.Core.Path.{◌∙◌, ap}
-use borrow.Author.Rules.{rules}
 use Rattle.session_lines.specs.Replies.{replied_of, reply_of}
 use Rattle.session_lines.proofs.replies.reply_to.Goals as goal
 

@@ -1,4 +1,3 @@
-use borrow.Author.Rules.{rules}
 use Rattle.session_lines.proofs.Keeping.{size_done, size_refused}
 use Rattle.session_lines.proofs.replies.size_reply.Goals as goal
 

@@ -1,7 +1,6 @@
 -- `answer` meets its contract: the kept line is read, replied to by the table, and its output put.
 -- Three calls, each with the equation that the next one asks for.
 use mathlib.Core.Path.{ap}
-use borrow.Author.Rules.{rules}
 use Rattle.session_lines.specs.declared.replies.Reply.{Reply}
 use Rattle.session_lines.proofs.Answering.{answered}
 use Rattle.session_lines.proofs.session.answer.Goals as goal

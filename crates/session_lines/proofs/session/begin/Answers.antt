@@ -1,4 +1,3 @@
-use borrow.Author.Rules.{rules}
 use Rattle.session_lines.specs.Session.{beginning}
 use Rattle.session_lines.proofs.session.begin.Goals as goal
 

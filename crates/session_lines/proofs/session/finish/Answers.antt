@@ -1,6 +1,5 @@
 -- `finish` meets its contract: 9 for a buffer without room, the kept line answered, or nothing where none is kept.
 -- Each exit cites the law of Answering for its case.
-use borrow.Author.Rules.{rules}
 use Rattle.session_lines.proofs.Answering.{finish_short, finish_line, finish_none}
 use Rattle.session_lines.proofs.session.finish.Goals as goal
 

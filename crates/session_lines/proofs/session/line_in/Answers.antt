@@ -1,4 +1,3 @@
-use borrow.Author.Rules.{rules}
 use Rattle.session_lines.specs.Kept.{line_in}
 use Rattle.session_lines.proofs.session.line_in.Goals as goal
 

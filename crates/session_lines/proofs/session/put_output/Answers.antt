@@ -1,7 +1,6 @@
 -- `put_output` meets its contract: the board's lines or the answer's line at the front of the buffer, which has room for either.
 -- A board has at most 64 slots, so its text is no longer than ROOM; what `put_board` or `put_answer` put is then the definition's text.
 use native.Mathlib.Omega.{arith}
-use borrow.Author.Rules.{rules}
 use Rattle.session_lines.proofs.Answering.{board_count, output_board, output_answer}
 use Rattle.session_lines.proofs.Lengths.{answer_le}
 use Rattle.session_lines.proofs.session.put_output.Goals as goal
