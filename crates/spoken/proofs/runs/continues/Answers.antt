@@ -1,0 +1,7 @@
+use Rattle.spoken.specs.Runs.{continues}
+use borrow.Author.Rules.{rules}
+use Rattle.spoken.proofs.runs.continues.Goals as goal
+
+pub returns : goal.returns
+unfolding continues
+returns c = rw (c.row_continues-old.ensures, c.row_continues-new.ensures)
