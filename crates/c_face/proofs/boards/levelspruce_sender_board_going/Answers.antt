@@ -1,5 +1,4 @@
 use mathlib.Core.Path.{◌∙◌, ap}
-use native.Mathlib.Omega.{arith}
 use Rattle.c_face.specs.Boards.{board_bytes_of}
 use Rattle.c_face.proofs.Showing.{shown_state, shown_room, shown_done}
 use Rattle.sender.specs.declared.epochs.Sender.{Sender}

@@ -1,6 +1,5 @@
 -- `put_board` meets its contract: the count, at most 64, and the wait, then each slot's word and number.
--- Two pieces fill the whole buffer (`board-whole`).
-use native.Mathlib.Omega.{arith}
+-- Two pieces fill the whole buffer (`board_whole`).
 use Rattle.sender.specs.Table.{slot_count}
 use Rattle.c_face.proofs.Showing.{board_whole}
 use Rattle.c_face.proofs.boards.put_board.Goals as goal

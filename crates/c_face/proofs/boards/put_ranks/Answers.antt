@@ -1,9 +1,8 @@
 -- `put_ranks` meets its contract: four numbers, then each slot's rank.
--- Two pieces fill the whole buffer (`ranks-whole`).
+-- Two pieces fill the whole buffer (`ranks_whole`).
 use mathlib.Core.Path.{◌≡◌}
 use native.Mathlib.Omega.{arith}
-use lib.ListN.{length, length-map}
-use borrow.Author.Rules.{rules}
+use lib.ListN.{length}
 use Rattle.c_face.proofs.Showing.{ranks_whole}
 use Rattle.c_face.proofs.boards.put_ranks.Goals as goal
 

@@ -1,4 +1,3 @@
-use native.Mathlib.Omega.{arith}
 use Rattle.c_face.proofs.keeping.field_bytes.Goals as goal
 
 pub returns : goal.returns

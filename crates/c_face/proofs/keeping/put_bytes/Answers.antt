@@ -1,8 +1,7 @@
 use mathlib.Core.Path.{◌≡◌}
-use Prim.Native.Nat.{◌≤◌, ◌-◌}
 use native.Mathlib.Omega.{arith}
-use lib.ListN.{length, get_or}
-use Rattle.ground.specs.Drawn.{Filling, filling_none, filling_more}
+use lib.ListN.{length}
+use Rattle.ground.specs.Drawn.{filling_none, filling_more}
 use Rattle.c_face.proofs.keeping.put_bytes.Goals as goal
 
 pub loop-k-init : goal.loop-k-init

@@ -1,8 +1,6 @@
-use mathlib.Core.Path.{◌≡◌}
 use Prim.Native.Nat.{◌≤◌, ◌-◌}
-use native.Mathlib.Omega.{arith}
 use lib.ListN.{length, get_or}
-use Rattle.ground.specs.Drawn.{Filling, filling_none, filling_more}
+use Rattle.ground.specs.Drawn.{Filling}
 use Rattle.c_face.proofs.keeping.put_bytes.Given as goal
 
 abbrev pub invariant-loop-k : goal.invariant-loop-k

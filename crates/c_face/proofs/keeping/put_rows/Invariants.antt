@@ -1,9 +1,6 @@
-use mathlib.Core.Path.{◌≡◌}
 use Prim.Native.Nat.{◌≤◌, ◌-◌}
-use native.Mathlib.Omega.{arith}
-use Rattle.ground.specs.Drawn.{Filling, filling_none}
+use Rattle.ground.specs.Drawn.{Filling}
 use Rattle.c_face.specs.Keeping.{rows_byte}
-use Rattle.c_face.proofs.Wholes.{filling_put}
 use Rattle.c_face.proofs.keeping.put_rows.Given as goal
 
 abbrev pub invariant-loop-k : goal.invariant-loop-k

@@ -1,6 +1,5 @@
 -- `put_sender` meets its contract: slots, both boards' rows and the fields, at their places.
 -- Four pieces are written one behind the other and fill the whole state, so that nothing of the old one is left (`put_whole`).
-use native.Mathlib.Omega.{arith}
 use Rattle.c_face.proofs.Pieces.{put_whole}
 use Rattle.c_face.proofs.keeping.put_sender.Goals as goal
 

@@ -1,8 +1,6 @@
 use mathlib.Core.Path.{◌≡◌}
-use Prim.Native.Nat.{◌≤◌, ◌-◌}
 use native.Mathlib.Omega.{arith}
-use Rattle.ground.specs.Drawn.{Filling, filling_none}
-use Rattle.c_face.specs.Keeping.{slots_byte}
+use Rattle.ground.specs.Drawn.{filling_none}
 use Rattle.c_face.proofs.Wholes.{filling_first}
 use Rattle.c_face.proofs.keeping.put_slots.Goals as goal
 

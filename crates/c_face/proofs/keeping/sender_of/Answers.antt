@@ -1,5 +1,4 @@
 use mathlib.Core.Path.{refl}
-use native.Mathlib.Omega.{arith}
 use Rattle.c_face.specs.Keeping.{sender_of}
 use Rattle.c_face.proofs.keeping.sender_of.Goals as goal
 

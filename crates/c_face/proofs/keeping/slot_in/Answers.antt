@@ -1,5 +1,4 @@
 use mathlib.Core.Path.{refl}
-use native.Mathlib.Omega.{arith}
 use Rattle.c_face.proofs.keeping.slot_in.Goals as goal
 
 pub returns : goal.returns

@@ -1,10 +1,8 @@
-use mathlib.Core.Path.{◌≡◌, refl}
-use Prim.Native.Nat.{◌≤◌, ◌-◌}
+use mathlib.Core.Path.{refl}
 use native.Mathlib.Omega.{arith}
-use lib.ListN.{length}
-use Rattle.c_face.specs.Keeping.{slot_in, slots_in}
+use Rattle.c_face.specs.Keeping.{slots_in}
 use Rattle.c_face.proofs.Wholes.{done_whole}
-use Rattle.ground.specs.Counting.Each.{Done, done_none, done_more}
+use Rattle.ground.specs.Counting.Each.{done_none, done_more}
 use Rattle.c_face.proofs.keeping.slots_in.Goals as goal
 
 pub loop-i-init : goal.loop-i-init

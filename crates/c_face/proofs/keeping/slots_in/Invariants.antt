@@ -1,10 +1,8 @@
-use mathlib.Core.Path.{◌≡◌, refl}
+use mathlib.Core.Path.{◌≡◌}
 use Prim.Native.Nat.{◌≤◌, ◌-◌}
-use native.Mathlib.Omega.{arith}
 use lib.ListN.{length}
-use Rattle.c_face.specs.Keeping.{slot_in, slots_in}
-use Rattle.c_face.proofs.Wholes.{done_whole}
-use Rattle.ground.specs.Counting.Each.{Done, done_none, done_more}
+use Rattle.c_face.specs.Keeping.{slot_in}
+use Rattle.ground.specs.Counting.Each.{Done}
 use Rattle.c_face.proofs.keeping.slots_in.Given as goal
 
 abbrev pub invariant-loop-i : goal.invariant-loop-i

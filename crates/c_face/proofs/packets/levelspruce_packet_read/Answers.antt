@@ -1,4 +1,3 @@
-use native.Mathlib.Omega.{arith}
 use Rattle.c_face.proofs.Answers.{read_wrong, read_right}
 use Rattle.c_face.proofs.packets.levelspruce_packet_read.Goals as goal
 

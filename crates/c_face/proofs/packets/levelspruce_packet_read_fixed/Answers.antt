@@ -1,4 +1,3 @@
-use native.Mathlib.Omega.{arith}
 use Rattle.c_face.proofs.Answers.{fixed_wrong, fixed_right}
 use Rattle.c_face.proofs.packets.levelspruce_packet_read_fixed.Goals as goal
 

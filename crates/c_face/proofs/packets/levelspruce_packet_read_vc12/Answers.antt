@@ -1,4 +1,3 @@
-use native.Mathlib.Omega.{arith}
 use Rattle.c_face.proofs.Answers.{vc12_wrong, vc12_right}
 use Rattle.c_face.proofs.packets.levelspruce_packet_read_vc12.Goals as goal
 

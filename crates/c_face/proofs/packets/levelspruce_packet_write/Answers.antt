@@ -1,4 +1,3 @@
-use native.Mathlib.Omega.{arith}
 use Rattle.c_face.proofs.Answers.{write_h4}
 use Rattle.c_face.proofs.packets.levelspruce_packet_write.Goals as goal
 

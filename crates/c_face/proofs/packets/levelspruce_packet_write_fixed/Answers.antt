@@ -1,5 +1,4 @@
 use mathlib.Core.Path.{◌∙◌, ap}
-use native.Mathlib.Omega.{arith}
 use Rattle.packet.specs.Writing.{writing_number}
 use Rattle.c_face.proofs.packets.levelspruce_packet_write_fixed.Goals as goal
 

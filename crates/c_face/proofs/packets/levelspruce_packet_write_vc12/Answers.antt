@@ -1,4 +1,3 @@
-use native.Mathlib.Omega.{arith}
 use Rattle.c_face.proofs.Answers.{write_vc12_lem}
 use Rattle.c_face.proofs.packets.levelspruce_packet_write_vc12.Goals as goal
 

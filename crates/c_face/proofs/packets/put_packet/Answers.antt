@@ -1,6 +1,5 @@
 use mathlib.Core.Path.{◌∙◌, ap, sym}
 use native.Mathlib.Omega.{arith}
-use borrow.Author.Tests.{not-true, not-false}
 use Rattle.c_face.proofs.Answers.{Bytes, bytes_said, write_unfit}
 use Rattle.packet.specs.Writing.{writing_number}
 use Rattle.c_face.proofs.packets.put_packet.Goals as goal

@@ -1,4 +1,3 @@
-use borrow.Author.Rules.{rules}
 use Rattle.c_face.proofs.Answers.{reading_put}
 use Rattle.c_face.proofs.packets.put_reading.Goals as goal
 

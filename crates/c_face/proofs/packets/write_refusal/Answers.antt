@@ -1,5 +1,4 @@
 use mathlib.Core.Path.{refl, sym, ◌∙◌}
-use native.Mathlib.Omega.{arith}
 use borrow.Author.Tests.{eq-eqb, ne_eqb}
 use Rattle.packet.specs.Kinds.{frames}
 use Rattle.c_face.proofs.packets.write_refusal.Goals as goal

@@ -1,5 +1,4 @@
 use mathlib.Core.Path.{◌∙◌, ap}
-use native.Mathlib.Omega.{arith}
 use Rattle.payload.specs.Answers.{number_of}
 use Rattle.c_face.proofs.payloads.levelspruce_join.Goals as goal
 

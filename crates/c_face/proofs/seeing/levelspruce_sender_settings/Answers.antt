@@ -1,5 +1,4 @@
 use mathlib.Core.Path.{◌∙◌, ap}
-use native.Mathlib.Omega.{arith}
 use Rattle.c_face.specs.Settings.{sender_settings}
 use Rattle.c_face.proofs.Showing.{shown_state, shown_room, shown_done}
 use Rattle.c_face.proofs.seeing.levelspruce_sender_settings.Goals as goal

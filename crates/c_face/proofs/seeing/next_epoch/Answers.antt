@@ -1,4 +1,3 @@
-use borrow.Author.Rules.{rules}
 use Rattle.sender.specs.Epochs.{started_epoch}
 use mathlib.Core.Path.{refl}
 use Rattle.c_face.proofs.seeing.next_epoch.Goals as goal

@@ -1,4 +1,3 @@
-use native.Mathlib.Omega.{arith}
 use Rattle.sender.specs.Table.{slot_count}
 use Rattle.c_face.proofs.Settings.{settings_put}
 use Rattle.c_face.proofs.seeing.put_settings.Goals as goal

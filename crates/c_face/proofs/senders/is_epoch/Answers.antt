@@ -1,7 +1,6 @@
 use mathlib.Core.Path.{ap}
 use native.Mathlib.Omega.{arith}
 use lib.Dec.{ltb}
-use borrow.Author.Rules.{rules}
 use Rattle.packet.specs.Theorems.Tags.{epochs_fit, frames_some}
 use Rattle.c_face.proofs.SenderCalls.{epochs_by}
 use Rattle.c_face.proofs.senders.is_epoch.Goals as goal

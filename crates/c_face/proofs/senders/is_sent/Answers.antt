@@ -1,4 +1,3 @@
-use borrow.Author.Rules.{rules}
 use Rattle.c_face.proofs.SenderCalls.{known_sent, unknown}
 use Rattle.c_face.proofs.senders.is_sent.Goals as goal
 

@@ -1,4 +1,3 @@
-use native.Mathlib.Omega.{arith}
 use Rattle.c_face.proofs.SenderCalls.{keep_refused, keep_done}
 use Rattle.c_face.proofs.senders.keep.Goals as goal
 

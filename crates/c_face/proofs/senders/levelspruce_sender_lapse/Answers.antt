@@ -1,6 +1,5 @@
 use mathlib.Core.Bool.{true}
 use mathlib.Core.Path.{refl}
-use native.Mathlib.Omega.{arith}
 use Rattle.c_face.proofs.SenderCalls.{call_length, call_kept}
 use Rattle.sender.specs.Calls.Call.{Lapse}
 use Rattle.sender.specs.Epochs.SenderCall.{OnTable}

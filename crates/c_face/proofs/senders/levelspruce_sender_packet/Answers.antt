@@ -1,4 +1,3 @@
-use native.Mathlib.Omega.{arith}
 use Rattle.c_face.proofs.SenderCalls.{packet_length, packet_own}
 use Rattle.c_face.proofs.senders.levelspruce_sender_packet.Goals as goal
 

@@ -1,4 +1,3 @@
-use native.Mathlib.Omega.{arith}
 use Rattle.c_face.proofs.SenderCalls.{payload_length, payload_own}
 use Rattle.c_face.proofs.senders.levelspruce_sender_payload.Goals as goal
 

@@ -2,7 +2,6 @@
 -- Each exit cites one law of SenderCalls, in the order of the tests; behind them the three numbers are bytes (`three_said`).
 use mathlib.Core.Path.{◌∙◌, sym}
 use native.Mathlib.Omega.{arith}
-use borrow.Author.Tests.{not-true, not-false}
 use Rattle.c_face.specs.Senders.{are_bytes}
 use Rattle.c_face.proofs.SenderCalls.{Three, call_length, call_unfit, call_kept, three_said}
 use Rattle.sender.specs.Calls.Call.{Report}

@@ -1,4 +1,3 @@
-use native.Mathlib.Omega.{arith}
 use Rattle.c_face.proofs.senders.levelspruce_sender_start_as.Goals as goal
 
 pub returns : goal.returns

@@ -1,5 +1,4 @@
 use mathlib.Core.Path.{◌∙◌, ap}
-use native.Mathlib.Omega.{arith}
 use Rattle.c_face.specs.Keeping.{bytes_of}
 use Rattle.sender.specs.declared.epochs.SenderOutcome.{SenderOutcome}
 use Rattle.c_face.proofs.senders.put_start.Goals as goal

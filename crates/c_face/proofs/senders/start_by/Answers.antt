@@ -1,7 +1,5 @@
 -- Five exits, one for each way through the length, the kind with the count, and the first epoch; under 4 with a right length an empty group is written. Each cites its law of SenderCalls.
 use mathlib.Core.Path.{◌∙◌, sym}
-use native.Mathlib.Omega.{arith}
-use borrow.Author.Tests.{not-true, not-false}
 use Rattle.c_face.proofs.SenderCalls.{epoch_byte, kind_byte, start_none, start_length, start_outside, start_unfit, start_done}
 use Rattle.c_face.proofs.senders.start_by.Goals as goal
 

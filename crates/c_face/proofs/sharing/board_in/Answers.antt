@@ -1,6 +1,5 @@
 use mathlib.Core.Path.{◌∙◌, sym}
 use Rattle.c_face.specs.Laws.Sharing.{board_none, board_there, room_said}
-use borrow.Author.Rules.{rules}
 use Rattle.c_face.proofs.sharing.board_in.Goals as goal
 
 pub board_in-requires : goal.board_in-requires

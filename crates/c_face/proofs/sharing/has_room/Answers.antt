@@ -1,6 +1,5 @@
 use mathlib.Core.Path.{sym}
 use Rattle.c_face.specs.Laws.Sharing.{no_room, room_left}
-use borrow.Author.Rules.{rules}
 use Rattle.c_face.proofs.sharing.has_room.Goals as goal
 
 pub returns-then-bytes-count : goal.returns-then-bytes-count

@@ -1,7 +1,6 @@
 use mathlib.Core.Path.{◌∙◌, sym}
 use lib.ListN.{length}
 use Rattle.c_face.specs.Laws.Sharing.{put_none, put_there, room_said}
-use borrow.Author.Rules.{rules}
 use Rattle.c_face.proofs.sharing.put_bytes.Goals as goal
 
 pub put_bytes-requires : goal.put_bytes-requires

@@ -1,6 +1,5 @@
 use mathlib.Core.Path.{◌∙◌, sym}
 use Rattle.c_face.specs.Laws.Sharing.{sized, unsized}
-use borrow.Author.Rules.{rules}
 use Rattle.c_face.proofs.sharing.put_sender.Goals as goal
 
 pub returns-then-state-eq-SENDER_BYTES : goal.returns-then-state-eq-SENDER_BYTES

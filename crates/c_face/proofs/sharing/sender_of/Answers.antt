@@ -1,7 +1,6 @@
 use mathlib.Core.Path.{◌∙◌, ap, sym}
 use Rattle.c_face.specs.Keeping.{sender_of}
 use Rattle.c_face.specs.Laws.Sharing.{themselves, zeros}
-use borrow.Author.Rules.{rules}
 use Rattle.c_face.proofs.sharing.sender_of.Goals as goal
 
 pub returns-then-state-ne-SENDER_BYTES : goal.returns-then-state-ne-SENDER_BYTES
