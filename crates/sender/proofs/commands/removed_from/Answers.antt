@@ -1,4 +1,4 @@
--- The others fall in by the number of the slot that leaves, and then that slot is made idle: the definition's table, on at most 64 slots (`size-le`).
+-- The others fall in by the number of the slot that leaves, and then that slot is made idle: the definition's table, on at most 64 slots (`size_le`).
 use Rattle.sender.specs.Commands.{removed_from}
 use Rattle.sender.specs.Laws.Sizes.{size_le}
 use Rattle.sender.proofs.commands.removed_from.Goals as goal

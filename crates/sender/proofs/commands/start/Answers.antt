@@ -1,5 +1,5 @@
--- 0 and more than 64 answer 4 with an empty table, each its own exit (`start_none`, `start-many`).
--- Any other count gives a fresh table of so many slots (`start-done`).
+-- 0 and more than 64 answer 4 with an empty table, each its own exit (`start_none`, `start_many`).
+-- Any other count gives a fresh table of so many slots (`start_done`).
 use native.Mathlib.Omega.{arith}
 use Rattle.sender.proofs.Answers.{start_none, start_many, start_done}
 use Rattle.sender.proofs.commands.start.Goals as goal
