@@ -1,0 +1,16 @@
+use Rattle.std.proofs.Common.{◌≡◌, ◌-◌, ◌<◌, ◌≤◌, ◌++◌, length, drop, replicate, refl, arith, length-set}
+use Rattle.replay_lines.proofs.Clearing.{clear_all, clear_turn}
+use Rattle.replay_lines.proofs.lent.clear_store.Goals as goal
+
+pub loop-i-init : goal.loop-i-init
+loop-i-init c = (omega arith, refl, refl)
+
+pub loop-i-preserved : goal.loop-i-preserved
+loop-i-preserved c =
+    let h : c.loop-i.i < length c.args.store.now = omega arith in
+    (omega arith, simp length-set c.loop-i.invariant.1, clear_turn 0 c.loop-i.i c.args.store.now c.loop-i.store h c.loop-i.invariant.2)
+
+pub returns : goal.returns
+returns c =
+    let e : c.loop-i.i ≡ length c.args.store.now = omega arith in
+    clear_all 0 c.loop-i.i c.args.store.now c.loop-i.store e c.loop-i.invariant.2
