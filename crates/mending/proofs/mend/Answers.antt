@@ -20,25 +20,25 @@ pub returns-then-not-mended-told : goal.returns-then-not-mended-told
 returns-then-not-mended-told c =
     let g = c.well_formed.1.1.0.1 in
     mend_other c.args.recording.now c.opened-start.result c.opened-start.ensures c.if-start-ne0.false c.args.mended.now c.args.notes.now (omega arith) c.lengths_from-told.result c.lengths_from-told.ensures
-    (not-true (eqb (length c.args.mended.now) c.lengths_from-told.result.mended && eqb (length c.args.notes.now) c.lengths_from-told.result.notes) c.if-not-mended-told.true)
+    c.if-not-mended-told.true
 
 -- src/lib.rt:42:5
 pub copy_all-requires : goal.copy_all-requires
 copy_all-requires c =
     let g = c.well_formed.1.1.0.1 in
     copy_asked c.args.recording.now c.opened-start.result c.opened-start.ensures c.if-start-ne0.false c.args.mended.now c.args.notes.now (omega arith) c.lengths_from-told.result c.lengths_from-told.ensures
-    (not-false (eqb (length c.args.mended.now) c.lengths_from-told.result.mended && eqb (length c.args.notes.now) c.lengths_from-told.result.notes) c.if-not-mended-told.false)
+    c.if-not-mended-told.false
 
 -- src/lib.rt:43:5
 pub put_notes-requires : goal.put_notes-requires
 put_notes-requires c =
     let g = c.well_formed.1.1.0.1 in
     notes_asked c.args.recording.now c.opened-start.result c.opened-start.ensures c.if-start-ne0.false c.args.mended.now c.args.notes.now (omega arith) c.lengths_from-told.result c.lengths_from-told.ensures
-    (not-false (eqb (length c.args.mended.now) c.lengths_from-told.result.mended && eqb (length c.args.notes.now) c.lengths_from-told.result.notes) c.if-not-mended-told.false) _ c.copy_all.ensures
+    c.if-not-mended-told.false _ c.copy_all.ensures
 
 -- src/lib.rt:29:1
 pub returns : goal.returns
 returns c =
     let g = c.well_formed.1.1.0.1 in
     mend_done c.args.recording.now c.opened-start.result c.opened-start.ensures c.if-start-ne0.false c.args.mended.now c.args.notes.now (omega arith) c.lengths_from-told.result c.lengths_from-told.ensures
-    (not-false (eqb (length c.args.mended.now) c.lengths_from-told.result.mended && eqb (length c.args.notes.now) c.lengths_from-told.result.notes) c.if-not-mended-told.false) _ c.copy_all.ensures _ c.put_notes.ensures
+    c.if-not-mended-told.false _ c.copy_all.ensures _ c.put_notes.ensures

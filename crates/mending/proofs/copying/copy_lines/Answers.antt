@@ -39,14 +39,6 @@ bounds-keys-port c = let b = c.read_line-read.ensures.1.port in let i = c.loop-a
 pub slice_bounds-lay-count : goal.slice_bounds-lay-count
 slice_bounds-lay-count c = let b = c.read_line-read.ensures.1.ahead in omega arith
 
--- LEFT no goal slice-bounds-lay-start
--- part-lay-start : tie.Need-slice-bounds-lay-start invariant-loop decreases-loop
--- part-lay-start c = let b = c.before.before.before.before.before.before.before.before.read-line.ensures.1.ahead in omega arith
-
--- LEFT no goal slice-bounds-lay-end
--- part-lay-end : tie.Need-slice-bounds-lay-end invariant-loop decreases-loop
--- part-lay-end c = let b = c.before.before.before.before.before.before.before.before.read-line.ensures.1.within in omega arith
-
 -- src/copying.rt:97:29
 pub overflow_sub-key : goal.overflow_sub-key
 overflow_sub-key c = let b = c.read_line-read.ensures.1.digit c.if-read.true in let d = b.0 in omega arith

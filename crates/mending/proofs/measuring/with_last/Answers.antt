@@ -10,7 +10,7 @@ use Rattle.mending.proofs.measuring.with_last.Goals as goal
 
 -- src/measuring.rt:107:5
 pub loop-i-init : goal.loop-i-init
-loop-i-init c = (omega arith, omega arith, omega arith, told_none c.args (omega arith))
+loop-i-init c = (omega arith, omega arith, omega arith, told_none c.args.before (omega arith))
 
 -- src/measuring.rt:108:17
 pub bounds-follows-i : goal.bounds-follows-i
@@ -24,7 +24,7 @@ bounds-keys-i c = let i = c.loop-i.invariant.2 in omega arith
 pub loop-i-preserved : goal.loop-i-preserved
 loop-i-preserved c =
     let i = c.loop-i.invariant in
-    (omega arith, i.1, i.2, end_turn c.args.t1 c.args.t2 c.loop-i.i c.args.before c.loop-i.notes c.restored_length-noted.result c.more-notes.result c.is_last-is.result i.3 c.is_last-is.ensures c.restored_length-noted.ensures.0 c.more-notes.ensures)
+    (omega arith, i.1, i.2, end_turn c.args.follows c.args.keys c.loop-i.i c.args.before c.loop-i.notes c.restored_length-noted.result c.more-notes.result c.is_last-is.result i.3 c.is_last-is.ensures c.restored_length-noted.ensures.0 c.more-notes.ensures)
 
 -- src/measuring.rt:102:1
 pub returns : goal.returns

@@ -10,22 +10,22 @@ put_dropped-requires c =
     let b = c.requires.0 in
     let u = b.ends in
     let w = b.within in
-    (b.starts, omega arith, rw (read_dropped_lem c.args.number c.args.text.now c.args.at c.args.mended.now c.args.to c.args.read (c.if-not-read.true)) at c.requires.2)
+    (b.starts, omega arith, rw (read_dropped_lem c.args.number c.args.text.now c.args.at c.args.mended.now c.args.to c.args.read (not-true c.args.read.kept c.if-not-read.true)) at c.requires.2)
 
 -- src/notes.rt:70:9
 pub returns-then-not-read : goal.returns-then-not-read
 returns-then-not-read c =
-    rw (read_dropped_lem c.args.number c.args.text.now c.args.at c.args.mended.now c.args.to c.args.read (c.if-not-read.true)) c.put_dropped.ensures
+    rw (read_dropped_lem c.args.number c.args.text.now c.args.at c.args.mended.now c.args.to c.args.read (not-true c.args.read.kept c.if-not-read.true)) c.put_dropped.ensures
 
 -- src/notes.rt:74:37
 pub overflow_sub-digit : goal.overflow_sub-digit
-overflow_sub-digit c = let s = c.before.before.before.before.before.before in let d = s.requires.0.digit (c.if-not-read.false) in let e = d.0 in omega arith
+overflow_sub-digit c = let d = c.requires.0.digit (not-false c.args.read.kept c.if-not-read.false) in let e = d.0 in omega arith
 
 -- src/notes.rt:74:31
 pub overflow_add-to : goal.overflow_add-to
 overflow_add-to c =
     let b = c.requires.0 in
-    let d = b.digit (c.if-not-read.false) in
+    let d = b.digit (not-false c.args.read.kept c.if-not-read.false) in
     let e = d.0 in
     let f = d.1 in
     let g = b.ends in
@@ -36,21 +36,21 @@ overflow_add-to c =
 -- src/notes.rt:76:9
 pub returns-then-old-new : goal.returns-then-old-new
 returns-then-old-new c =
-    rw (read_same c.args.number c.args.text.now c.args.at c.args.mended.now c.args.to c.args.read (c.if-not-read.false) c.byte_at-old.result c.byte_at-new.result
+    rw (read_same c.args.number c.args.text.now c.args.at c.args.mended.now c.args.to c.args.read (not-false c.args.read.kept c.if-not-read.false) c.byte_at-old.result c.byte_at-new.result
     c.byte_at-old.ensures c.byte_at-new.ensures c.if-old-new.true) (put_nothing c.args.notes.now c.args.start)
 
 -- src/notes.rt:80:23
 pub overflow_sub-digit-2 : goal.overflow_sub-digit-2
-overflow_sub-digit-2 c = let s = c.before.before.before.before.before.before.before.before in let d = s.requires.0.digit (c.if-not-read.false) in let e = d.0 in omega arith
+overflow_sub-digit-2 c = let d = c.requires.0.digit (not-false c.args.read.kept c.if-not-read.false) in let e = d.0 in omega arith
 
 -- src/notes.rt:78:5
 pub put_restored-requires : goal.put_restored-requires
 put_restored-requires c =
-    rw (read_other c.args.number c.args.text.now c.args.at c.args.mended.now c.args.to c.args.read (c.if-not-read.false) c.byte_at.result c.byte_at-old.result c.byte_at-new.result
+    rw (read_other c.args.number c.args.text.now c.args.at c.args.mended.now c.args.to c.args.read (not-false c.args.read.kept c.if-not-read.false) c.byte_at.result c.byte_at-old.result c.byte_at-new.result
     c.byte_at.ensures c.byte_at-old.ensures c.byte_at-new.ensures c.if-old-new.false) at c.requires.2
 
 -- src/notes.rt:56:1
 pub returns : goal.returns
 returns c =
-    rw (read_other c.args.number c.args.text.now c.args.at c.args.mended.now c.args.to c.args.read (c.if-not-read.false) c.byte_at.result c.byte_at-old.result c.byte_at-new.result
+    rw (read_other c.args.number c.args.text.now c.args.at c.args.mended.now c.args.to c.args.read (not-false c.args.read.kept c.if-not-read.false) c.byte_at.result c.byte_at-old.result c.byte_at-new.result
     c.byte_at.ensures c.byte_at-old.ensures c.byte_at-new.ensures c.if-old-new.false) c.put_restored.ensures

@@ -7,7 +7,7 @@ use Rattle.mending.proofs.notes.put_notes.Goals as goal
 
 -- src/notes.rt:114:5
 pub loop-at-init : goal.loop-at-init
-loop-at-init c = let s = c.before.before.before in noting_starts s.args.ports s.args.size s.args.start s.args.text.now s.args.mended.now s.args.notes.now s.requires.0 s.requires.2
+loop-at-init c = noting_starts c.args.ports c.args.size c.args.start c.args.text.now c.args.mended.now c.args.notes.now c.requires.0 c.requires.2
 
 -- src/notes.rt:115:13
 pub read_line-read-requires : goal.read_line-read-requires
