@@ -1,18 +1,13 @@
 -- What the functions of a work order for C ask of its definitions.
 use mathlib.Core.Path.{◌≡◌, refl, ◌∙◌, ap}
-use mathlib.Core.Bool.{true}
 use mathlib.Core.List.{List, []}
 use Prim.Native.Nat.{ℕ, ◌+◌, ◌<◌}
 use native.Mathlib.Omega.{arith}
-use lib.Dec.{ltb}
 use lib.ListN.{get_or, length, set}
-use borrow.Author.Tests.{eq-eqb, lt-ltb, ne_eqb}
+use borrow.Author.Tests.{eq-eqb, ne_eqb}
 use Rattle.orders.specs.Laws.Folding as F
 use Rattle.c_cards.specs.Orders.{command_answer_on, command_state_on, order_answer_on, order_answers_on, order_state_on, orders_on}
 use Rattle.c_cards.specs.Theorems.Ordered.{turns_length}
-
-pub no_kind : (k : ℕ) → (k ≡ 0 → ⊥) → (k ≡ 1 → ⊥) → (k ≡ 2 → ⊥) → (k ≡ 3 → ⊥) → ltb 3 k ≡ true
-no_kind k a b c d = lt-ltb 3 k (omega arith)
 
 -- ---- the loop: the bytes and the answers after i commands
 module _ (s₀ : List ℕ) (cs : List (List ℕ)) where

@@ -1,0 +1,22 @@
+-- The call meets its contract: 9, 1, 9, and then the group's board that goes out.
+-- Refused by its state or its length nothing is written. Otherwise the state is a card's (`opened`), and what is put is the definition's bytes (`shown-done`).
+use Rattle.c_cards.proofs.TwoGroups.{opened, shown_shut, shown_room, shown_done, outgoing_own}
+use native.Mathlib.Omega.{arith}
+use mathlib.Core.Path.{◌∙◌}
+use Rattle.c_cards.proofs.card_calls.levelspruce_card_board_going.Goals as goal
+
+pub returns-then-first-ne0 : goal.returns-then-first-ne0
+returns-then-first-ne0 c =
+    shown_shut c.args.state.now c.args.group _ c.refusal-first.ensures c.if-first-ne0.true 130 _ _
+
+pub returns-then-board-ne-BOARD_BYTES : goal.returns-then-board-ne-BOARD_BYTES
+returns-then-board-ne-BOARD_BYTES c =
+    shown_room c.args.state.now c.args.group (opened c.args.state.now c.args.group _ c.refusal-first.ensures c.if-first-ne0.false) 130 _ _ c.if-board-ne-BOARD_BYTES.true
+
+pub own_card-card-requires : goal.own_card-card-requires
+own_card-card-requires c =
+    (opened c.args.state.now c.args.group _ c.refusal-first.ensures c.if-first-ne0.false).sized
+
+pub returns : goal.returns
+returns c =
+    shown_done c.args.state.now c.args.group (opened c.args.state.now c.args.group _ c.refusal-first.ensures c.if-first-ne0.false) 130 _ _ _ c.if-board-ne-BOARD_BYTES.false (c.put_board.ensures ∙ outgoing_own c.args.state.now c.args.group (opened c.args.state.now c.args.group _ c.refusal-first.ensures c.if-first-ne0.false) _ c.own_card-card.ensures _ c.outgoing-shown.ensures)

@@ -1,0 +1,22 @@
+-- The call meets its contract: 9, 1, 9, and then the ranks of the group's epoch.
+-- Refused by its state or its length nothing is written. Otherwise the state is a card's (`opened`), and what is put is the definition's bytes (`shown-done`).
+use Rattle.c_cards.proofs.TwoGroups.{opened, shown_shut, shown_room, shown_done, ranks_own}
+use native.Mathlib.Omega.{arith}
+use mathlib.Core.Path.{◌∙◌}
+use Rattle.c_cards.proofs.card_calls.levelspruce_card_ranks.Goals as goal
+
+pub returns-then-first-ne0 : goal.returns-then-first-ne0
+returns-then-first-ne0 c =
+    shown_shut c.args.state.now c.args.group _ c.refusal-first.ensures c.if-first-ne0.true 68 _ _
+
+pub returns-then-ranks-ne-RANKS_BYTES : goal.returns-then-ranks-ne-RANKS_BYTES
+returns-then-ranks-ne-RANKS_BYTES c =
+    shown_room c.args.state.now c.args.group (opened c.args.state.now c.args.group _ c.refusal-first.ensures c.if-first-ne0.false) 68 _ _ c.if-ranks-ne-RANKS_BYTES.true
+
+pub own_card-card-requires : goal.own_card-card-requires
+own_card-card-requires c =
+    (opened c.args.state.now c.args.group _ c.refusal-first.ensures c.if-first-ne0.false).sized
+
+pub returns : goal.returns
+returns c =
+    shown_done c.args.state.now c.args.group (opened c.args.state.now c.args.group _ c.refusal-first.ensures c.if-first-ne0.false) 68 _ _ _ c.if-ranks-ne-RANKS_BYTES.false (c.put_ranks.ensures ∙ ranks_own c.args.state.now c.args.group (opened c.args.state.now c.args.group _ c.refusal-first.ensures c.if-first-ne0.false) _ c.own_card-card.ensures _ c.ranks-shown.ensures)

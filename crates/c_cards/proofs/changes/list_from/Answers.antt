@@ -1,0 +1,18 @@
+use mathlib.Core.Path.{◌≡◌, refl}
+use Prim.Native.Nat.{◌≤◌, ◌-◌}
+use native.Mathlib.Omega.{arith}
+use lib.ListN.{length}
+use Rattle.ground.specs.Counting.Each.{Done, done_more, done_none}
+use Rattle.c_cards.specs.Changes.{change_from, list_from}
+use Rattle.c_face.proofs.Wholes.{done_whole}
+use Rattle.c_cards.proofs.changes.list_from.Goals as goal
+
+pub loop-i-init : goal.loop-i-init
+loop-i-init c = (refl, omega arith, done_none _ _)
+
+pub loop-i-preserved : goal.loop-i-preserved
+loop-i-preserved c = (c.loop-i.invariant.0, omega arith, done_more _ c.loop-i.invariant.2 c.change_from-change.ensures)
+
+pub returns : goal.returns
+unfolding list_from
+returns c = done_whole c.loop-i.invariant.2 (omega arith) c.loop-i.invariant.0

@@ -1,0 +1,23 @@
+-- The call meets its contract: 9 for each of two lengths, 2 for a wait that is none, then what speaking in runs answers; under 0 `written` is set.
+-- Each exit cites one law of Telling, in the order of the tests.
+use Rattle.c_cards.proofs.Telling.{runs_bytes, runs_first, runs_is, runs_refusal, runs_second, runs_told, runs_wait}
+use native.Mathlib.Omega.{arith}
+use Rattle.c_cards.proofs.runs.levelspruce_board_speak_runs.Goals as goal
+
+pub returns-then-changes-ne-CHANGES_BYTES : goal.returns-then-changes-ne-CHANGES_BYTES
+returns-then-changes-ne-CHANGES_BYTES c = runs_first _ _ _ c.if-changes-ne-CHANGES_BYTES.true
+
+pub returns-then-text-lt-SPEECH_ROOM : goal.returns-then-text-lt-SPEECH_ROOM
+returns-then-text-lt-SPEECH_ROOM c = runs_second _ _ _ c.if-changes-ne-CHANGES_BYTES.false c.if-text-lt-SPEECH_ROOM.true
+
+pub returns-then-changes-ge3 : goal.returns-then-changes-ge3
+returns-then-changes-ge3 c =
+    runs_wait _ _ _ c.if-changes-ne-CHANGES_BYTES.false c.if-text-lt-SPEECH_ROOM.false c.if-changes-ge3.true
+
+pub returns-then-number-ne0 : goal.returns-then-number-ne0
+returns-then-number-ne0 c =
+    runs_refusal _ _ _ c.if-changes-ne-CHANGES_BYTES.false c.if-text-lt-SPEECH_ROOM.false c.if-changes-ge3.false _ _ _ (runs_is _ _ _ _ c.changes_from-told.ensures c.speak_runs-speech.ensures.0) c.number-number.ensures (runs_bytes _ _ _ _ c.changes_from-told.ensures c.speak_runs-speech.ensures.1) c.if-number-ne0.true
+
+pub returns : goal.returns
+returns c =
+    runs_told _ _ _ c.if-changes-ne-CHANGES_BYTES.false c.if-text-lt-SPEECH_ROOM.false c.if-changes-ge3.false _ _ _ (runs_is _ _ _ _ c.changes_from-told.ensures c.speak_runs-speech.ensures.0) c.number-number.ensures (runs_bytes _ _ _ _ c.changes_from-told.ensures c.speak_runs-speech.ensures.1) c.if-number-ne0.false
