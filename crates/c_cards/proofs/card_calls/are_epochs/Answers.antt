@@ -1,5 +1,4 @@
 use mathlib.Core.Path.{refl}
-use native.Mathlib.Omega.{arith}
 use Rattle.c_cards.proofs.card_calls.are_epochs.Goals as goal
 
 pub returns : goal.returns

@@ -1,5 +1,4 @@
 use Rattle.c_cards.proofs.TwoGroups.{keep_refused, keep_done}
-use native.Mathlib.Omega.{arith}
 use Rattle.c_cards.proofs.card_calls.keep.Goals as goal
 
 pub returns-then-number-ne0 : goal.returns-then-number-ne0

@@ -1,8 +1,7 @@
 -- The call meets its contract: 9, 1, and then what the group's sender answers.
--- Refused, the state is as given (`call-shut`). Otherwise the state is a card's (`opened`), and of what it is afterwards the owner row and the group's part are written (`call_kept`).
+-- Refused, the state is as given (`call_shut`). Otherwise the state is a card's (`opened`), and of what it is afterwards the owner row and the group's part are written (`call_kept`).
 use Rattle.c_cards.proofs.TwoGroups.{opened, call_shut, call_kept}
 use Rattle.cards.specs.Calls.Call.{Lapse}
-use native.Mathlib.Omega.{arith}
 use mathlib.Core.Bool.{true}
 use mathlib.Core.Path.{refl}
 use Rattle.c_cards.proofs.card_calls.levelspruce_card_lapse.Goals as goal

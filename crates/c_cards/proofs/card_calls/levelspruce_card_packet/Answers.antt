@@ -1,5 +1,5 @@
 -- The call meets its contract: 9, 1, and then what the card answers and writes.
--- The state is only read: behind the refusals it is a card's (`opened`), and the packet by the slot's owner and the group's own part is the one of that card (`packet-by`).
+-- The state is only read: behind the refusals it is a card's (`opened`), and the packet by the slot's owner and the group's own part is the one of that card (`packet_by`).
 use native.Mathlib.Omega.{arith}
 use Rattle.c_cards.proofs.TwoGroups.{first_at, opened, packet_by, packet_shut, read_part, second_at}
 use Rattle.c_cards.proofs.card_calls.levelspruce_card_packet.Goals as goal

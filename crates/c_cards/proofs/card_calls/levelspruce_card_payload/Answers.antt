@@ -1,7 +1,6 @@
 -- The call meets its contract: 9, 1, and then what the card answers and writes.
 -- The state is only read: behind the refusals it is a card's (`opened`), and the payload is the one of that card.
 use Rattle.c_cards.proofs.TwoGroups.{opened, payload_shut, payload_own}
-use native.Mathlib.Omega.{arith}
 use Rattle.c_cards.proofs.card_calls.levelspruce_card_payload.Goals as goal
 
 pub returns-then-first-ne0 : goal.returns-then-first-ne0

@@ -1,7 +1,6 @@
 -- The call meets its contract: 9, 1, 9, and then the ranks of the group's epoch.
--- Refused by its state or its length nothing is written. Otherwise the state is a card's (`opened`), and what is put is the definition's bytes (`shown-done`).
+-- Refused by its state or its length nothing is written. Otherwise the state is a card's (`opened`), and what is put is the definition's bytes (`shown_done`).
 use Rattle.c_cards.proofs.TwoGroups.{opened, shown_shut, shown_room, shown_done, ranks_own}
-use native.Mathlib.Omega.{arith}
 use mathlib.Core.Path.{◌∙◌}
 use Rattle.c_cards.proofs.card_calls.levelspruce_card_ranks.Goals as goal
 

@@ -1,11 +1,9 @@
 -- The call meets its contract: 9, 1, 8 for a number that is no byte, and then what the group's sender answers.
--- Refused, the state is as given (`call-shut`). Otherwise the state is a card's (`opened`), and of what it is afterwards the owner row and the group's part are written (`call_kept`).
+-- Refused, the state is as given (`call_shut`). Otherwise the state is a card's (`opened`), and of what it is afterwards the owner row and the group's part are written (`call_kept`).
 use Rattle.c_face.proofs.SenderCalls.{Three, three_said}
 use Rattle.c_cards.proofs.TwoGroups.{opened, call_shut, call_unfit, call_kept}
 use Rattle.c_face.specs.Senders.{are_bytes}
 use Rattle.cards.specs.Calls.Call.{Report}
-use native.Mathlib.Omega.{arith}
-use borrow.Author.Tests.{not-true, not-false}
 use mathlib.Core.Path.{◌∙◌, sym}
 use Rattle.c_cards.proofs.card_calls.levelspruce_card_report.Goals as goal
 

@@ -1,4 +1,3 @@
-use native.Mathlib.Omega.{arith}
 use Rattle.c_cards.proofs.card_calls.levelspruce_card_start.Goals as goal
 
 pub returns : goal.returns

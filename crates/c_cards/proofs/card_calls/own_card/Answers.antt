@@ -1,5 +1,4 @@
 use Rattle.c_cards.proofs.TwoGroups.{card_alone}
-use native.Mathlib.Omega.{arith}
 use Rattle.c_cards.proofs.card_calls.own_card.Goals as goal
 
 pub returns : goal.returns

@@ -1,8 +1,6 @@
-use mathlib.Core.Path.{◌≡◌, refl}
-use Prim.Native.Nat.{◌≤◌, ◌-◌}
+use mathlib.Core.Path.{refl}
 use native.Mathlib.Omega.{arith}
-use lib.ListN.{length, get_or}
-use Rattle.ground.specs.Counting.Each.{Done, done_none, done_more}
+use Rattle.ground.specs.Counting.Each.{done_none, done_more}
 use Rattle.c_cards.specs.Cards.{owners_in}
 use Rattle.c_face.proofs.Wholes.{done_whole}
 use Rattle.c_cards.proofs.card_calls.owners_in.Goals as goal

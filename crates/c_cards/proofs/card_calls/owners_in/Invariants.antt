@@ -1,11 +1,8 @@
 -- The owner row is the state's first 64 bytes: after i turns the first i places are read (`Done`), and after 64 the whole table.
-use mathlib.Core.Path.{◌≡◌, refl}
+use mathlib.Core.Path.{◌≡◌}
 use Prim.Native.Nat.{◌≤◌, ◌-◌}
-use native.Mathlib.Omega.{arith}
 use lib.ListN.{length, get_or}
-use Rattle.ground.specs.Counting.Each.{Done, done_none, done_more}
-use Rattle.c_cards.specs.Cards.{owners_in}
-use Rattle.c_face.proofs.Wholes.{done_whole}
+use Rattle.ground.specs.Counting.Each.{Done}
 use Rattle.c_cards.proofs.card_calls.owners_in.Given as goal
 
 abbrev pub invariant-loop-i : goal.invariant-loop-i

@@ -1,6 +1,5 @@
 -- `packet_in` meets its contract: 1 or 14 where the slot is refused, else what the group's sender answers and writes.
 use mathlib.Core.Path.{ap, ◌∙◌}
-use native.Mathlib.Omega.{arith}
 use Rattle.sender.specs.Table.{answer_number as sender_number}
 use Rattle.c_cards.specs.Laws.Slots.{slot_refused, slot_taken}
 use Rattle.c_cards.proofs.card_calls.packet_in.Goals as goal

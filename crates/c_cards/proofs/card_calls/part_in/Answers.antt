@@ -1,4 +1,4 @@
--- Each of the two parts of a card's state, cut out by its ends, is the definition's part of the group (`read-part`), and the sender is read of it.
+-- Each of the two parts of a card's state, cut out by its ends, is the definition's part of the group (`read_part`), and the sender is read of it.
 -- A group other than 0 has the second part.
 use Rattle.c_cards.proofs.TwoGroups.{first_at, second_at, read_part}
 use Rattle.c_face.specs.Keeping.{sender_of}

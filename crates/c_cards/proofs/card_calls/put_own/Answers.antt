@@ -1,7 +1,6 @@
--- The owner row over the first 64 bytes, then the group's part over its own: the definition's two fillings in the same order (`own-whole`).
+-- The owner row over the first 64 bytes, then the group's part over its own: the definition's two fillings in the same order (`own_whole`).
 use Rattle.c_cards.proofs.TwoGroups.{own_whole}
-use borrow.Author.Rules.{rules}
-use lib.ListN.{length, length-map}
+use lib.ListN.{length}
 use mathlib.Core.Path.{◌≡◌}
 use native.Mathlib.Omega.{arith}
 use Rattle.c_cards.proofs.card_calls.put_own.Goals as goal

@@ -1,4 +1,4 @@
--- A sender put into the part lent, cut out by its ends, fills the state from the part's place on and leaves the rest (`write-part`), for each group.
+-- A sender put into the part lent, cut out by its ends, fills the state from the part's place on and leaves the rest (`write_part`), for each group.
 use Rattle.c_cards.proofs.TwoGroups.{first_at, second_at, write_part}
 use native.Mathlib.Omega.{arith}
 use Rattle.c_cards.proofs.card_calls.put_part.Goals as goal

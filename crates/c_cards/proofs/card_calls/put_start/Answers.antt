@@ -1,6 +1,5 @@
--- The card as started is put once for each group: the owner row and both parts are then all of it (`start-put`).
+-- The card as started is put once for each group: the owner row and both parts are then all of it (`start_put`).
 use Rattle.c_cards.proofs.TwoGroups.{start_put}
-use native.Mathlib.Omega.{arith}
 use Rattle.c_cards.proofs.card_calls.put_start.Goals as goal
 
 pub returns : goal.returns

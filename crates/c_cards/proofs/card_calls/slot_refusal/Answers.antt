@@ -1,6 +1,5 @@
 -- Three exits are the three cases of the definition, in its order: 1 for a slot beyond the count, 0 for the group's own, 14 for any other.
 use mathlib.Core.Path.{◌∙◌, refl, sym}
-use native.Mathlib.Omega.{arith}
 use borrow.Author.Tests.{eq-eqb, le-ltb, lt-ltb, ne_eqb}
 use Rattle.sender.specs.Table.{slot_count}
 use Rattle.c_cards.proofs.card_calls.slot_refusal.Goals as goal

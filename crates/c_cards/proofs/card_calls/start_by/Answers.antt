@@ -1,7 +1,5 @@
 -- Five exits, one for each way through the length, the kind with the count, and the first epochs; under 4 with a right length an empty card is written. Each cites its law of TwoGroups.
 use mathlib.Core.Path.{◌∙◌, sym}
-use native.Mathlib.Omega.{arith}
-use borrow.Author.Tests.{not-true, not-false}
 use Rattle.c_face.proofs.SenderCalls.{epoch_byte, kind_byte}
 use Rattle.c_cards.proofs.TwoGroups.{start_none, start_length, start_outside, start_unfit, start_done}
 use Rattle.ground.specs.Truth.{and_left, and_right}

@@ -1,6 +1,5 @@
 use mathlib.Core.Path.{refl}
 use Rattle.c_cards.specs.Changes.{changes_from}
-use native.Mathlib.Omega.{arith}
 use Rattle.c_cards.proofs.changes.changes_from.Goals as goal
 
 pub returns : goal.returns

@@ -5,7 +5,6 @@ use Rattle.spoken.specs.Changes.{answer_number}
 use Rattle.spoken.specs.declared.applying.Applied.{Applied}
 use Rattle.c_face.specs.Boards.{board_bytes_of}
 use Rattle.c_cards.proofs.Telling.{applied_both, applied_first, applied_refusal, applied_second, applied_told, applied_wait}
-use native.Mathlib.Omega.{arith}
 use Rattle.c_cards.proofs.changes.levelspruce_board_apply.Goals as goal
 
 pub returns-then-board-ne-BOARD_BYTES : goal.returns-then-board-ne-BOARD_BYTES

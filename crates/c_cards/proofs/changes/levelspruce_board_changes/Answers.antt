@@ -5,7 +5,6 @@ use Rattle.spoken.specs.Changes.{answer_number}
 use Rattle.spoken.specs.declared.comparing.Compared.{Compared}
 use Rattle.c_cards.specs.Changes.{changes_bytes_of}
 use Rattle.c_cards.proofs.Telling.{compared_first, compared_both, compared_refusal, compared_second, compared_third, compared_told}
-use native.Mathlib.Omega.{arith}
 use Rattle.c_cards.proofs.changes.levelspruce_board_changes.Goals as goal
 
 pub returns-then-before-ne-BOARD_BYTES : goal.returns-then-before-ne-BOARD_BYTES

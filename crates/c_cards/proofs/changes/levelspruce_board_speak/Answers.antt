@@ -1,7 +1,6 @@
 -- The call meets its contract: 9 for each of two lengths, 2 for a wait that is none, and then what speaking answers; under 0 `written` is set.
 -- Each exit cites one law of Telling, in the order of the tests.
 use Rattle.c_cards.proofs.Telling.{spoken_bytes, spoken_first, spoken_is, spoken_refusal, spoken_second, spoken_told, spoken_wait}
-use native.Mathlib.Omega.{arith}
 use Rattle.c_cards.proofs.changes.levelspruce_board_speak.Goals as goal
 
 pub returns-then-changes-ne-CHANGES_BYTES : goal.returns-then-changes-ne-CHANGES_BYTES

@@ -1,9 +1,7 @@
-use mathlib.Core.Path.{◌≡◌, refl}
-use Prim.Native.Nat.{◌≤◌, ◌-◌}
+use mathlib.Core.Path.{refl}
 use native.Mathlib.Omega.{arith}
-use lib.ListN.{length}
-use Rattle.ground.specs.Counting.Each.{Done, done_more, done_none}
-use Rattle.c_cards.specs.Changes.{change_from, list_from}
+use Rattle.ground.specs.Counting.Each.{done_more, done_none}
+use Rattle.c_cards.specs.Changes.{list_from}
 use Rattle.c_face.proofs.Wholes.{done_whole}
 use Rattle.c_cards.proofs.changes.list_from.Goals as goal
 

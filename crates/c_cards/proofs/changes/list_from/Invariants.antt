@@ -1,11 +1,9 @@
 -- After i turns the first i changes are read of the bytes (`Done`), and after 64 the whole list, so that nothing of the blank one is left.
-use mathlib.Core.Path.{◌≡◌, refl}
+use mathlib.Core.Path.{◌≡◌}
 use Prim.Native.Nat.{◌≤◌, ◌-◌}
-use native.Mathlib.Omega.{arith}
 use lib.ListN.{length}
-use Rattle.ground.specs.Counting.Each.{Done, done_more, done_none}
-use Rattle.c_cards.specs.Changes.{change_from, list_from}
-use Rattle.c_face.proofs.Wholes.{done_whole}
+use Rattle.ground.specs.Counting.Each.{Done}
+use Rattle.c_cards.specs.Changes.{change_from}
 use Rattle.c_cards.proofs.changes.list_from.Given as goal
 
 abbrev pub invariant-loop-i : goal.invariant-loop-i

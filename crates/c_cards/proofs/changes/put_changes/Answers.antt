@@ -1,5 +1,4 @@
 use Rattle.c_cards.proofs.Telling.{changes_whole}
-use native.Mathlib.Omega.{arith}
 use Rattle.c_cards.proofs.changes.put_changes.Goals as goal
 
 pub returns : goal.returns

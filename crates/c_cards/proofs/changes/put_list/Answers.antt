@@ -1,9 +1,6 @@
 use mathlib.Core.Path.{◌≡◌}
-use Prim.Native.Nat.{◌*◌, ◌≤◌, ◌-◌}
 use native.Mathlib.Omega.{arith}
-use lib.ListN.{length}
-use Rattle.ground.specs.Drawn.{Filling, filling_none}
-use Rattle.c_cards.specs.Changes.{list_byte}
+use Rattle.ground.specs.Drawn.{filling_none}
 use Rattle.c_cards.proofs.Telling.{five_more}
 use Rattle.c_cards.proofs.changes.put_list.Goals as goal
 

@@ -1,11 +1,9 @@
--- After i turns the first i changes stand as five bytes each, behind the two of the head (`Filling`); five more are the next change (`five-more`).
+-- After i turns the first i changes stand as five bytes each, behind the two of the head (`Filling`); five more are the next change (`five_more`).
 use mathlib.Core.Path.{◌≡◌}
 use Prim.Native.Nat.{◌*◌, ◌≤◌, ◌-◌}
-use native.Mathlib.Omega.{arith}
 use lib.ListN.{length}
-use Rattle.ground.specs.Drawn.{Filling, filling_none}
+use Rattle.ground.specs.Drawn.{Filling}
 use Rattle.c_cards.specs.Changes.{list_byte}
-use Rattle.c_cards.proofs.Telling.{five_more}
 use Rattle.c_cards.proofs.changes.put_list.Given as goal
 
 abbrev pub invariant-loop-i : goal.invariant-loop-i

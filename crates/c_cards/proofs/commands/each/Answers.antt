@@ -1,8 +1,7 @@
 use mathlib.Core.Path.{◌≡◌, refl}
-use Prim.Native.Nat.{◌-◌, ◌≤◌}
 use native.Mathlib.Omega.{arith}
 use lib.ListN.{length}
-use Rattle.c_cards.proofs.Ordering.{bytes_all, bytes_length, bytes_next, bytes_at, in_list, list_all, list_length, list_next, list_at}
+use Rattle.c_cards.proofs.Ordering.{bytes_all, bytes_length, bytes_next, in_list, list_all, list_length, list_next}
 use Rattle.c_cards.proofs.commands.each.Goals as goal
 
 pub loop-i-init : goal.loop-i-init

@@ -1,10 +1,9 @@
 -- `each` meets its contract: every command of the list on the state, and its answer at its place.
--- Behind i commands the state and the answers are those of the first i (`bytes_at`, `listAt`); a turn adds the next one, and at the end it is all of them.
-use mathlib.Core.Path.{◌≡◌, refl}
+-- Behind i commands the state and the answers are those of the first i (`bytes_at`, `list_at`); a turn adds the next one, and at the end it is all of them.
+use mathlib.Core.Path.{◌≡◌}
 use Prim.Native.Nat.{◌-◌, ◌≤◌}
-use native.Mathlib.Omega.{arith}
 use lib.ListN.{length}
-use Rattle.c_cards.proofs.Ordering.{bytes_all, bytes_length, bytes_next, bytes_at, in_list, list_all, list_length, list_next, list_at}
+use Rattle.c_cards.proofs.Ordering.{bytes_at, list_at}
 use Rattle.c_cards.proofs.commands.each.Given as goal
 
 abbrev pub invariant-loop-i : goal.invariant-loop-i

@@ -1,6 +1,5 @@
 -- The call meets its contract: 9 for the state, 9 for lists of different lengths, and then every command with its answer.
 -- Each exit cites one law of Ordering, in the order of the tests.
-use native.Mathlib.Omega.{arith}
 use Rattle.c_cards.proofs.Ordering.{order_done, order_unequal, order_unsized}
 use Rattle.c_cards.proofs.commands.levelspruce_card_order.Goals as goal
 

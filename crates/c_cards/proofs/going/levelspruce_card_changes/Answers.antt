@@ -1,6 +1,5 @@
 -- The call meets its contract: 9, 1, and then what is told of the board going out of the group's sender.
 -- Behind both refusals the state is a card's (`opened`).
-use native.Mathlib.Omega.{arith}
 use Rattle.c_cards.proofs.Tells.{card_shut, card_tells}
 use Rattle.c_cards.proofs.TwoGroups.{opened}
 use Rattle.c_cards.proofs.going.levelspruce_card_changes.Goals as goal

@@ -1,5 +1,4 @@
 -- The call meets its contract: 9 for the state, and then what is told of the board going out of the sender in it.
-use native.Mathlib.Omega.{arith}
 use Rattle.c_cards.proofs.Tells.{sender_shut, sender_tells}
 use Rattle.c_cards.proofs.going.levelspruce_sender_changes.Goals as goal
 

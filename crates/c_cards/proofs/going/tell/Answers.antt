@@ -1,6 +1,5 @@
 -- The board told and the changes, each of its length, then what comparing answers; under 0 both are written.
 -- Each exit cites one law of Tells, in the order of the tests.
-use native.Mathlib.Omega.{arith}
 use Rattle.c_cards.proofs.Tells.{tell_done, tell_first, tell_refusal, tell_second, told_compared}
 use Rattle.c_cards.proofs.going.tell.Goals as goal
 

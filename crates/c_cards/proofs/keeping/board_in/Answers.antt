@@ -1,5 +1,4 @@
 use mathlib.Core.Path.{◌∙◌}
-use borrow.Author.Rules.{rules}
 use Rattle.c_face.specs.Laws.Sharing.{board_there, room}
 use Rattle.c_cards.proofs.keeping.board_in.Goals as goal
 

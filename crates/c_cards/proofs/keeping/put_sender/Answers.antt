@@ -1,5 +1,4 @@
 use mathlib.Core.Path.{◌∙◌}
-use borrow.Author.Rules.{rules}
 use Rattle.c_face.specs.Laws.Sharing.{sized}
 use Rattle.c_cards.proofs.keeping.put_sender.Goals as goal
 

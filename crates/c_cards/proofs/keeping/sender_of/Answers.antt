@@ -1,5 +1,4 @@
 use mathlib.Core.Path.{◌∙◌, ap}
-use borrow.Author.Rules.{rules}
 use Rattle.c_face.specs.Keeping.{sender_of}
 use Rattle.c_face.specs.Laws.Sharing.{themselves}
 use Rattle.c_cards.proofs.keeping.sender_of.Goals as goal

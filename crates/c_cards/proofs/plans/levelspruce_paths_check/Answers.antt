@@ -1,11 +1,9 @@
 -- The call meets its contract: 4, 9, and then whether the proposal is accepted.
--- Under 4 and 9 the byte is as given; otherwise it is written by `lent-done`.
+-- Under 4 and 9 the byte is as given; otherwise it is written by `lent_done`.
 use mathlib.Core.Path.{◌∙◌, ap}
 use Rattle.ground.specs.Flags.{one_if}
 use Rattle.paths.specs.declared.checking.Checked.{Checked}
 use Rattle.c_cards.proofs.Planning.{check_number, lent_done, lent_refused, lent_short, one_byte}
-use native.Mathlib.Omega.{arith}
-use borrow.Author.Rules.{rules}
 use Rattle.c_cards.proofs.plans.levelspruce_paths_check.Goals as goal
 
 pub returns-then-number-ne0 : goal.returns-then-number-ne0

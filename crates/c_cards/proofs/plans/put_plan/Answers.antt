@@ -1,9 +1,8 @@
--- The count and then the 64 paths fill the whole buffer, so that nothing of the old one is left (`plan-whole`).
+-- The count and then the 64 paths fill the whole buffer, so that nothing of the old one is left (`plan_whole`).
 use mathlib.Core.Path.{◌≡◌}
 use native.Mathlib.Omega.{arith}
-use lib.ListN.{length, length-map}
+use lib.ListN.{length}
 use Rattle.c_cards.proofs.Planning.{plan_whole}
-use borrow.Author.Rules.{rules}
 use Rattle.c_cards.proofs.plans.put_plan.Goals as goal
 
 pub put_bytes-requires-2 : goal.put_bytes-requires-2

@@ -1,7 +1,6 @@
 -- The call meets its contract: 9 for each of two lengths, 2 for a wait that is none, then what speaking in runs answers; under 0 `written` is set.
 -- Each exit cites one law of Telling, in the order of the tests.
 use Rattle.c_cards.proofs.Telling.{runs_bytes, runs_first, runs_is, runs_refusal, runs_second, runs_told, runs_wait}
-use native.Mathlib.Omega.{arith}
 use Rattle.c_cards.proofs.runs.levelspruce_board_speak_runs.Goals as goal
 
 pub returns-then-changes-ne-CHANGES_BYTES : goal.returns-then-changes-ne-CHANGES_BYTES

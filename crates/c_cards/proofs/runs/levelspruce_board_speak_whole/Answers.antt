@@ -1,7 +1,6 @@
 -- The call meets its contract: 9 for each of two lengths, and then what speaking the board answers; under 0 `written` is set.
 -- Each exit cites one law of WholeBoards, in the order of the tests.
 use Rattle.c_cards.proofs.WholeBoards.{whole_bytes, whole_first, whole_is, whole_refusal, whole_second, whole_told}
-use native.Mathlib.Omega.{arith}
 use Rattle.c_cards.proofs.runs.levelspruce_board_speak_whole.Goals as goal
 
 pub returns-then-board-ne-BOARD_BYTES : goal.returns-then-board-ne-BOARD_BYTES
