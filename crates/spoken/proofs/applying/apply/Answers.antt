@@ -1,7 +1,5 @@
 use mathlib.Core.Path.{sym, ◌∙◌}
-use borrow.Author.Tests.{not-false, not-true}
 use Rattle.spoken.proofs.Fitting.{applied_done, applied_refused, fit_count, fit_slots}
-use borrow.Author.Rules.{rules}
 use Rattle.spoken.proofs.applying.apply.Goals as goal
 
 pub returns-then-not-does_fit : goal.returns-then-not-does_fit

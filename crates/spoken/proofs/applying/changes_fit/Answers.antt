@@ -1,10 +1,7 @@
 use mathlib.Core.Path.{◌≡◌, refl}
-use Prim.Native.Nat.{◌≤◌, ◌-◌}
 use native.Mathlib.Omega.{arith}
-use lib.ListN.{length}
 use Rattle.spoken.specs.Applying.{changes_fit}
 use Rattle.spoken.proofs.Fitting.{fit_more}
-use borrow.Author.Rules.{rules}
 use Rattle.spoken.proofs.applying.changes_fit.Goals as goal
 
 pub loop-k-init : goal.loop-k-init

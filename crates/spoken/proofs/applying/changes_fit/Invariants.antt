@@ -1,11 +1,8 @@
 -- `changes_fit` meets its contract. By the loop: whether the first k changes fit.
-use mathlib.Core.Path.{◌≡◌, refl}
+use mathlib.Core.Path.{◌≡◌}
 use Prim.Native.Nat.{◌≤◌, ◌-◌}
-use native.Mathlib.Omega.{arith}
 use lib.ListN.{length}
 use Rattle.spoken.specs.Applying.{changes_fit}
-use Rattle.spoken.proofs.Fitting.{fit_more}
-use borrow.Author.Rules.{rules}
 use Rattle.spoken.proofs.applying.changes_fit.Given as goal
 
 abbrev pub invariant-loop-k : goal.invariant-loop-k

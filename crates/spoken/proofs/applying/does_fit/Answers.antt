@@ -1,6 +1,4 @@
-use borrow.Author.Tests.{not-false, not-true}
 use Rattle.spoken.proofs.Fitting.{fits_by_each, fits_not, sized_board, sized_changes}
-use borrow.Author.Rules.{rules}
 use Rattle.spoken.proofs.applying.does_fit.Goals as goal
 
 pub returns-then-not-sized : goal.returns-then-not-sized

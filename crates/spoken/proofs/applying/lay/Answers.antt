@@ -1,10 +1,6 @@
 use mathlib.Core.Path.{◌≡◌, refl}
-use Prim.Native.Nat.{◌≤◌, ◌-◌}
 use native.Mathlib.Omega.{arith}
-use lib.ListN.{length}
-use Rattle.spoken.specs.Applying.{laid_to}
 use Rattle.spoken.proofs.Fitting.{laid_length, laid_more}
-use borrow.Author.Rules.{rules}
 use Rattle.spoken.proofs.applying.lay.Goals as goal
 
 pub loop-k-init : goal.loop-k-init

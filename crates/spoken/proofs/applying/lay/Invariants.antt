@@ -1,11 +1,8 @@
 -- `lay` meets its contract. By the loop: the first k changes are laid on the rows.
-use mathlib.Core.Path.{◌≡◌, refl}
+use mathlib.Core.Path.{◌≡◌}
 use Prim.Native.Nat.{◌≤◌, ◌-◌}
-use native.Mathlib.Omega.{arith}
 use lib.ListN.{length}
 use Rattle.spoken.specs.Applying.{laid_to}
-use Rattle.spoken.proofs.Fitting.{laid_length, laid_more}
-use borrow.Author.Rules.{rules}
 use Rattle.spoken.proofs.applying.lay.Given as goal
 
 abbrev pub invariant-loop-k : goal.invariant-loop-k

@@ -1,9 +1,7 @@
 -- `changes_between` meets its contract: 4 for boards of different counts or more than 64 slots, and otherwise the changes of all slots.
 -- One test refuses both; behind it `changes_in` has the list, and refused it is asked for no slot at all.
-use borrow.Author.Tests.{not-false, not-true}
 use Rattle.spoken.specs.Theorems.Exactly.{comparable_said}
 use Rattle.spoken.proofs.Listing.{compared_done, compared_refused}
-use borrow.Author.Rules.{rules}
 use Rattle.spoken.proofs.comparing.changes_between.Goals as goal
 
 pub returns-then-not-fits : goal.returns-then-not-fits

@@ -1,10 +1,7 @@
 use mathlib.Core.Path.{◌≡◌}
 use mathlib.Core.Bool.{not}
-use Prim.Native.Nat.{◌≤◌, ◌-◌}
 use native.Mathlib.Omega.{arith}
-use lib.ListN.{length}
-use Rattle.spoken.proofs.Listing.{Listing, listing_all, listing_more, listing_none, one_le}
-use borrow.Author.Rules.{rules}
+use Rattle.spoken.proofs.Listing.{listing_all, listing_more, listing_none, one_le}
 use Rattle.spoken.proofs.comparing.changes_in.Goals as goal
 
 pub loop-i-init : goal.loop-i-init

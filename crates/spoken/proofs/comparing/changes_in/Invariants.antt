@@ -1,11 +1,8 @@
 -- `changes_in` meets its contract. By the loop: the list has the changes of the first i slots in front and nothing behind them, and so many are counted (`Listing`).
 use mathlib.Core.Path.{◌≡◌}
-use mathlib.Core.Bool.{not}
 use Prim.Native.Nat.{◌≤◌, ◌-◌}
-use native.Mathlib.Omega.{arith}
 use lib.ListN.{length}
-use Rattle.spoken.proofs.Listing.{Listing, listing_all, listing_more, listing_none, one_le}
-use borrow.Author.Rules.{rules}
+use Rattle.spoken.proofs.Listing.{Listing}
 use Rattle.spoken.proofs.comparing.changes_in.Given as goal
 
 abbrev pub invariant-loop-i : goal.invariant-loop-i

@@ -1,5 +1,4 @@
 use Rattle.spoken.specs.Runs.{continues}
-use borrow.Author.Rules.{rules}
 use Rattle.spoken.proofs.runs.continues.Goals as goal
 
 pub returns : goal.returns

@@ -1,4 +1,3 @@
-use borrow.Author.Rules.{rules}
 use Rattle.spoken.proofs.runs.row_continues.Goals as goal
 
 pub returns : goal.returns

@@ -1,6 +1,5 @@
 use native.Mathlib.Omega.{arith}
 use Rattle.spoken.proofs.Saying.{can_each, cannot_many}
-use borrow.Author.Rules.{rules}
 use Rattle.spoken.proofs.speaking.can_speak.Goals as goal
 
 pub returns-then-changes-gt64 : goal.returns-then-changes-gt64

@@ -1,10 +1,7 @@
 use mathlib.Core.Path.{◌≡◌, refl}
-use Prim.Native.Nat.{◌≤◌, ◌-◌}
 use native.Mathlib.Omega.{arith}
-use lib.ListN.{length}
 use Rattle.spoken.specs.Speaking.{changes_speak}
 use Rattle.spoken.proofs.Saying.{speak_more}
-use borrow.Author.Rules.{rules}
 use Rattle.spoken.proofs.speaking.changes_speak.Goals as goal
 
 pub loop-k-init : goal.loop-k-init

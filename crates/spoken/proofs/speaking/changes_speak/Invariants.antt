@@ -1,11 +1,8 @@
 -- After k turns the answer is whether each of the first k changes can be spoken, with its slot above the one before (`speak_more`).
-use mathlib.Core.Path.{◌≡◌, refl}
+use mathlib.Core.Path.{◌≡◌}
 use Prim.Native.Nat.{◌≤◌, ◌-◌}
-use native.Mathlib.Omega.{arith}
 use lib.ListN.{length}
 use Rattle.spoken.specs.Speaking.{changes_speak}
-use Rattle.spoken.proofs.Saying.{speak_more}
-use borrow.Author.Rules.{rules}
 use Rattle.spoken.proofs.speaking.changes_speak.Given as goal
 
 abbrev pub invariant-loop-k : goal.invariant-loop-k

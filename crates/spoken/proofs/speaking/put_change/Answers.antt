@@ -4,7 +4,6 @@ use lib.ListN.{length}
 use Rattle.text.specs.Laws.Putting.{put_then}
 use Rattle.spoken.specs.Speaking.{change_text, now_text, slot_text, was_text}
 use Rattle.spoken.proofs.Saying.{one_of_three, three_of_three, two_of_three}
-use borrow.Author.Rules.{rules}
 use Rattle.spoken.proofs.speaking.put_change.Goals as goal
 
 pub put_slot-second-requires : goal.put_slot-second-requires

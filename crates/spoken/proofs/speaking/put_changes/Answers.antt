@@ -1,13 +1,8 @@
 use mathlib.Core.Path.{◌≡◌}
-use Prim.Native.Nat.{◌-◌, ◌≤◌}
 use native.Mathlib.Numerals.{add-one}
 use native.Mathlib.Omega.{arith}
-use lib.ListN.{length}
 use Rattle.text.specs.Laws.Putting.{put_then}
-use Rattle.text.specs.Output.{Put}
-use Rattle.spoken.specs.Speaking.{change_lines}
 use Rattle.spoken.proofs.Saying.{change_room}
-use borrow.Author.Rules.{rules}
 use Rattle.spoken.proofs.speaking.put_changes.Goals as goal
 
 pub put_change-at-requires : goal.put_change-at-requires

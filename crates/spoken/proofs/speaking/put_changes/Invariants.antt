@@ -2,14 +2,9 @@
 -- The next line has room, since the room required holds 64 of the longest (`change_room`).
 use mathlib.Core.Path.{◌≡◌}
 use Prim.Native.Nat.{◌-◌, ◌≤◌}
-use native.Mathlib.Numerals.{add-one}
-use native.Mathlib.Omega.{arith}
 use lib.ListN.{length}
-use Rattle.text.specs.Laws.Putting.{put_then}
 use Rattle.text.specs.Output.{Put}
 use Rattle.spoken.specs.Speaking.{change_lines}
-use Rattle.spoken.proofs.Saying.{change_room}
-use borrow.Author.Rules.{rules}
 use Rattle.spoken.proofs.speaking.put_changes.Given as goal
 
 abbrev pub invariant-loop-k : goal.invariant-loop-k

@@ -4,7 +4,6 @@ use Rattle.text.specs.Output.{decimal_text, ended, word_text}
 use Rattle.text.specs.Text.{TAB}
 use Rattle.spoken.specs.Speaking.{row_text}
 use Rattle.spoken.proofs.Saying.{three_put}
-use borrow.Author.Rules.{rules}
 use Rattle.spoken.proofs.speaking.put_row.Goals as goal
 
 pub returns : goal.returns

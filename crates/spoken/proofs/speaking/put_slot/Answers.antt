@@ -3,7 +3,6 @@ use Rattle.text.specs.Output.{decimal_text, ended}
 use Rattle.text.specs.Text.{TAB}
 use Rattle.spoken.specs.Speaking.{slot_text}
 use Rattle.spoken.proofs.Saying.{both_put}
-use borrow.Author.Rules.{rules}
 use Rattle.spoken.proofs.speaking.put_slot.Goals as goal
 
 pub returns : goal.returns

@@ -1,7 +1,6 @@
 -- `put_wait` meets its contract: one of two lines, or none where the wait stays.
 -- Each case of the change has its text by definition, and there is room for it.
 use Rattle.spoken.proofs.Saying.{wait_closed, wait_opened, wait_same}
-use borrow.Author.Rules.{rules}
 use Rattle.spoken.proofs.speaking.put_wait.Goals as goal
 
 pub returns-in-Same : goal.returns-in-Same

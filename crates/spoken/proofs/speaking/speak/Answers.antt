@@ -2,11 +2,9 @@
 -- Changes that can be spoken are at most 64, of slots below 64, so that their lines have room (`said_le`); the wait's line is put behind them.
 use mathlib.Core.Path.{◌∙◌, sym}
 use native.Mathlib.Omega.{arith}
-use borrow.Author.Tests.{not-false, not-true}
 use Rattle.text.specs.Laws.Putting.{put_then}
 use Rattle.spoken.specs.Speaking.{spoken_text}
 use Rattle.spoken.proofs.Saying.{can_count, can_slots, said_le, speak_done, speak_short, speak_unfit, wait_room}
-use borrow.Author.Rules.{rules}
 use Rattle.spoken.proofs.speaking.speak.Goals as goal
 
 pub returns-then-out-lt-SPEECH_ROOM : goal.returns-then-out-lt-SPEECH_ROOM

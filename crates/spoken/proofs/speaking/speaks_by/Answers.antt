@@ -1,4 +1,3 @@
-use borrow.Author.Rules.{rules}
 use Rattle.spoken.proofs.speaking.speaks_by.Goals as goal
 
 pub returns : goal.returns

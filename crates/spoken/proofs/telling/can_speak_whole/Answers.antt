@@ -1,6 +1,5 @@
 use native.Mathlib.Omega.{arith}
 use Rattle.spoken.proofs.InRuns.{can_whole_each, cannot_whole}
-use borrow.Author.Rules.{rules}
 use Rattle.spoken.proofs.telling.can_speak_whole.Goals as goal
 
 pub returns-then-board-gt64 : goal.returns-then-board-gt64

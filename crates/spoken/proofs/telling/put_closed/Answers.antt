@@ -1,5 +1,4 @@
 use Rattle.spoken.proofs.InRuns.{closed_line, closed_none}
-use borrow.Author.Rules.{rules}
 use Rattle.spoken.proofs.telling.put_closed.Goals as goal
 
 pub returns-then-goes : goal.returns-then-goes

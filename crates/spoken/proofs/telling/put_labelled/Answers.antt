@@ -1,6 +1,5 @@
 use Rattle.spoken.specs.SpeakingRuns.{rows_text}
 use Rattle.spoken.proofs.InRuns.{said_room, said_then}
-use borrow.Author.Rules.{rules}
 use Rattle.spoken.proofs.telling.put_labelled.Goals as goal
 
 pub put_rows-requires : goal.put_rows-requires

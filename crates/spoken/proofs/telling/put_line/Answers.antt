@@ -1,6 +1,5 @@
 -- `put_line` meets its contract: a run of a whole board or of changes; each exit is what the call puts.
 use Rattle.spoken.proofs.InRuns.{line_run, line_shown}
-use borrow.Author.Rules.{rules}
 use Rattle.spoken.proofs.telling.put_line.Goals as goal
 
 pub put_shown-requires : goal.put_shown-requires

@@ -3,7 +3,6 @@ use lib.ListN.{length}
 use Rattle.text.specs.Laws.Putting.{put_then}
 use Rattle.spoken.specs.SpeakingRuns.{are_text, many_text, slots_text, were_text}
 use Rattle.spoken.proofs.Saying.{one_of_three, three_of_three, two_of_three}
-use borrow.Author.Rules.{rules}
 use Rattle.spoken.proofs.telling.put_many.Goals as goal
 
 pub put_slots-second-requires : goal.put_slots-second-requires

@@ -2,7 +2,6 @@ use lib.ListN.{length}
 use Rattle.text.specs.Text.{LINE-END}
 use Rattle.text.specs.Laws.Putting.{put_then, room, shorter}
 use Rattle.spoken.specs.SpeakingRuns.{many_shown, rows_text, slots_text}
-use borrow.Author.Rules.{rules}
 use Rattle.spoken.proofs.telling.put_many_shown.Goals as goal
 
 pub put_slots-next-requires : goal.put_slots-next-requires

@@ -5,7 +5,6 @@ use Rattle.text.specs.Text.{TAB}
 use Rattle.text.specs.Laws.Putting.{is_put}
 use Rattle.spoken.proofs.InRuns.{numbers_alike, numbers_to}
 use Rattle.spoken.proofs.Saying.{three_put}
-use borrow.Author.Rules.{rules}
 use Rattle.spoken.proofs.telling.put_numbers.Goals as goal
 
 pub returns-then-first-last : goal.returns-then-first-last

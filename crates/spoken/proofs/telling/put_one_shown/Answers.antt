@@ -4,7 +4,6 @@ use Rattle.text.specs.Text.{LINE-END}
 use Rattle.text.specs.Laws.Putting.{put_then, room, shorter}
 use Rattle.spoken.specs.Speaking.{row_text, slot_text}
 use Rattle.spoken.specs.SpeakingRuns.{one_shown}
-use borrow.Author.Rules.{rules}
 use Rattle.spoken.proofs.telling.put_one_shown.Goals as goal
 
 pub put_slot-next-requires : goal.put_slot-next-requires

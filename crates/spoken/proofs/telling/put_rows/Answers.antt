@@ -4,7 +4,6 @@ use Rattle.text.specs.Text.{TAB}
 use Rattle.text.specs.Laws.Putting.{is_put}
 use Rattle.spoken.specs.SpeakingRuns.{numbers_text}
 use Rattle.spoken.proofs.InRuns.{rows_idle, rows_numbered, said_room, said_then}
-use borrow.Author.Rules.{rules}
 use Rattle.spoken.proofs.telling.put_rows.Goals as goal
 
 pub returns-then-is_unnumbered : goal.returns-then-is_unnumbered

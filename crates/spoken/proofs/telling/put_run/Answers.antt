@@ -1,6 +1,5 @@
 -- `put_run` meets its contract: a run of one change is told as that change, a longer one by `put_many`.
 use Rattle.spoken.proofs.InRuns.{run_one, run_many}
-use borrow.Author.Rules.{rules}
 use Rattle.spoken.proofs.telling.put_run.Goals as goal
 
 pub put_change-requires : goal.put_change-requires

@@ -1,9 +1,5 @@
-use mathlib.Core.Path.{◌≡◌}
-use Prim.Native.Nat.{◌-◌, ◌≤◌}
 use native.Mathlib.Omega.{arith}
-use lib.ListN.{length}
-use Rattle.spoken.proofs.InRuns.{Telling, closed_room, last_room, lines_none, telling_all, telling_more, telling_none}
-use borrow.Author.Rules.{rules}
+use Rattle.spoken.proofs.InRuns.{closed_room, last_room, lines_none, telling_all, telling_more, telling_none}
 use Rattle.spoken.proofs.telling.put_runs.Goals as goal
 
 pub returns-then-n-eq0 : goal.returns-then-n-eq0

@@ -1,10 +1,8 @@
 -- `put_runs` meets its contract. By the loop: the lines of the runs before the open one are put, and the open run has the changes since, up to the k-th (`Telling`). The next change makes it longer or ends it; the last run is put behind the loop.
 use mathlib.Core.Path.{◌≡◌}
 use Prim.Native.Nat.{◌-◌, ◌≤◌}
-use native.Mathlib.Omega.{arith}
 use lib.ListN.{length}
-use Rattle.spoken.proofs.InRuns.{Telling, closed_room, last_room, lines_none, telling_all, telling_more, telling_none}
-use borrow.Author.Rules.{rules}
+use Rattle.spoken.proofs.InRuns.{Telling}
 use Rattle.spoken.proofs.telling.put_runs.Given as goal
 
 abbrev pub invariant-loop-k : goal.invariant-loop-k

@@ -1,6 +1,5 @@
 -- `put_shown` meets its contract: a run of one slot is told as that slot, a longer one by `put_many_shown`.
 use Rattle.spoken.proofs.InRuns.{shown_one, shown_many}
-use borrow.Author.Rules.{rules}
 use Rattle.spoken.proofs.telling.put_shown.Goals as goal
 
 pub put_one_shown-requires : goal.put_one_shown-requires

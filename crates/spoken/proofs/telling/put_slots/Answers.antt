@@ -3,7 +3,6 @@ use Rattle.text.specs.Output.{ended}
 use Rattle.text.specs.Text.{TAB}
 use Rattle.spoken.specs.SpeakingRuns.{numbers_text, slots_text}
 use Rattle.spoken.proofs.InRuns.{said_room, said_then}
-use borrow.Author.Rules.{rules}
 use Rattle.spoken.proofs.telling.put_slots.Goals as goal
 
 pub put_numbers-requires : goal.put_numbers-requires

@@ -4,7 +4,6 @@ use Rattle.text.specs.Text.{LINE-END, TAB}
 use Rattle.ground.specs.Flags.{one_if}
 use Rattle.spoken.specs.SpeakingRuns.{still_waits}
 use Rattle.spoken.proofs.Saying.{both_put}
-use borrow.Author.Rules.{rules}
 use Rattle.spoken.proofs.telling.put_still.Goals as goal
 
 pub returns : goal.returns

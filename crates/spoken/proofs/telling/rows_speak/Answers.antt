@@ -1,10 +1,7 @@
 use mathlib.Core.Path.{◌≡◌, refl}
-use Prim.Native.Nat.{◌-◌, ◌≤◌}
 use native.Mathlib.Omega.{arith}
-use lib.ListN.{length}
 use Rattle.spoken.specs.SpeakingRuns.{rows_speak}
 use Rattle.spoken.proofs.InRuns.{whole_more}
-use borrow.Author.Rules.{rules}
 use Rattle.spoken.proofs.telling.rows_speak.Goals as goal
 
 pub loop-i-init : goal.loop-i-init

@@ -1,11 +1,8 @@
 -- After i turns the answer is whether each of the first i rows has a word that is shown (`whole_more`).
-use mathlib.Core.Path.{◌≡◌, refl}
+use mathlib.Core.Path.{◌≡◌}
 use Prim.Native.Nat.{◌-◌, ◌≤◌}
-use native.Mathlib.Omega.{arith}
 use lib.ListN.{length}
 use Rattle.spoken.specs.SpeakingRuns.{rows_speak}
-use Rattle.spoken.proofs.InRuns.{whole_more}
-use borrow.Author.Rules.{rules}
 use Rattle.spoken.proofs.telling.rows_speak.Given as goal
 
 abbrev pub invariant-loop-i : goal.invariant-loop-i

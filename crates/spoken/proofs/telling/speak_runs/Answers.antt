@@ -1,12 +1,10 @@
 -- `speak_runs` meets its contract: a buffer that is too short, changes that cannot be spoken, else the lines of the runs and that of the wait. Each exit cites one law.
 use mathlib.Core.Path.{◌∙◌, sym}
 use native.Mathlib.Omega.{arith}
-use borrow.Author.Tests.{not-false, not-true}
 use Rattle.text.specs.Laws.Putting.{put_then}
 use Rattle.spoken.specs.SpeakingRuns.{runs_text}
 use Rattle.spoken.proofs.Saying.{can_count}
 use Rattle.spoken.proofs.InRuns.{runs_done, runs_room, runs_short, runs_unfit, wait_behind}
-use borrow.Author.Rules.{rules}
 use Rattle.spoken.proofs.telling.speak_runs.Goals as goal
 
 pub returns-then-out-lt-SPEECH_ROOM : goal.returns-then-out-lt-SPEECH_ROOM

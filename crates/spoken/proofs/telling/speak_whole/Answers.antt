@@ -1,11 +1,9 @@
 -- `speak_whole` meets its contract: a buffer that is too short, a board that cannot be spoken, else the lines of its slots in runs and that of the wait. Each exit cites one law.
 use mathlib.Core.Path.{◌∙◌, sym}
 use native.Mathlib.Omega.{arith}
-use borrow.Author.Tests.{not-false, not-true}
 use Rattle.text.specs.Laws.Putting.{put_then}
 use Rattle.spoken.specs.SpeakingRuns.{whole_text}
 use Rattle.spoken.proofs.InRuns.{standing_runs, still_behind, whole_count, whole_done, whole_room, whole_short, whole_unfit}
-use borrow.Author.Rules.{rules}
 use Rattle.spoken.proofs.telling.speak_whole.Goals as goal
 
 pub returns-then-out-lt-SPEECH_ROOM : goal.returns-then-out-lt-SPEECH_ROOM

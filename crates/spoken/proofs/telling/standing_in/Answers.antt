@@ -1,10 +1,7 @@
-use mathlib.Core.Path.{◌≡◌, refl}
-use Prim.Native.Nat.{◌-◌, ◌≤◌}
+use mathlib.Core.Path.{refl}
 use native.Mathlib.Omega.{arith}
-use lib.ListN.{length}
-use Rattle.ground.specs.Counting.Each.{Done, done_more, done_none, done_table}
-use Rattle.spoken.specs.SpeakingRuns.{standing, standing_at}
-use borrow.Author.Rules.{rules}
+use Rattle.ground.specs.Counting.Each.{done_more, done_none, done_table}
+use Rattle.spoken.specs.SpeakingRuns.{standing}
 use Rattle.spoken.proofs.telling.standing_in.Goals as goal
 
 pub loop-i-init : goal.loop-i-init

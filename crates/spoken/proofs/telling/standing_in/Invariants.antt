@@ -1,11 +1,9 @@
 -- `standing_in` meets its contract. By the loop: the first i places have their rows as changes of nothing.
-use mathlib.Core.Path.{◌≡◌, refl}
+use mathlib.Core.Path.{◌≡◌}
 use Prim.Native.Nat.{◌-◌, ◌≤◌}
-use native.Mathlib.Omega.{arith}
 use lib.ListN.{length}
-use Rattle.ground.specs.Counting.Each.{Done, done_more, done_none, done_table}
-use Rattle.spoken.specs.SpeakingRuns.{standing, standing_at}
-use borrow.Author.Rules.{rules}
+use Rattle.ground.specs.Counting.Each.{Done}
+use Rattle.spoken.specs.SpeakingRuns.{standing_at}
 use Rattle.spoken.proofs.telling.standing_in.Given as goal
 
 abbrev pub invariant-loop-i : goal.invariant-loop-i
