@@ -1,0 +1,13 @@
+-- In runs the text is what speaking the whole board writes (`board-runs`), else what the console shows (`board-each`).
+-- The room required leaves no refusal by length.
+use Rattle.speak_lines.proofs.Printing.{board_each, board_runs}
+use borrow.Author.Rules.{rules}
+use Rattle.speak_lines.proofs.lines.put_board.Goals as goal
+
+pub returns-then-runs : goal.returns-then-runs
+returns-then-runs c =
+    board_runs c.args.runs c.args.out.now _ c.speak_whole-speech.result c.requires c.if-runs.true c.args.table c.board_of-board.result c.board_of-board.ensures c.speak_whole-speech.ensures
+
+pub returns : goal.returns
+returns c =
+    board_each c.args.runs c.args.table c.args.out.now _ _ c.requires c.if-runs.false c.show.ensures

@@ -1,0 +1,7 @@
+use Rattle.speak_lines.specs.Listening.{beginning}
+use borrow.Author.Rules.{rules}
+use Rattle.speak_lines.proofs.listening.begin.Goals as goal
+
+pub returns : goal.returns
+unfolding beginning
+returns c = rw (c.board_of.ensures, c.start-empty.ensures, c.nothing.ensures)
