@@ -1,5 +1,4 @@
 -- One case for each line: only a size can be one that is accepted, and then by its number.
-use borrow.Author.Rules.{rules}
 use Rattle.speak_lines.proofs.lines.is_size.Goals as goal
 
 pub returns-in-Size : goal.returns-in-Size

@@ -1,7 +1,6 @@
 -- In runs the text is what speaking the whole board writes (`board-runs`), else what the console shows (`board-each`).
 -- The room required leaves no refusal by length.
 use Rattle.speak_lines.proofs.Printing.{board_each, board_runs}
-use borrow.Author.Rules.{rules}
 use Rattle.speak_lines.proofs.lines.put_board.Goals as goal
 
 pub returns-then-runs : goal.returns-then-runs

@@ -1,5 +1,4 @@
 -- One case for each line: the bytes put are the definition's text of that line, wherever they are put.
-use borrow.Author.Rules.{rules}
 use Rattle.speak_lines.proofs.lines.put_cause.Goals as goal
 
 pub returns-in-Size : goal.returns-in-Size

@@ -1,7 +1,6 @@
 -- In runs the text is what speaking in runs writes (`changes-runs`), else what speaking each change writes (`changes-each`).
 -- The room required leaves no refusal by length.
 use Rattle.speak_lines.proofs.Printing.{changes_each, changes_runs}
-use borrow.Author.Rules.{rules}
 use Rattle.speak_lines.proofs.lines.put_changes.Goals as goal
 
 pub returns-then-runs : goal.returns-then-runs

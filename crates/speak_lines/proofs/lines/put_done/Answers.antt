@@ -1,7 +1,5 @@
 -- A size that is accepted is told with the count (`done-size`); for any other line there is no text, and the output stays (`done_none`).
-use borrow.Author.Tests.{not-false, not-true}
 use Rattle.speak_lines.proofs.Printing.{done_none, done_size}
-use borrow.Author.Rules.{rules}
 use Rattle.speak_lines.proofs.lines.put_done.Goals as goal
 
 pub returns-then-not-is_size : goal.returns-then-not-is_size

@@ -1,5 +1,4 @@
 -- One case for each line: the bytes put are the definition's name of that line, none for a malformed one.
-use borrow.Author.Rules.{rules}
 use Rattle.speak_lines.proofs.lines.put_named.Goals as goal
 
 pub returns-in-Size : goal.returns-in-Size

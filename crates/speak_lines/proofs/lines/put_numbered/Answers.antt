@@ -1,5 +1,4 @@
 -- One case for each line: the decimal of its number for the three that have one, and no bytes for the four others.
-use borrow.Author.Rules.{rules}
 use Rattle.speak_lines.proofs.lines.put_numbered.Goals as goal
 
 pub returns-in-Size : goal.returns-in-Size

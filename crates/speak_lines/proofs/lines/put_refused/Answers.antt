@@ -1,6 +1,5 @@
 -- `put_refused` meets its contract: seven texts one behind the other, which are together shorter than the room.
 use Rattle.speak_lines.proofs.Printing.{refused_stands}
-use borrow.Author.Rules.{rules}
 use Rattle.speak_lines.proofs.lines.put_refused.Goals as goal
 
 pub returns : goal.returns

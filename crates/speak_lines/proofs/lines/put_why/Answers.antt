@@ -1,6 +1,5 @@
 -- Three exits are the three cases of the definition, in its order: 1, then 3, whatever the line, and else the line's own cause.
 use borrow.Author.Tests.{eq-eqb, ne_eqb}
-use borrow.Author.Rules.{rules}
 use Rattle.speak_lines.proofs.lines.put_why.Goals as goal
 
 pub returns-then-number-eq1 : goal.returns-then-number-eq1

@@ -1,5 +1,4 @@
 use Rattle.speak_lines.proofs.Answering.{after_line_lem}
-use borrow.Author.Rules.{rules}
 use Rattle.speak_lines.proofs.listening.after_line.Goals as goal
 
 pub returns : goal.returns

@@ -1,5 +1,4 @@
 use Rattle.speak_lines.specs.Listening.{beginning}
-use borrow.Author.Rules.{rules}
 use Rattle.speak_lines.proofs.listening.begin.Goals as goal
 
 pub returns : goal.returns

@@ -1,7 +1,6 @@
 -- `feed` meets its contract: 9 for a buffer without room, a line answered where one ends in the input, and otherwise all of it kept.
 -- Each exit cites the law of Answering for its case.
 use Rattle.speak_lines.proofs.Answering.{feed_line, feed_open, feed_short}
-use borrow.Author.Rules.{rules}
 use Rattle.speak_lines.proofs.listening.feed.Goals as goal
 
 pub returns-then-out-lt-SPEECH_ROOM : goal.returns-then-out-lt-SPEECH_ROOM

@@ -1,7 +1,6 @@
 -- 9 for an output with too little room and all as given (`finish-short`); a line that has begun is answered as if it had ended (`finish-line`);
 -- with no line begun nothing is done (`finish-none`).
 use Rattle.speak_lines.proofs.Answering.{finish_line, finish_none, finish_short}
-use borrow.Author.Rules.{rules}
 use Rattle.speak_lines.proofs.listening.finish.Goals as goal
 
 pub returns-then-out-lt-SPEECH_ROOM : goal.returns-then-out-lt-SPEECH_ROOM

@@ -1,6 +1,5 @@
 -- The board she holds changes with `epoch` (`heard-epoch`) and with a size that is accepted (`heard-anew`), and else stays (`heard-still`).
 use Rattle.speak_lines.proofs.Answering.{heard_anew, heard_epoch, heard_still}
-use borrow.Author.Rules.{rules}
 use Rattle.speak_lines.proofs.listening.heard_after.Goals as goal
 
 pub returns-then-is_epoch : goal.returns-then-is_epoch

@@ -1,5 +1,4 @@
 use Rattle.session_lines.specs.Kept.{line_in}
-use borrow.Author.Rules.{rules}
 use Rattle.speak_lines.proofs.listening.is_epoch.Goals as goal
 
 pub returns : goal.returns

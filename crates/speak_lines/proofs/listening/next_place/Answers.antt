@@ -1,6 +1,5 @@
 use borrow.Author.Tests.{le-ltb, lt-ltb}
 use Rattle.speak_lines.specs.Listening.{next_place}
-use borrow.Author.Rules.{rules}
 use Rattle.speak_lines.proofs.listening.next_place.Goals as goal
 
 pub returns-then-place-lt18446744073709551615 : goal.returns-then-place-lt18446744073709551615

@@ -1,6 +1,5 @@
 -- `epoch` tells the changes from the board she holds to the table's own (`text-epoch`); any other line tells what it says (`text-line`).
 use Rattle.speak_lines.proofs.Answering.{text_epoch, text_line}
-use borrow.Author.Rules.{rules}
 use Rattle.speak_lines.proofs.listening.put_line.Goals as goal
 
 pub returns-then-is_epoch : goal.returns-then-is_epoch

@@ -1,6 +1,5 @@
 -- Three exits are the three cases of the definition: the board (`said-board`), a line done (`said-done`), and a line refused (`said-refused`).
 use Rattle.speak_lines.proofs.Answering.{said_board, said_done, said_refused}
-use borrow.Author.Rules.{rules}
 use Rattle.speak_lines.proofs.listening.put_said.Goals as goal
 
 pub returns-then-is_board : goal.returns-then-is_board

@@ -1,5 +1,4 @@
 use Rattle.speak_lines.proofs.Answering.{table_epoch, table_line}
-use borrow.Author.Rules.{rules}
 use Rattle.speak_lines.proofs.listening.table_after.Goals as goal
 
 pub returns-then-is_epoch : goal.returns-then-is_epoch
