@@ -1,4 +1,3 @@
-use native.Mathlib.Omega.{arith}
 use Rattle.c_receiver.proofs.receivers.levelspruce_receiver_start_as.Goals as goal
 
 pub returns : goal.returns
