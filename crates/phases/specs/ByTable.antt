@@ -1,4 +1,4 @@
--- The oldest epoch passed by a table of shares that a function is lent (request 2026-02), whatever stands in it. By `shares_of` it is `passedOf` (Laws.ByTable).
+-- The oldest epoch passed by a table of shares that a function is lent (request 2026-02), whatever stands in it. By `shares_of` it is `passed_of` (Theorems.ByTable).
 use Rattle.std.specs.Prelude.{List, ℕ, zero, suc}
 use Rattle.ground.specs.Types.{Bytes, Rows}
 use Rattle.phases.specs.Passing.{passed_group, passed_port_by}

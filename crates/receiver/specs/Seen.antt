@@ -1,4 +1,4 @@
--- What the receiver saw, for the host to read: of each port the packet that rules the oldest epoch not yet reported. It is what a fetch judges by (Report's `seenOf`); after a report the packets are those of the epoch just reported.
+-- What the receiver saw, for the host to read: of each port the packet that rules the oldest epoch not yet reported. It is what a fetch judges by (Report's `seen_of`); after a report the packets are those of the epoch just reported.
 use Rattle.std.specs.Prelude.{Bool, List, [], ◌∷◌, ℕ, get_or, length, if◌then◌else◌}
 use Rattle.ground.specs.Counting.Each.{each}
 use Rattle.ground.specs.Flags.{one_if}

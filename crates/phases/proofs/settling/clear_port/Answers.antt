@@ -1,4 +1,4 @@
--- `clear_port` meets its contract: the port's step cleared, then its marks (`cleared-is`).
+-- `clear_port` meets its contract: the port's step cleared, then its marks (`cleared_is`).
 use Rattle.phases.proofs.Cleared.{cleared_is}
 use Rattle.phases.proofs.settling.clear_port.Goals as goal
 

@@ -1,5 +1,5 @@
 -- A frame that is neither 1 nor 9 does what the definition decides, whichever way it goes: three exits are the call of `decided` itself.
--- The short way is right since a steady frame in mid-epoch changes the next tag, one symbol and the store alone, and answers 0 (`arrive-steady`).
+-- The short way is right since a steady frame in mid-epoch changes the next tag, one symbol and the store alone, and answers 0 (`arrive_steady`).
 use mathlib.Core.Path.{sym, ◌∙◌}
 use borrow.Author.Tests.{ne_eqb}
 use Rattle.receiver.proofs.Arriving.{arrive_steady}

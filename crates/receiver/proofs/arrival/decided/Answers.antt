@@ -1,5 +1,5 @@
 -- The answer, the rows and the store are those of the decision made on what stands in the rows.
--- Each value read is the definition's, so that the decision is the definition's too, and `take` does what it says (`decided-by`).
+-- Each value read is the definition's, so that the decision is the definition's too, and `take` does what it says (`decided_by`).
 use mathlib.Core.Path.{refl}
 use Rattle.receiver.proofs.Arriving.{decided_by}
 use Rattle.receiver.proofs.arrival.decided.Goals as goal

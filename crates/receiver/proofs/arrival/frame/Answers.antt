@@ -1,5 +1,5 @@
 -- `frame` answers 1 or 9 and changes nothing, or does what is decided of the frame.
--- Only behind the refusal is the port below the group's count, and so a byte (`refused-below`).
+-- Only behind the refusal is the port below the group's count, and so a byte (`refused_below`).
 use mathlib.Core.Path.{sym, ◌∙◌}
 use native.Mathlib.Omega.{arith}
 use Rattle.receiver.proofs.Arriving.{refused_below, frame_refused, frame_decided}

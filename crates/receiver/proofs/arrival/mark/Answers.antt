@@ -1,5 +1,5 @@
 -- A port's marks after a frame are the definition's, though they are written only where they change.
--- Where nothing is written, the definition leaves the marks as they are (`mark-none`).
+-- Where nothing is written, the definition leaves the marks as they are (`mark_none`).
 use mathlib.Core.Path.{refl, ◌∙◌}
 use Rattle.receiver.proofs.Arriving.{mark_none}
 use Rattle.receiver.proofs.arrival.mark.Goals as goal

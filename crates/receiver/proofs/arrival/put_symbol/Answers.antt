@@ -1,4 +1,4 @@
--- The definition's packet with the frame's symbol differs from the old one in one entry alone, and that is the one written (`symbol-put`).
+-- The definition's packet with the frame's symbol differs from the old one in one entry alone, and that is the one written (`symbol_put`).
 use Rattle.receiver.proofs.Arriving.{symbol_put}
 use Rattle.receiver.proofs.arrival.put_symbol.Goals as goal
 

@@ -1,5 +1,5 @@
 -- `fetch` answers 9 and changes nothing, or reports if a report is due and writes the record.
--- The record has its eight bytes because the lengths were found right (`record-length`).
+-- The record has its eight bytes because the lengths were found right (`record_length`).
 use mathlib.Core.Path.{sym, ◌∙◌}
 use Rattle.receiver.proofs.Fetched.{fetch_unfit, fetch_fit}
 use Rattle.receiver.proofs.Sizes.{record_length}

@@ -1,4 +1,4 @@
--- Report, rows and output are those of a due report, or with none due an empty report and all as given: one law for each (`given-due`, `given-none`).
+-- Report, rows and output are those of a due report, or with none due an empty report and all as given: one law for each (`given_due`, `given_none`).
 use Rattle.receiver.proofs.Fetched.{given_due, given_none}
 use Rattle.receiver.proofs.fetching.report_if_due.Goals as goal
 

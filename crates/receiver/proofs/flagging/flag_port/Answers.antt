@@ -1,4 +1,4 @@
--- `flag_port` meets its contract: the step is put, and what follows for all ports where something does (`flagged-by`).
+-- `flag_port` meets its contract: the step is put, and what follows for all ports where something does (`flagged_by`).
 use Rattle.receiver.proofs.Reading.{flagged_by, settled_none, settled_some}
 use Rattle.receiver.proofs.flagging.flag_port.Goals as goal
 

@@ -1,5 +1,5 @@
 -- What the lowest port with a whole and good packet says: as long as the search goes on, no port below i has one.
--- So the first found is the lowest (`heard-first`), and at the end there is none (`heard-none`).
+-- So the first found is the lowest (`heard_first`), and at the end there is none (`heard_none`).
 use Prim.Native.Nat.{◌≤◌, ◌-◌}
 use mathlib.Core.Path.{◌≡◌}
 use mathlib.Core.Bool.{false}

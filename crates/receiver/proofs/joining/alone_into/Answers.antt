@@ -1,5 +1,5 @@
--- With one member a group frame is that member's frame, a run of the store laid down as it is (`alone-run`).
--- Where the payload or the store does not allow it, the definition joins nothing either (`alone-short`).
+-- With one member a group frame is that member's frame, a run of the store laid down as it is (`alone_run`).
+-- Where the payload or the store does not allow it, the definition joins nothing either (`alone_short`).
 use mathlib.Core.Path.{◌≡◌, ◌∙◌, ap}
 use mathlib.Core.Bool.{◌&&◌}
 use Prim.Native.Nat.{ℕ, ◌+◌, ◌-◌, ◌≤◌}

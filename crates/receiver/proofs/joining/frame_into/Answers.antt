@@ -1,5 +1,5 @@
 -- A frame lies as far behind the start of its ring in one port as in another: joined from the store behind that distance, by the rings' starts,
--- it is the definition's frame (`frame-by`). A distance beyond the store joins nothing (`frame-beyond`).
+-- it is the definition's frame (`frame_by_lem`). A distance beyond the store joins nothing (`frame_beyond`).
 use native.Mathlib.Omega.{arith}
 use Rattle.receiver.specs.Laws.Rings.{frame_beyond}
 use Rattle.receiver.proofs.Alone.{frame_by_lem}

@@ -1,4 +1,4 @@
--- Port times window times P + 1 is the definition's start as it stands; what is shown is that both products fit (`pair_fits`, `product-fits`).
+-- Port times window times P + 1 is the definition's start as it stands; what is shown is that both products fit (`pair_fits`, `product_fits`).
 use Prim.Native.Nat.{◌+◌}
 use native.Mathlib.Omega.{arith}
 use Rattle.receiver.proofs.Numbers.{pair_fits, product_fits}

@@ -1,4 +1,4 @@
--- Four zeros for an empty group, else kind, ports, P and W: the two cases of the definition (`settings-none`, `settings-some`).
+-- Four zeros for an empty group, else kind, ports, P and W: the two cases of the definition (`settings_none`, `settings_some`).
 use Rattle.receiver.proofs.Reading.{settings_none, settings_some}
 use Rattle.receiver.proofs.setting.put_settings.Goals as goal
 

@@ -1,5 +1,5 @@
 -- `ports` answers 9 and writes nothing, or shows each port.
--- The output has a place for each port because its length was found right (`shown-length`).
+-- The output has a place for each port because its length was found right (`shown_length_lem`).
 use mathlib.Core.Path.{sym, ◌∙◌}
 use native.Mathlib.Omega.{arith}
 use Rattle.receiver.proofs.Showing.{ports_unfit, ports_shown}

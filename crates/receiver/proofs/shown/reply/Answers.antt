@@ -1,5 +1,5 @@
 -- `reply` answers 9 and writes nothing, or writes MST and RS-Ack of the ports as they stand, zeros for a fixed group.
--- The output has its two bytes because its length was found right (`reply-length`).
+-- The output has its two bytes because its length was found right (`reply_length`).
 use mathlib.Core.Path.{sym, ◌∙◌}
 use Rattle.receiver.proofs.Showing.{reply_unfit, reply_shown}
 use Rattle.receiver.proofs.Sizes.{reply_length}

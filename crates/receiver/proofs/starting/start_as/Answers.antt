@@ -1,5 +1,5 @@
 -- 4 before 9: what is out of range leaves an empty group, anything else is a start with sizes.
--- Ports, P and W lose nothing in becoming small numbers, because right sizes are small (`right-sizes`, `window-most`).
+-- Ports, P and W lose nothing in becoming small numbers, because right sizes are small (`right_sizes`, `window_most`).
 use mathlib.Core.Path.{refl, sym, ◌∙◌}
 use native.Mathlib.Omega.{arith}
 use Rattle.receiver.specs.Starting.{start_as_answer, start_as_rows}

@@ -1,4 +1,4 @@
--- 9 for a length that does not fit, with the rows as given (`sized-unfit`); else every port fresh and then the group (`sized-done`).
+-- 9 for a length that does not fit, with the rows as given (`sized_unfit`); else every port fresh and then the group (`sized_done`).
 use mathlib.Core.Path.{refl, ◌∙◌}
 use Rattle.receiver.proofs.Started.{sized_done, sized_unfit}
 use Rattle.receiver.proofs.starting.start_sized.Goals as goal

@@ -1,4 +1,4 @@
--- With one port the state and RS-Ack worked out of it alone are those the tables of 64 would give (`states-alone`).
+-- With one port the state and RS-Ack worked out of it alone are those the tables of 64 would give (`states_alone`).
 use Rattle.receiver.proofs.Alone.{states_alone}
 use Rattle.receiver.proofs.states.work_out_alone.Goals as goal
 

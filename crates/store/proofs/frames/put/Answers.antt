@@ -1,4 +1,4 @@
--- Payload and then H4 are one run from the place on (`put-frame`); a frame that would go beyond the store's end is dropped (`put-none`).
+-- Payload and then H4 are one run from the place on (`put_frame`); a frame that would go beyond the store's end is dropped (`put_none`).
 -- The two tests together are the definition's one, asked so that no sum can overflow.
 use native.Mathlib.Omega.{arith}
 use Rattle.store.proofs.Putting.{put_frame, put_none}
