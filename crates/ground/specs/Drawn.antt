@@ -1,6 +1,6 @@
 -- A list rewritten at some of its places, in any order: what stands in a lent slice after some of a loop's stores.
 -- `drawn t f d` is d with f k at each place k that the test t names. All laws are over the test; a run of places that
--- starts anywhere (`fillAt`) is the instance that most loops want.
+-- starts anywhere (`fill_at`) is the instance that most loops want.
 use Rattle.std.specs.Prelude.{◌≡◌, refl, ◌≢◌, Bool, true, false, ◌&&◌, ◌||◌, List, [], ◌∷◌, ℕ, zero, suc, ◌+◌, ◌-◌, ◌≤◌, ◌<◌, length, get_or, set, if◌then◌else◌, ◌==◌}
 use Rattle.std.proofs.Common.{sym, ap, ◌∙◌, ⊎_elim, suc-le-suc, not-suc-le-zero, le_of_suc-le-suc, zero-lt-suc, arith, le-leb, lt-ltb, leb-true, ltb-true, eqb-true, eq-eqb}
 use Rattle.std.proofs.Math.Bool.{or-false, or-true}

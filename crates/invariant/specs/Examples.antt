@@ -1,4 +1,4 @@
--- `recorded` and `lost-heard` used at two corners (request 2026-04), where both sides are worked out by themselves: a record that is not of the frames heard would be seen, whatever its proofs.
+-- `recorded` and `lost_heard` used at two corners (request 2026-04), where both sides are worked out by themselves: a record that is not of the frames heard would be seen, whatever its proofs.
 use Rattle.std.specs.Prelude.{◌≡◌, refl, false, List, [], ◌∷◌, ◌++◌, ℕ, get_or, replicate}
 use Rattle.std.proofs.Common.{inr, arith}
 use Rattle.ground.specs.Table.{tabulate}

@@ -93,7 +93,7 @@ frame_kept = EachCall.frame_kept
 pub fetch_kept : (s : List (List ℕ)) → Kept s → (store out report : List ℕ) → Kept (fetch_of s store out report).rows
 fetch_kept = EachCall.fetch_kept
 
--- R-7: after a frame, stopping, beginning and gathering may be tested always or only where takenOf says so
+-- R-7: after a frame, stopping, beginning and gathering may be tested always or only where taken_of says so
 pub settles_always : (s : List (List ℕ)) → Kept s → (i : ℕ) (failed : Bool) (h : ℕ) → i < (group_at s).count → (store : List ℕ)
     → settled_by (taken_in s i failed h).settles (group_at s).count store (port_after s i failed h) ≡ settled_of (group_at s).count store (port_after s i failed h)
 settles_always s k i failed h b store = Settles.settles_always s k i failed h b store
@@ -238,7 +238,7 @@ pub none_ack : (s : List (List ℕ)) (store out report : List ℕ) → (lent_fit
     → ack_in (fetch_of s store out report).rows ≡ ack_in s
 none_ack = Ack.none_ack
 
--- after a report of any mark it is `ackOf` of the ports that the report saw: it turns over exactly where `turns` says so of their words and numbers and those of the report before
+-- after a report of any mark it is `ack_of` of the ports that the report saw: it turns over exactly where `turns` says so of their words and numbers and those of the report before
 pub report_ack : (s : List (List ℕ)) (store out report : List ℕ) → Given s store out report
     → ack_in (fetch_of s store out report).rows ≡ ack_of (report_ports s store) (ports_in (group_at s)) (ack_in s)
 report_ack = Ack.report_ack

@@ -1,5 +1,5 @@
 -- What reads well is written again identically (request 2026-08): the bytes of which that is said, and what is written of a packet that was read.
-use Rattle.std.specs.Prelude.{◌≡◌, ℕ, ◌+◌, ◌/◌, ◌%◌, ◌<◌, slice_index, slice_index_or}
+use Rattle.std.specs.Prelude.{◌≡◌, ℕ, ◌+◌, ◌/◌, ◌%◌, ◌<◌, slice_index}
 use Rattle.ground.specs.Types.{Bytes}
 use Rattle.packet.specs.Crc.{bits_of}
 use Rattle.packet.specs.Layout.{highs_of}
@@ -20,7 +20,7 @@ pub record Again (s t : Bytes) (f : Fields) : Type 0 where
 
 -- VC-12: bytes as a host hands them in: the bit, and 2 more in the first
 pub record Started (s : Bytes) : Type 0 where
-  pub first : slice_index_or s 0 0 / 2 ≡ 1
+  pub first : slice_index s 0 / 2 ≡ 1
   pub others : (k : ℕ) → 0 < k → k < 32 → slice_index s k < 2
 
 -- VC-12: what is written of a packet that was read

@@ -27,15 +27,15 @@ NoneReservedBy kind bytes = cond (kind == vc12_kind) (NoneReservedVc12 bytes) (N
 
 -- H4, frame by frame: all bits of MST, SQ, MFI2 and the word, and the last one of the frames with RS-Ack and with GID
 pub record SameBeside (row other : List ℕ) : Type 0 where
-  pub mfi1_8 : get_or row 0 0 % 16 ≡ slice_index other 0 % 16
-  pub mfi1_9 : get_or row 1 0 % 16 ≡ slice_index other 1 % 16
-  pub mfi1_10 : get_or row 2 0 % 2 ≡ slice_index other 2 % 2
-  pub mfi1_14 : get_or row 6 0 % 16 ≡ slice_index other 6 % 16
-  pub mfi1_15 : get_or row 7 0 % 16 ≡ slice_index other 7 % 16
-  pub mfi1_0 : get_or row 8 0 % 16 ≡ slice_index other 8 % 16
-  pub mfi1_1 : get_or row 9 0 % 16 ≡ slice_index other 9 % 16
-  pub mfi1_2 : get_or row 10 0 % 16 ≡ slice_index other 10 % 16
-  pub mfi1_3 : get_or row 11 0 % 2 ≡ slice_index other 11 % 2
+  pub mfi1_8 : get_or row 0 0 % 16 ≡ get_or other 0 0 % 16
+  pub mfi1_9 : get_or row 1 0 % 16 ≡ get_or other 1 0 % 16
+  pub mfi1_10 : get_or row 2 0 % 2 ≡ get_or other 2 0 % 2
+  pub mfi1_14 : get_or row 6 0 % 16 ≡ get_or other 6 0 % 16
+  pub mfi1_15 : get_or row 7 0 % 16 ≡ get_or other 7 0 % 16
+  pub mfi1_0 : get_or row 8 0 % 16 ≡ get_or other 8 0 % 16
+  pub mfi1_1 : get_or row 9 0 % 16 ≡ get_or other 9 0 % 16
+  pub mfi1_2 : get_or row 10 0 % 16 ≡ get_or other 10 0 % 16
+  pub mfi1_3 : get_or row 11 0 % 2 ≡ get_or other 11 0 % 2
 
 -- VC-12: the bits before the four and those behind them, up to the CRC
 pub record SameBesideVc12 (row other : List ℕ) : Type 0 where

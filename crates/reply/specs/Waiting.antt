@@ -36,7 +36,7 @@ rounds ports n (suc k) kept =
     let chosen = holders ports n kept in
     if some_join chosen kept ports n then rounds ports n k (more_kept chosen ports n kept) else kept
 
--- as many rounds as ports are enough (`none-joins` of Laws/Keeping.antt)
+-- as many rounds as ports are enough (`none_joins` of Laws/Keeping.antt)
 unfoldable pub kept_numbers : List Port → ℕ → List ℕ
 kept_numbers ports n = rounds ports n n all_free
 

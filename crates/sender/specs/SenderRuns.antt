@@ -13,9 +13,9 @@ pub record Demand2Kept (s : Sender) : Type 0 where
   pub outgoing_of : Table
   pub outgoing_is : s.outgoing ≡ board_of outgoing_of
   pub outgoing : Demand2 outgoing_of
-  pub ruling_of_lem : Table
-  pub ruling_is : s.ruling ≡ board_of ruling_of_lem
-  pub ruling : Demand2 ruling_of_lem
+  pub ruling_of : Table
+  pub ruling_is : s.ruling ≡ board_of ruling_of
+  pub ruling : Demand2 ruling_of
 
 -- What every slot sends in this epoch stays as its start fixed it, whatever calls on the table come in between: packet, payload, X and ranks.
 pub record Fixed (s r : Sender) : Type 0 where

@@ -151,7 +151,7 @@ module _ (x : Receiver) (k₀ : Kept x.rows) where
   now_kept : (calls : List ReceiverCall) → Kept (receiver_run x calls).rows
   now_kept calls = run_kept x calls k₀
 
-  -- One call more: by `call-ruled` all ruling packets stay, none rules any more, or all have passed in this call. In the first case they are of the epoch of which they were, in the last of the one that the call passed.
+  -- One call more: by `call_ruled` all ruling packets stay, none rules any more, or all have passed in this call. In the first case they are of the epoch of which they were, in the last of the one that the call passed.
   call_one : (calls : List ReceiverCall) (c : ReceiverCall) → OneEpoch x calls → OneEpoch x (calls ++ (c ∷ []))
   call_one calls c o = ⊎_elim stay (λ (u : AllUnruled now.rows next.rows ⊎ AllPassed now c next.store next.rows). ⊎_elim unruled passed u) (call_ruled now c (now_kept calls))
     where

@@ -1,4 +1,4 @@
--- R-7: after a frame, stopping, beginning and gathering may be tested always or only where takenOf says so: on what any calls leave it is the same.
+-- R-7: after a frame, stopping, beginning and gathering may be tested always or only where taken_of says so: on what any calls leave it is the same.
 use Rattle.std.specs.Prelude.{◌≡◌, ◌≢◌, Bool, List, length}
 use Rattle.std.proofs.Math.Path.{refl, sym}
 use Rattle.std.proofs.Common.{ap, ◌∙◌, arith}

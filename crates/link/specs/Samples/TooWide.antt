@@ -12,7 +12,7 @@ use Rattle.link.specs.Samples.Members.{link_with, output}
 use Rattle.link.specs.Samples.Reports.{held}
 use Rattle.link.specs.Samples.Tracing.{course, outcome_by_lem}
 
--- Of what demand 3 lets be so the spread alone lacks: Met's `met-but` has all else.
+-- Of what demand 3 lets be so the spread alone lacks: Met's `met_but` has all else.
 too_wide : (late_first : ℕ → Bool) → Assumed (link_with 5 late_first) → ⊥
 unfolding frames
 too_wide late_first a = let h = a.lines.spread 0 1 (omega arith) (omega arith) in absurd (omega arith)

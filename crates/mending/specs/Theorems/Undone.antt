@@ -272,7 +272,7 @@ judged_length ports size left [] = refl
 judged_length ports size left (l ∷ ls) = ap suc (judged_length ports size (left_by left (record_of ports size l)) ls)
 
 -- Of every recording that is answered 0, of fewer than 10 to the 20th bytes: a line's number is written with at most 20 digits. Every text that can be lent is
--- shorter (`undone-lent`).
+-- shorter (`undone_lent`).
 pub undone : (t : List ℕ) (o : Opened t) → length t < 10 ^ 20 → told_again (mended_of t) (notes_of t) ≡ t ++ owed (judged (has_count o.settings.kind) o.settings.ports o.settings.size o.rest)
 unfolding told_again judged
 undone t o h =

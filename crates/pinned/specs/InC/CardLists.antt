@@ -1,4 +1,4 @@
--- Lists of a card's C calls: what one group gets back, its calls among them and its bits. And `card-apart` at a corner: two hosts that are alike to group 0.
+-- Lists of a card's C calls: what one group gets back, its calls among them and its bits. And `card_apart` at a corner: two hosts that are alike to group 0.
 use Rattle.std.specs.Prelude.{refl, true, false, List, [], ◌∷◌, ℕ, replicate}
 use Rattle.std.proofs.Common.{arith}
 use Rattle.c_cards.specs.CardCalls.{CardCall, Made, Same, answered, back_to, bits_of, calls_of, singles}

@@ -1,5 +1,5 @@
 -- What a line says does not go by where the next one is, and its payload lies in it.
--- The place of the next line is only handed on: each case of the definition gives the same record with another place (`goingTo`, `opensTo`). The payload's place is that of the last field, which has two digits a byte.
+-- The place of the next line is only handed on: each case of the definition gives the same record with another place (`going_to`, `opens_to`). The payload's place is that of the last field, which has two digits a byte.
 use Rattle.std.specs.Prelude.{◌≡◌, refl, Bool, true, false, cond, ◌&&◌, List, [], ◌∷◌, ℕ, suc, ◌+◌, ◌-◌, ◌≤◌, eqb, leb, ltb, length}
 use Rattle.std.proofs.Common.{arith, eqb-true}
 use Rattle.ground.specs.Truth.{and_left, and_right}

@@ -1,5 +1,5 @@
 -- 02, 2026-03, on the definitions: hold-off and restoring to the report, against others, never both, and IDLE at once.
--- The idea: the definitions ask of a claim by the table of who has which number as the rounds leave it, and that is the same as asking it of the states after the report (`claim-is`, `is-claim`). With it most sentences are one case of the definitions; `hold-kept` stands on `is-kept` of Laws/Keeping, `against-others` on `ok-apart`.
+-- The idea: the definitions ask of a claim by the table of who has which number as the rounds leave it, and that is the same as asking it of the states after the report (`claim_is`, `is_claim`). With it most sentences are one case of the definitions; `hold_kept` stands on `is_kept` of Laws/Keeping, `against_others` on `ok_apart`.
 use Rattle.std.specs.Prelude.{◌≡◌, refl, ◌⊎◌, ◌≢◌, Bool, true, false, List, ℕ, ◌+◌, ◌≤◌, ◌<◌}
 use Rattle.std.proofs.Math.Path.{sym}
 use Rattle.std.proofs.Common.{ap, ◌∙◌, inl, inr, ⊎_elim, true≢false, arith}

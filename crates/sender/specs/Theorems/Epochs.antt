@@ -87,7 +87,7 @@ demand2_kept kind count e cs =
       outgoing_of = o.outgoing.source;
       outgoing_is = o.outgoing.is;
       outgoing = sound_demand2 o.outgoing.source o.outgoing.sound;
-      ruling_of_lem = o.ruling.source;
+      ruling_of = o.ruling.source;
       ruling_is = o.ruling.is;
       ruling = sound_demand2 o.ruling.source o.ruling.sound;
     }

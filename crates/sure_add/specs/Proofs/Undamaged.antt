@@ -1,5 +1,5 @@
 -- On a link whose packets all come as sent each report leaves every port OK under the number that its slot has sent in that epoch, or IDLE: so none is ever FAIL, whatever the times (`heard-last`).
--- The idea: all ports are readable and hear their slots, and the numbers of slots that are not IDLE are apart; so as long as no port waits to restore all are OK at once (`ok-at-once` of reply), and then none is FAIL at the next report.
+-- The idea: all ports are readable and hear their slots, and the numbers of slots that are not IDLE are apart; so as long as no port waits to restore all are OK at once (`ok_at_once` of reply), and then none is FAIL at the next report.
 use Rattle.std.specs.Prelude.{◌≡◌, ◌≢◌, Bool, true, cond, ◌&&◌, ◌||◌, ℕ, suc, ◌+◌, ◌-◌, ◌*◌, ◌/◌, ◌≤◌, ◌<◌, eqb, ltb, get_or, length}
 use Rattle.std.proofs.Math.Path.{refl, sym, ap, subst}
 use Rattle.std.proofs.Common.{◌∙◌, ⊎_elim, arith}

@@ -1,4 +1,4 @@
--- Links of H4 with P 1 and W 16 of which `sure-add` speaks, made of a few numbers, the calls at each start and the replies as they are computed. Port p carries the last slot but p.
+-- Links of H4 with P 1 and W 16 of which `sure_add` speaks, made of a few numbers, the calls at each start and the replies as they are computed. Port p carries the last slot but p.
 use Rattle.std.specs.Prelude.{◌≡◌, Bool, true, false, ◌&&◌, ℕ, zero, suc, ◌+◌, ◌-◌, ◌*◌, ◌%◌, ◌≤◌, ◌<◌, length, replicate, if◌then◌else◌}
 use Rattle.std.proofs.Math.Path.{refl, ap}
 use Rattle.std.proofs.Common.{sym}

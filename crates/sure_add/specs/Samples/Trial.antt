@@ -1,4 +1,4 @@
--- Rounds of H4 with P 1 and W 16 of which `sure-add-over` speaks, made of a few numbers and the frames that come, and computed report by report.
+-- Rounds of H4 with P 1 and W 16 of which `sure_add_over` speaks, made of a few numbers and the frames that come, and computed report by report.
 use Rattle.std.specs.Prelude.{◌≡◌, refl, ◌≢◌, Bool, false, not, ◌&&◌, length, replicate, if◌then◌else◌, ◌==◌}
 use Rattle.std.proofs.Math.Path.{sym, subst}
 use Rattle.std.proofs.Common.{ap, ◌∙◌, ⊎_elim, inl, not-suc-le-zero}

@@ -1,4 +1,4 @@
--- What `digitOf` is by plain comparisons, and by the bits of a digit: computed at every byte.
+-- What `digit_of` is by plain comparisons, and by the bits of a digit: computed at every byte.
 use Rattle.std.specs.Prelude.{◌≡◌, refl, Bool, true, not, ◌&&◌, ◌||◌, ℕ, ◌+◌, ◌*◌, ◌/◌, ◌%◌, ◌≤◌, ◌<◌, eqb, leb, ltb}
 use Rattle.std.specs.Bool.{beq}
 use Rattle.std.proofs.Common.{arith, eqb-true, lt-ltb}

@@ -1,5 +1,5 @@
--- What a frame leaves of its port keeps what is kept of ports (`taken-kept`): each case of taken_of.
--- The idea: a port out of step has not joined and waits for nothing, so only what holds of every port is asked of it. In step the next tag goes on by one. Inside the window the distance from its first grows by one, and marks and joining go by it; a port still before the window is one frame nearer (`short-next`); a frame outside leaves all as it was.
+-- What a frame leaves of its port keeps what is kept of ports (`taken_kept`): each case of taken_of.
+-- The idea: a port out of step has not joined and waits for nothing, so only what holds of every port is asked of it. In step the next tag goes on by one. Inside the window the distance from its first grows by one, and marks and joining go by it; a port still before the window is one frame nearer (`short_next`); a frame outside leaves all as it was.
 use Rattle.std.specs.Prelude.{◌≡◌, ◌≢◌, Bool, true, false, cond, ◌&&◌, List, ℕ, ◌+◌, ◌*◌, ◌%◌, ◌≤◌, ◌<◌, eqb, leb, ltb}
 use Rattle.std.proofs.Math.Path.{refl}
 use Rattle.std.proofs.Common.{sym, ◌∙◌, ⊎_elim, true≢false, arith}

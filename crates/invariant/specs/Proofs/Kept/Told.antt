@@ -62,7 +62,7 @@ module _ (s : List (List ℕ)) (k : Lasting s) where
   few : n ≤ 64
   few = (sizes_of g.kind n g.payload g.window k.group.sizes).few_ports
 
-  -- What lasts does so when the states have been worked out: of the group RS-Ack alone is another, of a port its member alone, and OK ports have different numbers after every report (`ok-below`, `ok-apart` of reply).
+  -- What lasts does so when the states have been worked out: of the group RS-Ack alone is another, of a port its member alone, and OK ports have different numbers after every report (`ok_below`, `ok_apart` of reply).
   pub lasting_told : Lasting (states_worked_out g n s)
   lasting_told =
       record {

@@ -283,7 +283,7 @@ same_odd s r i h k row next =
     ∙ ap (λ (l : List ℕ). ends_odd (group_at s).kind l (port_at r i).step.next h) (sym (port_gathering r i) ∙ row ∙ port_gathering s i)
     ∙ ap (λ (t : ℕ). ends_odd (group_at s).kind (get_or (packets_at s i) 0 []) t h) next
 
--- A frame answered 11 lies beyond the window. Calls that leave its port alone leave the port's run, its gathered packet and that it has joined (`reported-still`), and each report brings the window an epoch nearer: so behind one of them the same frame lies inside it, and is taken as `keeps` says.
+-- A frame answered 11 lies beyond the window. Calls that leave its port alone leave the port's run, its gathered packet and that it has joined (`reported_still`), and each report brings the window an epoch nearer: so behind one of them the same frame lies inside it, and is taken as `keeps` says.
 pub again : (x : Receiver) → Kept x.rows → (i : ℕ) (failed : Bool) (h : ℕ) (payload : List ℕ) → (frame_of x.rows i failed h payload x.store).answer ≡ 11
     → (calls : List ReceiverCall) → Others i calls → Unstopped x calls → (reports_of x calls ≡ [] → ⊥) → Stored (receiver_run x calls) i failed h payload
 again x k i failed h payload e calls others goes some =

@@ -1,5 +1,5 @@
 -- The lowest port to which the clause applies: as long as the search goes on, it applies to none below i.
--- So the first found is the lowest (`blamed-first`), and at the end there is nobody (`blamed-none`).
+-- So the first found is the lowest (`blamed_first`), and at the end there is nobody (`blamed_none`).
 use mathlib.Core.Path.{◌≡◌}
 use mathlib.Core.Bool.{false}
 use Prim.Native.Nat.{◌≤◌, ◌-◌}

@@ -1,5 +1,5 @@
--- A port alone is judged without the table, which gives the same since only the first port counts (`cause-first`).
--- Else a fixed group goes by its own clauses and any other by those of LCAS, on at most 64 ports (`size-le`).
+-- A port alone is judged without the table, which gives the same since only the first port counts (`cause_first`).
+-- Else a fixed group goes by its own clauses and any other by those of LCAS, on at most 64 ports (`size_le`).
 use mathlib.Core.Path.{◌∙◌}
 use borrow.Author.Tests.{eq-eqb, ne_eqb}
 use Rattle.judge.proofs.Alone.{cause_first}

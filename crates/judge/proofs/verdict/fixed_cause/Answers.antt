@@ -1,4 +1,4 @@
--- The tally, the repeats and the exactness of the numbers are the definition's, and so is the clause that decides (`by-fixed`).
+-- The tally, the repeats and the exactness of the numbers are the definition's, and so is the clause that decides (`by_fixed`).
 -- Where `is_full` says so, each number below n is held by one port, which answers the two last without a walk.
 use Rattle.judge.proofs.Judging.{by_fixed}
 use native.Mathlib.Omega.{arith}

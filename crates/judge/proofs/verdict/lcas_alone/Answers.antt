@@ -1,5 +1,5 @@
--- The clauses of LCAS for one port: nothing can repeat (`none-repeats`), and its number is exact if it has none or 0 (`exact-alone`).
--- A clause that holds decides (`by-held`), else one that doubts (`by-doubt`).
+-- The clauses of LCAS for one port: nothing can repeat (`none_repeats`), and its number is exact if it has none or 0 (`exact_alone`).
+-- A clause that holds decides (`by_held`), else one that doubts (`by_doubt`).
 use Rattle.judge.proofs.Alone.{exact_alone, none_repeats}
 use Rattle.judge.proofs.Judging.{by_held, by_doubt}
 use mathlib.Core.List.{[], ◌∷◌}

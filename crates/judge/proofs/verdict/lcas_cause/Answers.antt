@@ -1,5 +1,5 @@
--- A clause that holds decides (`by-held`), else one that doubts (`by-doubt`), each from the definition's tally, repeats, EOS and exactness.
--- The numbers to be exact are no more than the ports (`numbered-le`).
+-- A clause that holds decides (`by_held`), else one that doubts (`by_doubt`), each from the definition's tally, repeats, EOS and exactness.
+-- The numbers to be exact are no more than the ports (`numbered_le`).
 use Rattle.judge.proofs.Judging.{by_held, by_doubt, numbered_le}
 use Rattle.judge.proofs.verdict.lcas_cause.Goals as goal
 

@@ -1,5 +1,5 @@
 -- What a frame of an open window is: dropped before the window's first frame, kept from there on; a port that has not joined joins at the first. Never is it refused.
--- The idea: the port is in step, so the frame's tag is that of its position. From the window's first on, the tag's distance is that of the positions (`distance-in`); before it the tag lies outside (`window-out`). Which of three cases of `taken_of` it is goes by that and by whether the port has joined (`Joins`).
+-- The idea: the port is in step, so the frame's tag is that of its position. From the window's first on, the tag's distance is that of the positions (`distance_in_lem`); before it the tag lies outside (`window_out`). Which of three cases of `taken_of` it is goes by that and by whether the port has joined (`Joins`).
 use Rattle.std.specs.Prelude.{◌≡◌, ◌⊎◌, ◌≢◌, Bool, true, false, cond, not, ◌&&◌, List, ℕ, ◌+◌, ◌-◌, ◌*◌, ◌≤◌, ◌<◌, eqb, leb, ltb}
 use Rattle.std.proofs.Math.Path.{refl, ap}
 use Rattle.std.proofs.Common.{sym, ◌∙◌, ⊎_elim, arith, eq-eqb, le-leb, le-ltb, lt-ltb, ne_eqb}

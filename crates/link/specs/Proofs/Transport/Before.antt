@@ -1,4 +1,4 @@
--- Frames before the beginning, and the beginning itself: after each frame receiving has not begun yet, or the first epoch to start after the foremost position is being gathered (`before-frame`).
+-- Frames before the beginning, and the beginning itself: after each frame receiving has not begun yet, or the first epoch to start after the foremost position is being gathered (`before_frame`).
 -- The idea: what the step rule knows of a port goes by the port's position alone (`Heard`), so that the receiver's tests are tests of positions. Positions no further apart than the spread lie as their tags do: the foremost tag is that of the foremost position.
 use Rattle.std.specs.Prelude.{◌≡◌, ◌≢◌, Bool, true, false, cond, ◌||◌, List, [], ◌∷◌, ◌++◌, ℕ, zero, suc, ◌+◌, ◌-◌, ◌*◌, ◌/◌, ◌≤◌, ◌<◌, leb, length, replicate}
 use Rattle.std.proofs.Math.Path.{refl, sym, ap}

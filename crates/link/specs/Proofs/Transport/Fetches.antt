@@ -1,5 +1,5 @@
 -- Fetches after the beginning: none is due while a port owes a frame of the oldest epoch, and otherwise the epoch is told as its contents say.
--- The idea: where no port owes, all first marks are set, so what is seen of each port is given by its ruling packet (`seen_one`), and mark and order by that. The bytes stand in the store (`all-stand`). The report is compared field by field with the one that the contents give (`told_is`), and the window is an epoch further (`later-fetched`).
+-- The idea: where no port owes, all first marks are set, so what is seen of each port is given by its ruling packet (`seen_one`), and mark and order by that. The bytes stand in the store (`all_stand`). The report is compared field by field with the one that the contents give (`told_is`), and the window is an epoch further (`later_fetched`).
 use Rattle.std.specs.Prelude.{◌≡◌, ◌≢◌, Bool, eqb, length, replicate}
 use Rattle.std.proofs.Math.Path.{refl, ap}
 use Rattle.std.proofs.Common.{sym, ◌∙◌}

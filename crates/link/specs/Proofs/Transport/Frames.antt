@@ -1,5 +1,5 @@
 -- Frames after the beginning: each is answered 0 and leaves the window open, with its port one frame further; the last frame owed of the first epoch gathers it.
--- The idea: what the frame leaves of its own port is known (`Goes` of Arrives.antt), all other ports stay as they are (`by-port`), and something follows for all ports only where it was the last frame owed of the first epoch (`framed-passes`; else `framed-stays`).
+-- The idea: what the frame leaves of its own port is known (`Goes` of Arrives.antt), all other ports stay as they are (`by_port`), and something follows for all ports only where it was the last frame owed of the first epoch (`framed_passes`; else `framed_stays`).
 use Rattle.std.specs.Prelude.{◌≡◌, ◌⊎◌, ◌≢◌, Bool, [], ◌∷◌, ◌++◌, ℕ, suc, ◌+◌, ◌-◌, ◌*◌, ◌≤◌, ◌<◌, leb, ltb, get_or, length}
 use Rattle.std.proofs.Math.Path.{refl, ap}
 use Rattle.std.proofs.Common.{sym, ◌∙◌, inl, inr, arith, le-ltb, lt-ltb}

@@ -1,5 +1,5 @@
 -- All frame times: what stands at every moment of a run is one of three things, before the beginning, in the first epoch, or while reports are made (`Phase`, `phase`).
--- The idea: what single frames and fetches do is taken from elsewhere (`CallsDo`). It goes by induction over the ports of a frame time in their order, and then over frame times; each turn leads from one of the three to one of the three. Where it ends: receiving has begun 47 frames after the last port's first (`begun-by`).
+-- The idea: what single frames and fetches do is taken from elsewhere (`CallsDo`). It goes by induction over the ports of a frame time in their order, and then over frame times; each turn leads from one of the three to one of the three. Where it ends: receiving has begun 47 frames after the last port's first (`begun_by`).
 use Rattle.std.specs.Prelude.{◌≡◌, ◌≢◌, Bool, get_or, length}
 use Rattle.std.proofs.Math.Path.{refl}
 use Rattle.std.proofs.Common.{sym, ap, ◌∙◌, subst, inl, inr, ⊎_elim, true≢false, not-suc-le-zero, arith, length-append, lt-ltb, eq-eqb, ne_eqb, le-leb, ltb-true}

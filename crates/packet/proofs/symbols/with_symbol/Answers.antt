@@ -1,4 +1,4 @@
--- The symbol changes one entry of the row, which is worked out of the old one (`with-parts`); a place beyond the row leaves it (`with-past`).
+-- The symbol changes one entry of the row, which is worked out of the old one (`with_parts`); a place beyond the row leaves it (`with_past`).
 use Rattle.std.proofs.Common.{refl, arith}
 use Rattle.packet.specs.Theorems.Symbols.{with_parts, with_past}
 use Rattle.packet.proofs.symbols.with_symbol.Goals as goal

@@ -1,5 +1,5 @@
--- In range the answer is 0 with the check's own verdict (`check_done`), else 4 and not accepted (`check-range`).
--- In range W is 16 at least, so that W - 16 is right (`done-sizes`).
+-- In range the answer is 0 with the check's own verdict (`check_done`), else 4 and not accepted (`check_range`).
+-- In range W is 16 at least, so that W - 16 is right (`done_sizes`).
 use mathlib.Core.Path.{sym, ◌∙◌}
 use native.Mathlib.Omega.{arith}
 use Rattle.paths.proofs.Answering.{check_done, check_range, done_sizes}

@@ -1,5 +1,5 @@
--- In range the answer is the proposal (`plan-done`), else 4 with no path (`plan-range`).
--- In range k is 1 to the number of delays, these are 64 at most, and W is 16 at least: all that the proposal requires (`done-sizes`).
+-- In range the answer is the proposal (`plan_done`), else 4 with no path (`plan_range`).
+-- In range k is 1 to the number of delays, these are 64 at most, and W is 16 at least: all that the proposal requires (`done_sizes`).
 use mathlib.Core.Path.{sym, ◌∙◌}
 use native.Mathlib.Omega.{arith}
 use Rattle.paths.proofs.Answering.{done_sizes, plan_done, plan_range}

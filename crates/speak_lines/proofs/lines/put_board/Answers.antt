@@ -1,4 +1,4 @@
--- In runs the text is what speaking the whole board writes (`board-runs`), else what the console shows (`board-each`).
+-- In runs the text is what speaking the whole board writes (`board_runs`), else what the console shows (`board_each`).
 -- The room required leaves no refusal by length.
 use Rattle.speak_lines.proofs.Printing.{board_each, board_runs}
 use Rattle.speak_lines.proofs.lines.put_board.Goals as goal

@@ -1,4 +1,4 @@
--- In runs the text is what speaking in runs writes (`changes-runs`), else what speaking each change writes (`changes-each`).
+-- In runs the text is what speaking in runs writes (`changes_runs`), else what speaking each change writes (`changes_each`).
 -- The room required leaves no refusal by length.
 use Rattle.speak_lines.proofs.Printing.{changes_each, changes_runs}
 use Rattle.speak_lines.proofs.lines.put_changes.Goals as goal

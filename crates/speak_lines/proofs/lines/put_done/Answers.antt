@@ -1,4 +1,4 @@
--- A size that is accepted is told with the count (`done-size`); for any other line there is no text, and the output stays (`done_none`).
+-- A size that is accepted is told with the count (`done_size`); for any other line there is no text, and the output stays (`done_none`).
 use Rattle.speak_lines.proofs.Printing.{done_none, done_size}
 use Rattle.speak_lines.proofs.lines.put_done.Goals as goal
 

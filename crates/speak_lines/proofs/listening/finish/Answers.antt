@@ -1,5 +1,5 @@
--- 9 for an output with too little room and all as given (`finish-short`); a line that has begun is answered as if it had ended (`finish-line`);
--- with no line begun nothing is done (`finish-none`).
+-- 9 for an output with too little room and all as given (`finish_short`); a line that has begun is answered as if it had ended (`finish_line`);
+-- with no line begun nothing is done (`finish_none`).
 use Rattle.speak_lines.proofs.Answering.{finish_line, finish_none, finish_short}
 use Rattle.speak_lines.proofs.listening.finish.Goals as goal
 

@@ -1,4 +1,4 @@
--- The board she holds changes with `epoch` (`heard-epoch`) and with a size that is accepted (`heard-anew`), and else stays (`heard-still`).
+-- The board she holds changes with `epoch` (`heard_epoch`) and with a size that is accepted (`heard_anew`), and else stays (`heard_still`).
 use Rattle.speak_lines.proofs.Answering.{heard_anew, heard_epoch, heard_still}
 use Rattle.speak_lines.proofs.listening.heard_after.Goals as goal
 

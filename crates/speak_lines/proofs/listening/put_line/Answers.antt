@@ -1,4 +1,4 @@
--- `epoch` tells the changes from the board she holds to the table's own (`text-epoch`); any other line tells what it says (`text-line`).
+-- `epoch` tells the changes from the board she holds to the table's own (`text_epoch`); any other line tells what it says (`text_line`).
 use Rattle.speak_lines.proofs.Answering.{text_epoch, text_line}
 use Rattle.speak_lines.proofs.listening.put_line.Goals as goal
 

@@ -1,4 +1,4 @@
--- Three exits are the three cases of the definition: the board (`said-board`), a line done (`said-done`), and a line refused (`said-refused`).
+-- Three exits are the three cases of the definition: the board (`said_board`), a line done (`said_done`), and a line refused (`said_refused`).
 use Rattle.speak_lines.proofs.Answering.{said_board, said_done, said_refused}
 use Rattle.speak_lines.proofs.listening.put_said.Goals as goal
 

@@ -1,5 +1,5 @@
--- Written from the end: what stands from the start on, with the digits of the rest still to come before it, is the whole text (`digits-turn`).
--- With no rest or no place left nothing more comes before it (`digits-done`); the definition ends at twenty digits too.
+-- Written from the end: what stands from the start on, with the digits of the rest still to come before it, is the whole text (`digits_turn`).
+-- With no rest or no place left nothing more comes before it (`digits_done`); the definition ends at twenty digits too.
 use mathlib.Core.Path.{◌≡◌}
 use Prim.Native.Nat.{◌≤◌}
 use lib.ListN.{length, drop}

@@ -1,4 +1,4 @@
--- A text that would go beyond the end, or begins beyond it, is not put (`put-none`); any other is copied to its place (`put-here`).
+-- A text that would go beyond the end, or begins beyond it, is not put (`put_none`); any other is copied to its place (`put_here`).
 -- The two tests together are the definition's one, asked so that no sum can overflow.
 use Prim.Native.Nat.{◌+◌, ◌≤◌}
 use native.Mathlib.Omega.{arith}
