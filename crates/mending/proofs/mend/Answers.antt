@@ -1,42 +1,31 @@
 use Rattle.mending.specs.Laws.Whole.{copy_asked, lines_within, mend_done, mend_other, mend_refused, notes_asked}
-use borrow.Author.Tests.{not-false, not-true}
-use lib.ListN.{length}
-use lib.Dec.{eqb}
-use mathlib.Core.Bool.{◌&&◌}
 use native.Mathlib.Omega.{arith}
-use borrow.Author.Rules.{rules}
 use Rattle.mending.proofs.mend.Goals as goal
 
--- src/lib.rt:36:9
 pub returns-then-start-ne0 : goal.returns-then-start-ne0
 returns-then-start-ne0 c = mend_refused c.args.recording.now c.opened-start.result c.opened-start.ensures c.if-start-ne0.true c.args.mended.now c.args.notes.now
 
--- src/lib.rt:38:9
 pub lengths_from-told-requires : goal.lengths_from-told-requires
 lengths_from-told-requires c = lines_within c.args.recording.now c.opened-start.result c.opened-start.ensures c.if-start-ne0.false
 
--- src/lib.rt:40:9
 pub returns-then-not-mended-told : goal.returns-then-not-mended-told
 returns-then-not-mended-told c =
     let g = c.well_formed.1.1.0.1 in
     mend_other c.args.recording.now c.opened-start.result c.opened-start.ensures c.if-start-ne0.false c.args.mended.now c.args.notes.now (omega arith) c.lengths_from-told.result c.lengths_from-told.ensures
     c.if-not-mended-told.true
 
--- src/lib.rt:42:5
 pub copy_all-requires : goal.copy_all-requires
 copy_all-requires c =
     let g = c.well_formed.1.1.0.1 in
     copy_asked c.args.recording.now c.opened-start.result c.opened-start.ensures c.if-start-ne0.false c.args.mended.now c.args.notes.now (omega arith) c.lengths_from-told.result c.lengths_from-told.ensures
     c.if-not-mended-told.false
 
--- src/lib.rt:43:5
 pub put_notes-requires : goal.put_notes-requires
 put_notes-requires c =
     let g = c.well_formed.1.1.0.1 in
     notes_asked c.args.recording.now c.opened-start.result c.opened-start.ensures c.if-start-ne0.false c.args.mended.now c.args.notes.now (omega arith) c.lengths_from-told.result c.lengths_from-told.ensures
     c.if-not-mended-told.false _ c.copy_all.ensures
 
--- src/lib.rt:29:1
 pub returns : goal.returns
 returns c =
     let g = c.well_formed.1.1.0.1 in

@@ -1,7 +1,6 @@
 use Rattle.mending.specs.Lines.{capital}
 use borrow.Author.Tests.{le-ltb, lt-ltb}
 use mathlib.Core.Path.{refl}
-use borrow.Author.Rules.{rules}
 use Rattle.mending.proofs.copying.capital_of.Goals as goal
 
 pub returns-then-n-lt10 : goal.returns-then-n-lt10

@@ -1,13 +1,6 @@
-use Rattle.mending.specs.Laws.Sweeps.{sweep_end}
-use mathlib.Core.Path.{◌∙◌}
-use Rattle.mending.specs.Laws.Copies.{part_is}
-use Rattle.mending.proofs.Promised.{copy_dropped, copy_kept}
-use Rattle.mending.specs.Laws.Copies.{Copying, copying_ends, copying_starts}
-use lib.ListN.{length, replicate}
+use Rattle.mending.specs.Laws.Copies.{Copying}
+use lib.ListN.{length}
 use Prim.Native.Nat.{◌-◌}
-use mathlib.Core.Path.{ap}
-use borrow.Author.Rules.{rules}
-use native.Mathlib.Omega.{arith}
 use Rattle.mending.proofs.copying.copy_lines.Given as goal
 
 abbrev pub invariant-loop-at : goal.invariant-loop-at

@@ -1,11 +1,8 @@
-use Rattle.mending.proofs.Promised.{ended_by}
 use Rattle.mending.specs.Laws.Sweeps.{sweep_end}
 use Rattle.mending.specs.Laws.Copies.{sweep_in}
 use lib.ListN.{length}
 use Prim.Native.Nat.{◌-◌, ◌≤◌}
-use mathlib.Core.Path.{◌≡◌, refl, ◌∙◌}
-use borrow.Author.Rules.{rules}
-use native.Mathlib.Omega.{arith}
+use mathlib.Core.Path.{◌≡◌}
 use Rattle.mending.proofs.copying.finish.Given as goal
 
 abbrev pub invariant-loop-i : goal.invariant-loop-i

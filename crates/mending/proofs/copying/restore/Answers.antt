@@ -1,6 +1,5 @@
 -- `restore` meets its contract: three places back, each put where it is restored, one behind the other (`restored_by`).
 use Rattle.mending.proofs.Promised.{restored_by}
-use borrow.Author.Rules.{rules}
 use Rattle.mending.proofs.copying.restore.Goals as goal
 
 pub returns : goal.returns

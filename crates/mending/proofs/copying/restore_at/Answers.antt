@@ -1,7 +1,6 @@
 use Rattle.mending.specs.Lines.{capital}
 use lib.Seq.{set_out}
 use mathlib.Core.Path.{refl, sym}
-use borrow.Author.Rules.{rules}
 use Rattle.mending.proofs.copying.restore_at.Goals as goal
 
 pub returns-then-place-mended : goal.returns-then-place-mended

@@ -1,10 +1,8 @@
 use Rattle.mending.specs.Follow.{count_back}
 use mathlib.Core.Path.{refl}
 use native.Mathlib.Omega.{arith}
-use borrow.Author.Rules.{rules}
 use Rattle.mending.proofs.follow.count_back.Goals as goal
 
--- src/follow.rt:40:1
 pub returns : goal.returns
 unfolding count_back
 returns c = (refl, omega arith)

@@ -1,4 +1,3 @@
-use borrow.Author.Rules.{rules}
 use Rattle.mending.proofs.follow.followed_if.Goals as goal
 
 pub returns-then-counted : goal.returns-then-counted

@@ -2,7 +2,6 @@ use Rattle.mending.specs.Follow.{restores_last}
 use mathlib.Core.Path.{refl}
 use Rattle.mending.proofs.follow.is_last.Goals as goal
 
--- src/follow.rt:120:1
 pub returns : goal.returns
 unfolding restores_last
 returns c = refl

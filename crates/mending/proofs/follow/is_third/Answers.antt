@@ -2,7 +2,6 @@ use Rattle.mending.specs.Follow.{restores_third}
 use mathlib.Core.Path.{refl}
 use Rattle.mending.proofs.follow.is_third.Goals as goal
 
--- src/follow.rt:113:1
 pub returns : goal.returns
 unfolding restores_third
 returns c = refl

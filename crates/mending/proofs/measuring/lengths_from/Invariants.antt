@@ -1,10 +1,6 @@
-use Rattle.mending.specs.Laws.Counting.{whole_lengths}
-use Rattle.mending.specs.Laws.Counting.{Counting, count_dropped_turn, count_kept_turn, counting_ends, counting_starts}
-use lib.ListN.{length, replicate}
+use Rattle.mending.specs.Laws.Counting.{Counting}
+use lib.ListN.{length}
 use Prim.Native.Nat.{◌-◌}
-use mathlib.Core.Path.{ap}
-use borrow.Author.Rules.{rules}
-use native.Mathlib.Omega.{arith}
 use Rattle.mending.proofs.measuring.lengths_from.Given as goal
 
 abbrev pub invariant-loop-at : goal.invariant-loop-at

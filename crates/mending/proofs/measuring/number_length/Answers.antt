@@ -1,9 +1,7 @@
 use Rattle.mending.specs.Laws.Counting.{number_told}
 use lib.ListN.{replicate}
 use mathlib.Core.Path.{refl}
-use borrow.Author.Rules.{rules}
 use Rattle.mending.proofs.measuring.number_length.Goals as goal
 
--- src/measuring.rt:46:1
 pub returns : goal.returns
 returns c = number_told c.args.number (replicate 21 0) refl c.put_decimal.result c.put_decimal.ensures.0

@@ -1,11 +1,8 @@
 use Rattle.mending.specs.Laws.Counting.{restored_told, restored_untold}
-use borrow.Author.Rules.{rules}
 use Rattle.mending.proofs.measuring.restored_length.Goals as goal
 
--- src/measuring.rt:65:9
 pub returns-then-is : goal.returns-then-is
 returns-then-is c = rw c.if-is.true (restored_told c.args.number c.number_length.result c.number_length.ensures.0 c.number_length.ensures.1)
 
--- src/measuring.rt:61:1
 pub returns : goal.returns
 returns c = rw c.if-is.false (restored_untold c.args.number)

@@ -1,8 +1,6 @@
 use Rattle.mending.specs.Laws.Counting.{lengths_by_lem}
-use borrow.Author.Rules.{rules}
 use Rattle.mending.proofs.measuring.restored_lengths.Goals as goal
 
--- src/measuring.rt:71:1
 pub returns : goal.returns
 returns c =
     lengths_by_lem c.args.before c.args.after c.args.numbers c.restored_length.result c.restored_length-2.result c.restored_length-3.result c.is_first-first.result c.is_second-second.result c.is_third-third.result

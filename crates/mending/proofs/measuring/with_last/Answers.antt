@@ -1,31 +1,21 @@
-use Rattle.mending.specs.Told.{told}
-use Rattle.mending.specs.Laws.Sweeps.{length_end}
-use Rattle.mending.specs.Laws.Counting.{count_in, end_turn, told_none}
-use lib.ListN.{length}
-use Prim.Native.Nat.{◌+◌, ◌-◌, ◌≤◌}
+use Rattle.mending.specs.Laws.Counting.{end_turn, told_none}
 use mathlib.Core.Path.{◌≡◌}
-use borrow.Author.Rules.{rules}
 use native.Mathlib.Omega.{arith}
 use Rattle.mending.proofs.measuring.with_last.Goals as goal
 
--- src/measuring.rt:107:5
 pub loop-i-init : goal.loop-i-init
 loop-i-init c = (omega arith, omega arith, omega arith, told_none c.args.before (omega arith))
 
--- src/measuring.rt:108:17
 pub bounds-follows-i : goal.bounds-follows-i
 bounds-follows-i c = let i = c.loop-i.invariant.1 in omega arith
 
--- src/measuring.rt:109:23
 pub bounds-keys-i : goal.bounds-keys-i
 bounds-keys-i c = let i = c.loop-i.invariant.2 in omega arith
 
--- src/measuring.rt:107:5
 pub loop-i-preserved : goal.loop-i-preserved
 loop-i-preserved c =
     let i = c.loop-i.invariant in
     (omega arith, i.1, i.2, end_turn c.args.follows c.args.keys c.loop-i.i c.args.before c.loop-i.notes c.restored_length-noted.result c.more-notes.result c.is_last-is.result i.3 c.is_last-is.ensures c.restored_length-noted.ensures.0 c.more-notes.ensures)
 
--- src/measuring.rt:102:1
 pub returns : goal.returns
 returns c = let i = c.loop-i.invariant.3 in let e : c.loop-i.i ≡ 64 = omega arith in rw e at i

@@ -1,11 +1,9 @@
 use Rattle.mending.specs.Told.{told}
 use Rattle.mending.specs.Laws.Sweeps.{length_end}
-use Rattle.mending.specs.Laws.Counting.{count_in, end_turn, told_none}
+use Rattle.mending.specs.Laws.Counting.{count_in}
 use lib.ListN.{length}
 use Prim.Native.Nat.{◌+◌, ◌-◌, ◌≤◌}
 use mathlib.Core.Path.{◌≡◌}
-use borrow.Author.Rules.{rules}
-use native.Mathlib.Omega.{arith}
 use Rattle.mending.proofs.measuring.with_last.Given as goal
 
 abbrev pub invariant-loop-i : goal.invariant-loop-i

@@ -1,8 +1,6 @@
 use lib.ListN.{get_or-eq_default}
 use mathlib.Core.Path.{sym}
-use borrow.Author.Rules.{rules}
 use Rattle.mending.proofs.notes.byte_at.Goals as goal
 
--- src/notes.rt:49:1
 pub returns-else-place-text : goal.returns-else-place-text
 returns-else-place-text c = sym (get_or-eq_default c.args.text.now 0 c.if-place-text.false)

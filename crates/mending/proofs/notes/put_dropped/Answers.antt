@@ -2,10 +2,8 @@ use lib.Seq.{slice}
 use native.Mathlib.Omega.{arith}
 use Rattle.mending.specs.Laws.Noting.{dropped_put}
 use Rattle.mending.specs.Laws.Copies.{part_is}
-use borrow.Author.Rules.{rules}
 use Rattle.mending.proofs.notes.put_dropped.Goals as goal
 
--- src/notes.rt:22:1
 pub returns : goal.returns
 returns c =
     let a = c.requires.0 in

@@ -1,10 +1,8 @@
 use Rattle.mending.specs.Laws.Noting.{put_nothing, read_dropped_lem, read_other, read_same}
 use borrow.Author.Tests.{not-false, not-true}
 use native.Mathlib.Omega.{arith}
-use borrow.Author.Rules.{rules}
 use Rattle.mending.proofs.notes.put_note.Goals as goal
 
--- src/notes.rt:70:9
 pub put_dropped-requires : goal.put_dropped-requires
 put_dropped-requires c =
     let b = c.requires.0 in
@@ -12,16 +10,13 @@ put_dropped-requires c =
     let w = b.within in
     (b.starts, omega arith, rw (read_dropped_lem c.args.number c.args.text.now c.args.at c.args.mended.now c.args.to c.args.read (not-true c.args.read.kept c.if-not-read.true)) at c.requires.2)
 
--- src/notes.rt:70:9
 pub returns-then-not-read : goal.returns-then-not-read
 returns-then-not-read c =
     rw (read_dropped_lem c.args.number c.args.text.now c.args.at c.args.mended.now c.args.to c.args.read (not-true c.args.read.kept c.if-not-read.true)) c.put_dropped.ensures
 
--- src/notes.rt:74:37
 pub overflow_sub-digit : goal.overflow_sub-digit
 overflow_sub-digit c = let d = c.requires.0.digit (not-false c.args.read.kept c.if-not-read.false) in let e = d.0 in omega arith
 
--- src/notes.rt:74:31
 pub overflow_add-to : goal.overflow_add-to
 overflow_add-to c =
     let b = c.requires.0 in
@@ -33,23 +28,19 @@ overflow_add-to c =
     let i = c.requires.1 in
     omega arith
 
--- src/notes.rt:76:9
 pub returns-then-old-new : goal.returns-then-old-new
 returns-then-old-new c =
     rw (read_same c.args.number c.args.text.now c.args.at c.args.mended.now c.args.to c.args.read (not-false c.args.read.kept c.if-not-read.false) c.byte_at-old.result c.byte_at-new.result
     c.byte_at-old.ensures c.byte_at-new.ensures c.if-old-new.true) (put_nothing c.args.notes.now c.args.start)
 
--- src/notes.rt:80:23
 pub overflow_sub-digit-2 : goal.overflow_sub-digit-2
 overflow_sub-digit-2 c = let d = c.requires.0.digit (not-false c.args.read.kept c.if-not-read.false) in let e = d.0 in omega arith
 
--- src/notes.rt:78:5
 pub put_restored-requires : goal.put_restored-requires
 put_restored-requires c =
     rw (read_other c.args.number c.args.text.now c.args.at c.args.mended.now c.args.to c.args.read (not-false c.args.read.kept c.if-not-read.false) c.byte_at.result c.byte_at-old.result c.byte_at-new.result
     c.byte_at.ensures c.byte_at-old.ensures c.byte_at-new.ensures c.if-old-new.false) at c.requires.2
 
--- src/notes.rt:56:1
 pub returns : goal.returns
 returns c =
     rw (read_other c.args.number c.args.text.now c.args.at c.args.mended.now c.args.to c.args.read (not-false c.args.read.kept c.if-not-read.false) c.byte_at.result c.byte_at-old.result c.byte_at-new.result

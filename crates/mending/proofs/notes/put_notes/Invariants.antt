@@ -1,8 +1,6 @@
-use Rattle.mending.specs.Laws.Noting.{Noting, note_turn, noting_ends, noting_starts, turn_fits}
+use Rattle.mending.specs.Laws.Noting.{Noting}
 use lib.ListN.{length}
 use Prim.Native.Nat.{◌-◌}
-use mathlib.Core.Path.{sym, ◌∙◌}
-use native.Mathlib.Omega.{arith}
 use Rattle.mending.proofs.notes.put_notes.Given as goal
 
 abbrev pub invariant-loop-at : goal.invariant-loop-at

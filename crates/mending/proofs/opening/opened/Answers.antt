@@ -2,31 +2,26 @@ use Rattle.recording.specs.Opening.{opening_in}
 use Rattle.recording.specs.Theorems.Lines.{handed_end, handed_malformed, handed_set, handed_unfinished}
 use Rattle.mending.specs.Laws.Starts.{start_of}
 use mathlib.Core.Bool.{true}
-use borrow.Author.Rules.{rules}
 use Rattle.mending.proofs.opening.opened.Goals as goal
 
--- src/opening.rt:67:1
 pub returns-in-Settings : goal.returns-in-Settings
 unfolding start_of
 returns-in-Settings c =
     rw (handed_set (opening_in 0 true c.args.text.now) c.opening_at-first.result
     c.opening_at-first.ensures c.in-Settings.is) c.opened_with.ensures
 
--- src/opening.rt:67:1
 pub returns-in-Malformed : goal.returns-in-Malformed
 unfolding start_of
 returns-in-Malformed c =
     rw (handed_malformed (opening_in 0 true c.args.text.now) c.opening_at-first.result
     c.opening_at-first.ensures c.in-Malformed.is) c.refused.ensures
 
--- src/opening.rt:67:1
 pub returns-in-Unfinished : goal.returns-in-Unfinished
 unfolding start_of
 returns-in-Unfinished c =
     rw (handed_unfinished (opening_in 0 true c.args.text.now) c.opening_at-first.result
     c.opening_at-first.ensures c.in-Unfinished.is) c.refused-in-Unfinished.ensures
 
--- src/opening.rt:67:1
 pub returns-in-End : goal.returns-in-End
 unfolding start_of
 returns-in-End c =

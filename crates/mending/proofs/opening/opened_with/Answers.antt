@@ -1,11 +1,8 @@
 use mathlib.Core.Path.{refl, sym, ◌∙◌}
-use borrow.Author.Rules.{rules}
 use Rattle.mending.proofs.opening.opened_with.Goals as goal
 
--- src/opening.rt:57:9
 pub returns-then-is_fitting : goal.returns-then-is_fitting
 returns-then-is_fitting c = rw (sym c.is_fitting.ensures ∙ c.if-is_fitting.true) refl
 
--- src/opening.rt:53:1
 pub returns : goal.returns
 returns c = rw (sym c.is_fitting.ensures ∙ c.if-is_fitting.false) c.refused.ensures

@@ -1,9 +1,4 @@
 -- Both lists are tested as far as there are ports, and the answer is the definition's.
-use mathlib.Core.Path.{◌≡◌, sym}
-use Prim.Native.Nat.{◌≤◌}
-use lib.ListN.{length, length-map}
-use lib.Seq.{length-take-le}
-use native.Mathlib.Omega.{arith}
 use Rattle.mending.proofs.opening.times_fit.Goals as goal
 
 pub returns : goal.returns
