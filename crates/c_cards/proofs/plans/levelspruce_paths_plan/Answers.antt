@@ -1,5 +1,5 @@
 -- The call meets its contract: what the planner refuses, then 9 for the buffer, and under 0 the plan's 65 bytes.
--- Each exit cites one law on an answer into a lent buffer (`lent_refused`, `lent_short`, `lent_done`), with the planner's number (`plan_number`).
+-- Each exit cites one law on an answer into a lent buffer (`lent_refused`, `lent_short`, `lent_done`), with the planner's number (`plan_number_lem`).
 use mathlib.Core.Path.{◌∙◌, ap}
 use Rattle.c_cards.specs.Plans.{plan_bytes_of}
 use Rattle.c_cards.proofs.Planning.{lent_done, lent_refused, lent_short, plan_number_lem}
