@@ -21,12 +21,12 @@ open_with-requires c =
 pub returns-in-Settings : goal.returns-in-Settings
 unfolding open_turn open_rows open_said
 returns-in-Settings c =
-    rw (le-leb 1219 (length c.args.said.now) c.if-said-lt-REPLAY_ROOM.false, le-leb 321 (length c.args.rows.now) c.if-rows-lt-ROWS_MOST.false, (first_set c.args.at c.args.last (drop c.args.at c.args.text.now) c.opening_at-first.result c.opening_at-first.ensures c.enum_told-1.given.1).1) c.open_with.ensures
+    rw (le-leb 1219 (length c.args.said.now) c.if-said-lt-REPLAY_ROOM.false, le-leb 321 (length c.args.rows.now) c.if-rows-lt-ROWS_MOST.false, (first_set c.args.at c.args.last (drop c.args.at c.args.text.now) c.opening_at-first.result c.opening_at-first.ensures c.in-Settings.is).1) c.open_with.ensures
 
 pub returns-in-Malformed : goal.returns-in-Malformed
 unfolding open_turn open_rows open_said
 returns-in-Malformed c =
-    rw (le-leb 1219 (length c.args.said.now) c.if-said-lt-REPLAY_ROOM.false, le-leb 321 (length c.args.rows.now) c.if-rows-lt-ROWS_MOST.false, first_malformed c.args.at c.args.last (drop c.args.at c.args.text.now) c.opening_at-first.result c.opening_at-first.ensures c.enum_told-in-Malformed-1.given.1) (c.answered.ensures.0 ∙ answered_placed c.args.at c.args.at 0 (omega arith) _ _ _, refl, c.answered.ensures.1)
+    rw (le-leb 1219 (length c.args.said.now) c.if-said-lt-REPLAY_ROOM.false, le-leb 321 (length c.args.rows.now) c.if-rows-lt-ROWS_MOST.false, first_malformed c.args.at c.args.last (drop c.args.at c.args.text.now) c.opening_at-first.result c.opening_at-first.ensures c.in-Malformed.is) (c.answered.ensures.0 ∙ answered_placed c.args.at c.args.at 0 (omega arith) _ _ _, refl, c.answered.ensures.1)
 
 pub returns-in-Unfinished : goal.returns-in-Unfinished
 unfolding open_turn open_rows open_said

@@ -29,7 +29,7 @@ pub returns-in-Frame : goal.returns-in-Frame
 unfolding read_turn read_rows read_store read_said
 returns-in-Frame c =
     let b = sym c.is_lent.ensures ∙ c.if-not-is_lent.false in
-    let y = frame_sooner c.args.at (record_now c.args.replay.ports c.args.replay.size c.args.last (drop c.args.at c.args.text.now)) _ _ _ _ _ (sym c.record_now-found.ensures ∙ c.found-1.given.1) in
+    let y = frame_sooner c.args.at (record_now c.args.replay.ports c.args.replay.size c.args.last (drop c.args.at c.args.text.now)) _ _ _ _ _ (sym c.record_now-found.ensures ∙ c.in-Frame.is) in
     let p = payload_placed c.args.at _ _ y.0 c.args.replay.size c.args.text.now in
     rw (b, y.2) (c.framed.ensures ∙ framed_placed c.args.at _ _ y.1 c.args.replay, rw p at c.take_frame.ensures.0, rw p at c.take_frame.ensures.1, refl)
 
@@ -37,7 +37,7 @@ pub returns-in-Malformed : goal.returns-in-Malformed
 unfolding read_turn read_rows read_store read_said
 returns-in-Malformed c =
     let b = sym c.is_lent.ensures ∙ c.if-not-is_lent.false in
-    let y = malformed_sooner c.args.at (record_now c.args.replay.ports c.args.replay.size c.args.last (drop c.args.at c.args.text.now)) _ (sym c.record_now-found.ensures ∙ c.found-in-Malformed-1.given.1) in
+    let y = malformed_sooner c.args.at (record_now c.args.replay.ports c.args.replay.size c.args.last (drop c.args.at c.args.text.now)) _ (sym c.record_now-found.ensures ∙ c.in-Malformed.is) in
     rw (b, y.1) (c.answered.ensures.0 ∙ answered_placed c.args.at _ _ y.0 _ _ _, refl, refl, c.answered.ensures.1)
 
 pub returns-in-Long : goal.returns-in-Long

@@ -5,7 +5,7 @@ use Rattle.replay_lines.proofs.turns.turn.Goals as goal
 
 pub returns-in-Settings : goal.returns-in-Settings
 returns-in-Settings c =
-    let e = c.enum_told-1.given.1 in
+    let e = c.in-Settings.is in
     let r = c.args.replay in
     let t = drop c.args.at c.args.text.now in
     let n = length c.args.said.now in
@@ -13,7 +13,7 @@ returns-in-Settings c =
 
 pub returns-in-Reading : goal.returns-in-Reading
 returns-in-Reading c =
-    let e = c.enum_told-in-Reading-1.given.1 in
+    let e = c.in-Reading.is in
     let r = c.args.replay in
     let t = drop c.args.at c.args.text.now in
     let n = length c.args.said.now in
@@ -21,7 +21,7 @@ returns-in-Reading c =
 
 pub returns-in-Fetching : goal.returns-in-Fetching
 returns-in-Fetching c =
-    let e = c.enum_told-in-Fetching-1.given.1 in
+    let e = c.in-Fetching.is in
     let r = c.args.replay in
     let t = drop c.args.at c.args.text.now in
     let n = length c.args.said.now in
