@@ -1,4 +1,3 @@
-use Rattle.std.proofs.Common.{arith}
 use Rattle.replay_lines.specs.Output.{count_in}
 use Rattle.replay_lines.proofs.changes.count_in.Goals as goal
 

@@ -1,4 +1,4 @@
-use Rattle.std.proofs.Common.{arith, eq-eqb, ne_eqb}
+use Rattle.std.proofs.Common.{eq-eqb, ne_eqb}
 use Rattle.replay_lines.proofs.changes.number_of.Goals as goal
 
 pub returns-then-member-eq0 : goal.returns-then-member-eq0

@@ -1,4 +1,3 @@
-use Rattle.std.proofs.Common.{arith}
 use Rattle.replay_lines.proofs.Printing.{change_none, change_some}
 use Rattle.replay_lines.proofs.changes.put_change.Goals as goal
 

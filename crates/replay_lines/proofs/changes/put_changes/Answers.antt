@@ -1,6 +1,4 @@
-use Rattle.std.proofs.Common.{◌≡◌, ◌-◌, ◌≤◌, length, arith, rules}
-use Rattle.text.specs.Output.{Put}
-use Rattle.replay_lines.specs.Output.{changes_text}
+use Rattle.std.proofs.Common.{◌≡◌, arith, rules}
 use Rattle.replay_lines.proofs.Printing.{changes_none, one_more, room_for_one}
 use Rattle.replay_lines.proofs.changes.put_changes.Goals as goal
 

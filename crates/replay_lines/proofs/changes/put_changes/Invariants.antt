@@ -1,7 +1,6 @@
-use Rattle.std.proofs.Common.{◌≡◌, ◌-◌, ◌≤◌, length, arith, rules}
+use Rattle.std.proofs.Common.{◌≡◌, ◌-◌, ◌≤◌, length}
 use Rattle.text.specs.Output.{Put}
 use Rattle.replay_lines.specs.Output.{changes_text}
-use Rattle.replay_lines.proofs.Printing.{changes_none, one_more, room_for_one}
 use Rattle.replay_lines.proofs.changes.put_changes.Given as goal
 
 abbrev pub invariant-loop-i : goal.invariant-loop-i

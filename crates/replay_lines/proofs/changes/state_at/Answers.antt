@@ -1,4 +1,3 @@
-use Rattle.std.proofs.Common.{arith}
 use Rattle.replay_lines.specs.Output.{state_at}
 use Rattle.replay_lines.proofs.changes.state_at.Goals as goal
 

@@ -1,5 +1,5 @@
-use Rattle.std.proofs.Common.{◌≡◌, ◌+◌, ◌-◌, ◌≤◌, length, refl, arith}
-use Rattle.ground.specs.Drawn.{Filling, filling_all, filling_more, filling_none}
+use Rattle.std.proofs.Common.{◌≡◌, ◌+◌, refl, arith}
+use Rattle.ground.specs.Drawn.{filling_all, filling_more, filling_none}
 use Rattle.replay_lines.specs.Output.{state_at, states_in}
 use Rattle.replay_lines.proofs.changes.states_in.Goals as goal
 

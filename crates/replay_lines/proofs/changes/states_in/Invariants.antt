@@ -1,6 +1,6 @@
-use Rattle.std.proofs.Common.{◌≡◌, ◌+◌, ◌-◌, ◌≤◌, length, refl, arith}
-use Rattle.ground.specs.Drawn.{Filling, filling_all, filling_more, filling_none}
-use Rattle.replay_lines.specs.Output.{state_at, states_in}
+use Rattle.std.proofs.Common.{◌≡◌, ◌-◌, ◌≤◌, length}
+use Rattle.ground.specs.Drawn.{Filling}
+use Rattle.replay_lines.specs.Output.{state_at}
 use Rattle.replay_lines.proofs.changes.states_in.Given as goal
 
 abbrev pub invariant-loop-i : goal.invariant-loop-i

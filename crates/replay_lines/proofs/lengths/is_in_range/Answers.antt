@@ -1,4 +1,4 @@
-use Rattle.std.proofs.Common.{sym, ◌∙◌, arith}
+use Rattle.std.proofs.Common.{sym, ◌∙◌}
 use Rattle.replay_lines.specs.Laws.Starts.{range_in, range_out, small}
 use Rattle.replay_lines.proofs.lengths.is_in_range.Goals as goal
 

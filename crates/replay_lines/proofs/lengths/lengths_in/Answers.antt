@@ -1,4 +1,4 @@
-use Rattle.std.proofs.Common.{sym, ◌∙◌, arith}
+use Rattle.std.proofs.Common.{sym, ◌∙◌}
 use Rattle.replay_lines.specs.Laws.Starts.{range_sized, small}
 use Rattle.replay_lines.specs.Lengths.{lengths_in}
 use Rattle.replay_lines.proofs.lengths.lengths_in.Goals as goal

@@ -1,4 +1,3 @@
-use Rattle.std.proofs.Common.{arith}
 use Rattle.replay_lines.proofs.lengths.lengths_with.Goals as goal
 
 pub returns : goal.returns

@@ -1,4 +1,4 @@
-use Rattle.std.proofs.Common.{true, arith}
+use Rattle.std.proofs.Common.{true}
 use Rattle.recording.specs.Opening.{opening_in}
 use Rattle.recording.specs.Theorems.Lines.{handed_end, handed_malformed, handed_set, handed_unfinished}
 use Rattle.replay_lines.specs.Lengths.{lengths_of}

@@ -1,4 +1,4 @@
-use Rattle.std.proofs.Common.{ℕ, List, get_or, sym, ap, length-take-le, rules}
+use Rattle.std.proofs.Common.{ℕ, List, get_or, sym, ap, length-take-le}
 use Rattle.replay_lines.specs.Turn.{blamed_in}
 use Rattle.replay_lines.proofs.lent.blamed.Goals as goal
 

@@ -1,4 +1,4 @@
-use Rattle.std.proofs.Common.{◌≡◌, ◌-◌, ◌<◌, ◌≤◌, ◌++◌, length, drop, replicate, refl, arith, length-set}
+use Rattle.std.proofs.Common.{◌≡◌, ◌<◌, length, replicate, refl, arith, length-set}
 use Rattle.replay_lines.proofs.Clearing.{clear_all, clear_turn}
 use Rattle.replay_lines.proofs.lent.clear_rows.Goals as goal
 

@@ -1,5 +1,4 @@
-use Rattle.std.proofs.Common.{◌≡◌, ◌-◌, ◌<◌, ◌≤◌, ◌++◌, length, drop, replicate, refl, arith, length-set}
-use Rattle.replay_lines.proofs.Clearing.{clear_all, clear_turn}
+use Rattle.std.proofs.Common.{◌≡◌, ◌-◌, ◌≤◌, ◌++◌, length, drop, replicate}
 use Rattle.replay_lines.proofs.lent.clear_store.Given as goal
 
 abbrev pub invariant-loop-i : goal.invariant-loop-i

@@ -1,4 +1,4 @@
-use Rattle.std.proofs.Common.{sym, refl, arith, length-take-le}
+use Rattle.std.proofs.Common.{sym, refl, length-take-le}
 use Rattle.replay_lines.proofs.lent.fetch.Goals as goal
 
 pub slice_bounds-fetch-end-2 : goal.slice_bounds-fetch-end-2

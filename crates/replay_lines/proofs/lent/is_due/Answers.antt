@@ -1,4 +1,4 @@
-use Rattle.std.proofs.Common.{sym, arith, length-take-le, rules}
+use Rattle.std.proofs.Common.{sym, length-take-le}
 use Rattle.replay_lines.proofs.lent.is_due.Goals as goal
 
 pub slice_bounds-is_due_in-end : goal.slice_bounds-is_due_in-end

@@ -1,4 +1,3 @@
-use Rattle.std.proofs.Common.{arith}
 use Rattle.replay_lines.proofs.lent.is_due_in.Goals as goal
 
 pub returns : goal.returns

@@ -1,4 +1,4 @@
-use Rattle.std.proofs.Common.{refl, arith}
+use Rattle.std.proofs.Common.{refl}
 use Rattle.receiver.specs.Fetch.{due_in}
 use Rattle.replay_lines.proofs.lent.is_due_of.Goals as goal
 

@@ -1,4 +1,4 @@
-use Rattle.std.proofs.Common.{◌≡◌, ℕ, ◌≤◌, length, replicate, sym, refl, arith, length-take-le}
+use Rattle.std.proofs.Common.{ℕ, ◌≤◌, length, replicate, sym, refl, length-take-le}
 use lib.ListN.{length-replicate}
 use Rattle.replay_lines.specs.Turn.{cleared_rows, started_rows}
 use Rattle.replay_lines.proofs.lent.start.Goals as goal

@@ -1,4 +1,4 @@
-use Rattle.std.proofs.Common.{length, arith}
+use Rattle.std.proofs.Common.{length}
 use Rattle.text.specs.Ascii.{ascii}
 use Rattle.text.specs.Laws.Putting.{is_put, shorter}
 use Rattle.text.specs.Output.{decimal_text, ended}

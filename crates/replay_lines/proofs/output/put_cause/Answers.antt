@@ -1,4 +1,3 @@
-use Rattle.std.proofs.Common.{arith}
 use Rattle.replay_lines.proofs.Printing.{cause_eos, cause_gid, cause_lacking, cause_numbers, cause_refused, cause_repeated, cause_unseen}
 use Rattle.replay_lines.proofs.output.put_cause.Goals as goal
 

@@ -1,4 +1,3 @@
-use Rattle.std.proofs.Common.{arith}
 use Rattle.replay_lines.proofs.Printing.{mark_doubtful, mark_held, mark_sure}
 use Rattle.replay_lines.proofs.output.put_mark.Goals as goal
 

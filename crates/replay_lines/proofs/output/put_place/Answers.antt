@@ -1,4 +1,4 @@
-use Rattle.std.proofs.Common.{length, arith}
+use Rattle.std.proofs.Common.{length}
 use Rattle.text.specs.Laws.Putting.{is_put, put_then, room, shorter}
 use Rattle.text.specs.Output.{ended, number_text}
 use Rattle.text.specs.Text.{TAB}

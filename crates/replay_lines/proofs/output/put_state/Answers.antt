@@ -1,4 +1,3 @@
-use Rattle.std.proofs.Common.{arith}
 use Rattle.replay_lines.proofs.Printing.{state_fail, state_idle, state_ok}
 use Rattle.replay_lines.proofs.output.put_state.Goals as goal
 

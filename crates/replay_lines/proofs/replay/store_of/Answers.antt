@@ -1,4 +1,4 @@
-use Rattle.std.proofs.Common.{◌+◌, ◌≤◌, refl, mul-le-mul, arith}
+use Rattle.std.proofs.Common.{◌+◌, ◌≤◌, mul-le-mul, arith}
 use Rattle.replay_lines.proofs.replay.store_of.Goals as goal
 
 pub overflow_mul-result : goal.overflow_mul-result

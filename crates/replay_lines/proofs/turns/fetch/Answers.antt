@@ -1,4 +1,3 @@
-use Rattle.std.proofs.Common.{arith}
 use Rattle.replay_lines.specs.Turn.{fetch_out_by, fetch_record_by, fetch_rows_by}
 use Rattle.replay_lines.proofs.turns.fetch.Goals as goal
 

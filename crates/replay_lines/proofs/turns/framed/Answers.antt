@@ -1,4 +1,3 @@
-use Rattle.std.proofs.Common.{arith}
 use Rattle.replay_lines.specs.Turn.{framed_turn}
 use Rattle.replay_lines.proofs.turns.framed.Goals as goal
 

@@ -1,5 +1,5 @@
 -- The parts of rows and store that are handed on are as long as the receiver asks; the payload is what the line says, since it was read into zeros.
-use Rattle.std.proofs.Common.{ℕ, sym, refl, arith, length-take-le}
+use Rattle.std.proofs.Common.{ℕ, sym, refl, length-take-le}
 use lib.ListN.{length-replicate}
 use Rattle.replay_lines.specs.Turn.{framed_rows, framed_store}
 use Rattle.replay_lines.proofs.Deciding.{payload_is}

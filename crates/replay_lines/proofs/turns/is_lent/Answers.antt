@@ -1,4 +1,3 @@
-use Rattle.std.proofs.Common.{arith}
 use Rattle.replay_lines.specs.Turn.{is_lent}
 use Rattle.replay_lines.proofs.turns.is_lent.Goals as goal
 

@@ -1,4 +1,3 @@
-use Rattle.std.proofs.Common.{arith}
 use Rattle.replay_lines.proofs.turns.is_open.Goals as goal
 
 pub returns-in-Frame : goal.returns-in-Frame

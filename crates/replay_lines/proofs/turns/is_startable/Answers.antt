@@ -1,5 +1,4 @@
 use Rattle.std.proofs.Common.{sym, ◌∙◌, arith}
-use borrow.Author.Tests.{not-false, not-true}
 use Rattle.replay_lines.specs.Laws.Starts.{small, start_in, start_out}
 use Rattle.replay_lines.proofs.turns.is_startable.Goals as goal
 

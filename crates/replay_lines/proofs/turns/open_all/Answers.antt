@@ -1,4 +1,4 @@
-use Rattle.std.proofs.Common.{ap, ◌∙◌, arith}
+use Rattle.std.proofs.Common.{ap, ◌∙◌}
 use Rattle.replay_lines.specs.declared.turns.Replayed.{Replayed}
 use Rattle.replay_lines.specs.Turn.{placed, store_by}
 use Rattle.replay_lines.proofs.turns.open_all.Goals as goal

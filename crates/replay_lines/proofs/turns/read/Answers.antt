@@ -1,5 +1,4 @@
-use Rattle.std.proofs.Common.{length, drop, sym, refl, ◌∙◌, arith}
-use borrow.Author.Tests.{not-false, not-true}
+use Rattle.std.proofs.Common.{length, drop, sym, refl, ◌∙◌}
 use Rattle.recording.specs.Theorems.Later.{end_sooner, frame_sooner, long_sooner, malformed_sooner, unfinished_sooner}
 use Rattle.replay_lines.specs.Laws.Lent.{lent_says}
 use Rattle.replay_lines.specs.Laws.Placed.{answered_placed, framed_placed, payload_placed}

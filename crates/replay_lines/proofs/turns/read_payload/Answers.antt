@@ -1,5 +1,4 @@
 use Rattle.replay_lines.proofs.Deciding.{bytes_past}
-use Rattle.std.proofs.Common.{arith, rules}
 use Rattle.replay_lines.proofs.turns.read_payload.Goals as goal
 
 pub returns-else-place-text : goal.returns-else-place-text

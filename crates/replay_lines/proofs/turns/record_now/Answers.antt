@@ -1,4 +1,4 @@
-use Rattle.std.proofs.Common.{drop, arith}
+use Rattle.std.proofs.Common.{drop}
 use Rattle.replay_lines.specs.Laws.Placed.{now_later}
 use Rattle.replay_lines.proofs.turns.record_now.Goals as goal
 

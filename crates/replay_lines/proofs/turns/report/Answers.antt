@@ -1,5 +1,4 @@
 use Rattle.std.proofs.Common.{◌≡◌, ◌<◌, ◌≤◌, false, ltb, length, get_or, sym, refl, ◌∙◌, arith, le-ltb, lt-ltb}
-use borrow.Author.Tests.{not-false, not-true}
 use Rattle.replay_lines.specs.Laws.Due.{none_due_lem, none_out, none_rows}
 use Rattle.replay_lines.specs.Laws.Lent.{lent_says}
 use Rattle.replay_lines.specs.Turn.{fetch_record_by, fetched_said, fetched_turn, report_out, report_rows, report_said, report_turn}

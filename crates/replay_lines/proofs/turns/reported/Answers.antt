@@ -1,4 +1,4 @@
-use Rattle.std.proofs.Common.{refl, arith}
+use Rattle.std.proofs.Common.{refl}
 use Rattle.replay_lines.specs.Laws.Placed.{stays}
 use Rattle.replay_lines.specs.Turn.{reported_turn}
 use Rattle.replay_lines.proofs.turns.reported.Goals as goal

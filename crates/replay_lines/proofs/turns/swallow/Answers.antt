@@ -1,4 +1,3 @@
-use Rattle.std.proofs.Common.{rules}
 use Rattle.replay_lines.specs.Laws.Placed.{turned_placed}
 use Rattle.replay_lines.proofs.turns.swallow.Goals as goal
 

@@ -1,5 +1,5 @@
 -- The room that is lent is zeros, as many as the payload has bytes, whichever of the two arrays it is the front of.
-use Rattle.std.proofs.Common.{arith, rules}
+use Rattle.std.proofs.Common.{arith}
 use Rattle.replay_lines.proofs.Deciding.{front_is, front_there}
 use Rattle.replay_lines.proofs.turns.take_frame.Goals as goal
 

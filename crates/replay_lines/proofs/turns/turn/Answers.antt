@@ -1,4 +1,4 @@
-use Rattle.std.proofs.Common.{length, drop, refl, arith}
+use Rattle.std.proofs.Common.{length, drop, refl}
 use Rattle.replay_lines.specs.declared.replay.Phase.TheVariants.{Ended, Fetching, Reading, Settings, Skipping}
 use Rattle.replay_lines.proofs.Deciding.{out_is, rows_is, said_is, store_is, turn_is}
 use Rattle.replay_lines.proofs.turns.turn.Goals as goal
