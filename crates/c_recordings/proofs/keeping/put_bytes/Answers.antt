@@ -1,6 +1,5 @@
 use mathlib.Core.Path.{◌∙◌}
 use lib.ListN.{length}
-use borrow.Author.Rules.{rules}
 use Rattle.c_face.specs.Laws.Sharing.{put_there, room}
 use Rattle.c_recordings.proofs.keeping.put_bytes.Goals as goal
 

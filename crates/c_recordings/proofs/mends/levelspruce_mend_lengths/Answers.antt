@@ -1,4 +1,3 @@
-use borrow.Author.Rules.{rules}
 use Rattle.c_recordings.proofs.LengthsTold.{lengths_done, lengths_refused}
 use Rattle.c_recordings.proofs.mends.levelspruce_mend_lengths.Goals as goal
 

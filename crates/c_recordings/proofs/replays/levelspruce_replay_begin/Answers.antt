@@ -1,4 +1,3 @@
-use borrow.Author.Rules.{rules}
 use Rattle.c_recordings.proofs.Replaying.{begin_done, begin_refused}
 use Rattle.c_recordings.proofs.replays.levelspruce_replay_begin.Goals as goal
 

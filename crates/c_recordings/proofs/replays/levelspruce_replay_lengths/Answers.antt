@@ -1,4 +1,3 @@
-use borrow.Author.Rules.{rules}
 use Rattle.c_recordings.proofs.Replaying.{lengths_done, lengths_refused}
 use Rattle.c_recordings.proofs.replays.levelspruce_replay_lengths.Goals as goal
 

@@ -1,4 +1,3 @@
-use borrow.Author.Rules.{rules}
 use Rattle.c_recordings.proofs.Replaying.{put_all}
 use Rattle.c_recordings.proofs.replays.put_replay.Goals as goal
 

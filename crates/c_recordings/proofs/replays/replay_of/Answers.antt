@@ -1,5 +1,4 @@
 -- Every field is read at its place in the seventeen bytes, by a function that gives the definition's value; any bytes are a replay.
-use borrow.Author.Rules.{rules}
 use mathlib.Core.Path.{refl}
 use Rattle.c_recordings.specs.Replays.{replay_of}
 use Rattle.c_recordings.proofs.replays.replay_of.Goals as goal
