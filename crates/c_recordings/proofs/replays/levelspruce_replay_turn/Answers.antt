@@ -1,5 +1,5 @@
 -- The call meets its contract: 9 for the state, 9 for a place behind the text, and then what the replay's own turn answers.
--- Only under 0 are the replay, the place and the two other results written (`turn-done`); refused, they stay as given (`turn-refused`).
+-- Only under 0 are the replay, the place and the two other results written (`turn_done`); refused, they stay as given (`turn_refused`).
 use Rattle.c_recordings.proofs.Replaying.{turn_done, turn_length, turn_place, turn_refused}
 use Rattle.c_recordings.proofs.replays.levelspruce_replay_turn.Goals as goal
 
