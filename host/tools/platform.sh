@@ -2,21 +2,21 @@
 # that knows one kind of machine from another.
 #
 # The archive holds x86-64 code. On x86-64 all programs link it. On Arm, C programs that link it are built by a cross
-# compiler and run under the toolchain's emulator; programs that are built for the machine itself (Rust, sanitizers,
-# C++) link an object of the same proved module.
+# compiler and run under Debian's emulator; programs that are built for the machine itself (Rust, sanitizers,
+# C++) link an object of the same proved module. The toolchain itself is of x86-64 too, and needs that emulator there.
 # shellcheck disable=SC2034
 
-faces='c_face c_receiver c_cards c_recordings'  # the crates of the C calls; the first two have all that a link needs
+faces='c_face_c c_receiver_c c_cards_c c_recordings_c'  # the crates of exports; the first two have all that a link needs
 archive=target/staticlib/liblevelspruce.a       # the library: all of their calls and the texts, which are C
 texts=target/staticlib/texts.o
 
-# proved_of CRATE: what rt writes of it
+# proved_of CRATE: the archive that rt writes of it
 proved_of() { echo "target/staticlib/lib$1.a"; }
 
 # The toolchain's folder. Where rt is not on PATH, it is the one that was there at the last proof.
 kit() {
     if command -v rt >/dev/null; then
-        dirname "$(dirname "$(rt doc)")"
+        dirname "$(rt doc)"
     else
         cat target/kit 2>/dev/null
     fi
@@ -27,9 +27,9 @@ aarch64)
     archive_compiler='x86_64-linux-gnu-gcc -static'
     archive_ar=x86_64-linux-gnu-ar
     archive_objdump=x86_64-linux-gnu-objdump
-    archive_packages='gcc-x86-64-linux-gnu libc6-dev-amd64-cross'
+    archive_packages='gcc-x86-64-linux-gnu libc6-dev-amd64-cross qemu-user'
     shared_compiler=x86_64-linux-gnu-gcc
-    emulator="$(kit)/on/aarch64/toolchain/bin/qemu-x86_64"
+    emulator=qemu-x86_64
     own_library=target/host/liblevelspruce.a
     own_library_possible() { has_python; }
     make_own_library() {
@@ -70,7 +70,7 @@ run_archive_program() { $emulator "$@"; }
 
 # The words that run a program that rt linked. It needs the toolchain's C library, of which an emulator has to be told.
 if [ -n "$emulator" ]; then
-    libraries=$(kit)/on/$(uname -m)/toolchain/lib
+    libraries=$(kit)/toolchain/lib
     linked="$emulator $libraries/ld-linux-x86-64.so.2 --library-path $libraries"
 else
     linked=''
