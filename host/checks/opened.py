@@ -5,8 +5,9 @@
   crate above it; those in NONE, above which nothing computes, have none.
 - A file of definitions is one below specs/ that stands neither in Laws, Theorems, Proofs, Wrong, Samples or Examples
   nor in Inner (by what payload's loops are proved), nor in a file of such a name.
-- Such a file has none of the kit's `cond`, `eqb`, `ltb` and `leb`, but ground's Plain, which gives them their other names.
-  Laws among definitions may have them.
+- Such a file has none of the kit's `cond`, `eqb`, `ltb` and `leb`, but their other names, of the kit's Prelude and of
+  ground's Plain, which gives the last two theirs. Laws among definitions may have them, and a choice between two
+  statements has `cond`: the kit's `if` chooses between values alone.
 """
 import pathlib
 import re
@@ -58,7 +59,8 @@ def check(top):
                         wrong.append(f"crates/{name}:{d.line}\t{d.name} is in no Opened.antt")
                 if d.defines and name != PLAIN:
                     said = set(re.split(r"[\s(){}\[\],;.]+", " ".join(d.signature + d.clauses)))
-                    wrong += [f"crates/{name}:{d.line}\t{d.name} is written with {kit}" for kit in KIT if kit in said]
+                    own = KIT if d.target != "Type" else KIT[1:]
+                    wrong += [f"crates/{name}:{d.line}\t{d.name} is written with {kit}" for kit in own if kit in said]
     if count == 0:
         wrong.append("no definition was found")
     return f"every opener is whole, and definitions are in plain notation\tdefinitions {count}", wrong

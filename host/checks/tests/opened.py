@@ -20,6 +20,8 @@ CASES = [
     ("a definition among laws", {FILE: RULE, OPENED: WHOLE, "crates/one/specs/Laws/Rule.antt": "unfoldable pub thrice : ℕ → ℕ\nthrice n = n + n + n\n"}, ""),
     ("a crate above which nothing computes", {FILE: RULE, OPENED: WHOLE, "crates/groups/specs/Rule.antt": "unfoldable pub thrice : ℕ → ℕ\nthrice n = n + n + n\n"}, ""),
     ("a definition in the kit's words", {FILE: KIT, OPENED: WHOLE}, f"{FILE}:6\tis_none is written with eqb"),
+    ("a choice in the kit's words", {FILE: RULE + "\nabbrev pub most : ℕ → ℕ\nmost n = cond (n == 0) 1 n\n", OPENED: WHOLE}, "most is written with cond"),
+    ("a choice between two statements", {FILE: RULE + "\nabbrev pub Most : (n : ℕ) → Type 0\nMost n = cond (n == 0) (n ≡ 1) (n ≡ 2)\n", OPENED: WHOLE}, ""),
     ("a record in the kit's words", {FILE: RULE + "\npub record Small (n : ℕ) : Type 0 where\n  pub is : ltb n 2 ≡ true\n", OPENED: WHOLE}, "Small is written with ltb"),
     ("a law in the kit's words", {FILE: RULE + "\nlaw : (n : ℕ) → eqb n n ≡ true\nlaw n = refl\n", OPENED: WHOLE}, ""),
     ("the kit's words in a comment", {FILE: "-- not eqb\n" + RULE, OPENED: WHOLE}, ""),
