@@ -1,5 +1,5 @@
 -- Where a byte first stands in a list.
-use Rattle.std.specs.Prelude.{ℕ, suc, Bool, true, false, List, [], ◌∷◌, eqb}
+use Rattle.std.specs.Prelude.{ℕ, suc, Bool, true, false, List, [], ◌∷◌, ◌==◌}
 
 unfoldable pub index_after : Bool → ℕ → ℕ
 index_after true n = 0
@@ -7,5 +7,5 @@ index_after false n = suc n
 
 -- the length, where it stands nowhere
 unfoldable pub index_of : (mark : ℕ) → List ℕ → ℕ
-index_of m [] = 0
-index_of m (b ∷ bs) = index_after (eqb b m) (index_of m bs)
+index_of mark [] = 0
+index_of mark (byte ∷ bytes) = index_after (byte == mark) (index_of mark bytes)

@@ -55,8 +55,8 @@ fn restore(before: Follow, after: Follow, places: Keys, mended: &mut [u8])
 }
 
 // What is restored at the end.
-fn finish(follows: [Follow; 64], keys: [Keys; 64], mended: &mut [u8])
-    ensures { mended.new ≡ sweep_end 64 (sweep_in follows keys mended.old) }
+fn finish(follows: &[Follow; 64], keys: &[Keys; 64], mended: &mut [u8])
+    ensures { mended.new ≡ sweep_end 64 (sweep_in follows.now keys.now mended.old) }
 {
     let mut i = 0;
     while i < 64 {
@@ -99,7 +99,7 @@ fn copy_lines(text: &[u8], start: usize, ports: u32, size: u32, counted: bool, m
         }
         at = next;
     }
-    finish(follows, keys, mended);
+    finish(&follows, &keys, mended);
 }
 
 // The first line, which lies up to `start`, as it is, and the others.

@@ -97,8 +97,8 @@ fn noted_by(
 }
 
 // Those of the lines that are restored at the end, behind so many bytes of notes.
-fn with_last(follows: [Follow; 64], keys: [Keys; 64], before: usize) -> usize
-    ensures { result ≡ told (before + length_end 64 (count_in follows keys 0)) }
+fn with_last(follows: &[Follow; 64], keys: &[Keys; 64], before: usize) -> usize
+    ensures { result ≡ told (before + length_end 64 (count_in follows.now keys.now 0)) }
 {
     let mut notes = before;
     let mut i = 0;
@@ -151,7 +151,7 @@ pub(crate) fn lengths_from(
         }
         at = next;
     }
-    let all = with_last(follows, keys, notes);
+    let all = with_last(&follows, &keys, notes);
     Lengths {
         mended,
         notes: all,

@@ -1,5 +1,5 @@
 -- The reserved bits (request 2026-08): packets with none of them set, and packets that are alike beside them. H4 has 26 and VC-12 four.
-use Rattle.std.specs.Prelude.{◌≡◌, ℕ, ◌/◌, ◌%◌, ◌<◌, ◌≤◌, false, List, get_or, slice_index, slice_index_or, cond, ◌==◌}
+use Rattle.std.specs.Prelude.{◌≡◌, ℕ, ◌/◌, ◌%◌, ◌<◌, ◌≤◌, false, List, get_or, slice_index_or, cond, ◌==◌}
 use Rattle.ground.specs.Types.{Bytes}
 use Rattle.packet.specs.Kinds.{vc12_kind}
 use Rattle.packet.specs.Vc12.{row_bits}

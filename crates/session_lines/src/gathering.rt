@@ -18,7 +18,7 @@ const LINE_END: u8 = b'\n';
 pub fn gather(kept: Kept, input: &[u8]) -> Gathered
     ensures { result ≡ gathered_of kept input.now }
 {
-    let end = text::find(input, 0, input.len(), LINE_END);
+    let end = text::piece_end(input, 0, input.len(), LINE_END);
     let more = kept::keep_all(kept, input, end);
     if end < input.len() {
         return Gathered {

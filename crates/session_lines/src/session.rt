@@ -99,7 +99,7 @@ pub fn feed(session: Session, input: &[u8], out: &mut [u8]) -> Fed
     }
     let table = session.table;
     let before = session.kept;
-    let end = text::find(input, 0, input.len(), LINE_END);
+    let end = text::piece_end(input, 0, input.len(), LINE_END);
     let kept = kept::keep_all(before, input, end);
     if end < input.len() {
         let done = answer(table, kept, out);

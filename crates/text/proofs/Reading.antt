@@ -31,10 +31,6 @@ same_length (a ∷ m) (b ∷ w) d = go (eqb a b) (same_length m w (λ k. d (omeg
     go false k = refl
 
 module _ (l : List ℕ) (limit end at : ℕ) (e : end ≡ length (take limit l)) where
-  pub piece_none : (m : ℕ) → end < at → at ≡ at + index_of m (slice at limit l)
-  unfolding index_of
-  piece_none m h = rw (slice_none l limit end e at (omega arith)) (omega arith)
-
   pub size_none : end < at → 0 ≡ length (slice at limit l)
   size_none h = rw (slice_none l limit end e at (omega arith))
 
@@ -51,18 +47,18 @@ module _ (l : List ℕ) (limit end at : ℕ) (e : end ≡ length (take limit l))
       rw (← slice_end l limit end e at, ← s) k
 
 -- the first mark of a part, a byte further on
-module _ (l : List ℕ) (m end i : ℕ) (k : end ≤ length l) where
-  pub find_here : i < end → get_or l i 0 ≡ m → index_of m (slice i end l) ≡ 0
+module _ (l : List ℕ) (limit end : ℕ) (e : end ≡ length (take limit l)) (m i : ℕ) where
+  pub mark_here : i < end → get_or l i 0 ≡ m → index_of m (slice i limit l) ≡ 0
   unfolding index_of index_after
-  find_here h e = rw (slice_more l end end (sym (length-take-le end l k)) i h, eq-eqb (get_or l i 0) m e) refl
+  mark_here h s = rw (slice_more l limit end e i h, eq-eqb (get_or l i 0) m s) refl
 
-  pub find_on : i < end → (get_or l i 0 ≡ m → ⊥) → index_of m (slice i end l) ≡ suc (index_of m (slice (i + 1) end l))
+  pub mark_on : i < end → (get_or l i 0 ≡ m → ⊥) → index_of m (slice i limit l) ≡ suc (index_of m (slice (i + 1) limit l))
   unfolding index_of index_after
-  find_on h d = rw (slice_more l end end (sym (length-take-le end l k)) i h, ne_eqb (get_or l i 0) m d) refl
+  mark_on h d = rw (slice_more l limit end e i h, ne_eqb (get_or l i 0) m d) refl
 
-  pub find_end : end ≤ i → index_of m (slice i end l) ≡ 0
+  pub mark_none : end ≤ i → index_of m (slice i limit l) ≡ 0
   unfolding index_of
-  find_end h = rw (slice_none l end end (sym (length-take-le end l k)) i h) refl
+  mark_none h = rw (slice_none l limit end e i h) refl
 
 same_snoc : (l m : List ℕ) (a b : ℕ) → length l ≡ length m → same_bytes (l ++ (a ∷ [])) (m ++ (b ∷ [])) ≡ (same_bytes l m && eqb a b)
 same_snoc [] [] a b h = simp (mathlib.Core.Bool.and-true)

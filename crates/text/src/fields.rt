@@ -22,12 +22,11 @@ pub fn end_of(text: &[u8], limit: usize) -> usize
     }
 }
 
-// Where a mark first stands from `at` on, or the end where it stands nowhere before that.
-pub fn find(text: &[u8], at: usize, end: usize, mark: u8) -> usize
-    requires in_order { at ≤ end }
-    requires within { end ≤ length text.now }
-    ensures { result ≡ at + index_of mark (slice at end text.now) }
+// Where the piece that begins at `at` ends: at the first mark, or at the limit.
+pub fn piece_end(text: &[u8], at: usize, limit: usize, mark: u8) -> usize
+    ensures { result ≡ at + index_of mark (slice at limit text.now) }
 {
+    let end = end_of(text, limit);
     let mut i = at;
     while i < end {
         if text[i] == mark {
@@ -35,18 +34,7 @@ pub fn find(text: &[u8], at: usize, end: usize, mark: u8) -> usize
         }
         i += 1;
     }
-    end
-}
-
-// Where the piece that begins at `at` ends: at the first mark, or at the limit.
-pub fn piece_end(text: &[u8], at: usize, limit: usize, mark: u8) -> usize
-    ensures { result ≡ at + index_of mark (slice at limit text.now) }
-{
-    let end = end_of(text, limit);
-    if end < at {
-        return at;
-    }
-    find(text, at, end, mark)
+    i
 }
 
 // How many bytes the field has.

@@ -18,7 +18,7 @@ restore_at-requires c = c.count_back-count.ensures.1
 pub loop-i-preserved : goal.loop-i-preserved
 loop-i-preserved c =
     let i = c.loop-i.invariant in
-    let e = ended_by c.args.follows c.args.keys c.loop-i.i c.args.mended.now c.loop-i.mended _ c.is_last-is.result c.count_back-count.result i.4 c.is_last-is.ensures c.count_back-count.ensures.0 c.restore_at.ensures in
+    let e = ended_by c.args.follows.now c.args.keys.now c.loop-i.i c.args.mended.now c.loop-i.mended _ c.is_last-is.result c.count_back-count.result i.4 c.is_last-is.ensures c.count_back-count.ensures.0 c.restore_at.ensures in
     (omega arith, i.1, i.2, e.1 ∙ i.3, e.0)
 
 pub shape_of-mended : goal.shape_of-mended

@@ -8,12 +8,12 @@ returns-then-out-lt-OUTPUT_ROOM c =
     feed_short c.args.session c.args.input.now c.args.out.now c.if-out-lt-OUTPUT_ROOM.true
 
 pub keep_all-kept-requires : goal.keep_all-kept-requires
-keep_all-kept-requires c = end_within c.args.input.now c.find-end.result c.find-end.ensures
+keep_all-kept-requires c = end_within c.args.input.now c.piece_end-end.result c.piece_end-end.ensures
 
 pub returns-then-end-input : goal.returns-then-end-input
 returns-then-end-input c =
-    feed_line c.args.session c.args.input.now c.args.out.now c.if-out-lt-OUTPUT_ROOM.false c.find-end.result (end_is c.args.input.now c.find-end.result c.find-end.ensures) c.keep_all-kept.result c.keep_all-kept.ensures c.if-end-input.true _ _ _ c.nothing.result c.nothing.ensures c.answer-done.ensures
+    feed_line c.args.session c.args.input.now c.args.out.now c.if-out-lt-OUTPUT_ROOM.false c.piece_end-end.result (end_is c.args.input.now c.piece_end-end.result c.piece_end-end.ensures) c.keep_all-kept.result c.keep_all-kept.ensures c.if-end-input.true _ _ _ c.nothing.result c.nothing.ensures c.answer-done.ensures
 
 pub returns : goal.returns
 returns c =
-    feed_open c.args.session c.args.input.now c.args.out.now c.if-out-lt-OUTPUT_ROOM.false c.find-end.result (end_is c.args.input.now c.find-end.result c.find-end.ensures) c.keep_all-kept.result c.keep_all-kept.ensures c.if-end-input.false
+    feed_open c.args.session c.args.input.now c.args.out.now c.if-out-lt-OUTPUT_ROOM.false c.piece_end-end.result (end_is c.args.input.now c.piece_end-end.result c.piece_end-end.ensures) c.keep_all-kept.result c.keep_all-kept.ensures c.if-end-input.false
