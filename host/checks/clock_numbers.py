@@ -81,10 +81,8 @@ def check(top):
             for line, names in attributes(code(path)):
                 count += 1
                 wrong += [f"{path.relative_to(top)}:{line}\tunfolds {name}" for name in names if name in NUMBERS]
-        for path in sorted(crate.rglob("*.antt")):
+        for path in sorted(p for part in ("specs", "proofs") for p in crate.glob(f"{part}/**/*.antt")):
             inside = path.relative_to(crate)
-            if inside.parts[0] not in ("specs", "proofs"):
-                continue
             text = code(path)
             if not may_name(crate.name, inside):
                 wrong += [f"{path.relative_to(top)}:{line}\tnames {VC12}" for line in named_at(text, VC12)]

@@ -60,7 +60,7 @@ def laws(text, inside):
 
 
 def check(top):
-    texts = {path: code(path) for end in ("antt", "rt") for path in sorted(top.glob(f"crates/*/*/**/*.{end}"))}
+    texts = {path: code(path) for end in ("antt", "rt") for part in ("proofs", "specs", "src") for path in sorted(top.glob(f"crates/*/{part}/**/*.{end}"))}
     bodies = {path: USE.sub("", text) for path, text in texts.items()}
     said = {path: words(body) for path, body in bodies.items()}
     cited = collections.Counter()

@@ -5,6 +5,7 @@ FILES = {
     "host/c/call_test.c": "levelspruce_call(1);\n",
     "host/other.c": "levelspruce_calls(1);\n",
     "target/host/x.c": "levelspruce_call(1);\n",
+    "crates/one/out/stdout": "levelspruce_call(1);\n",
 }
 LOOP = "# Changing it\n\nSeconds: one 3, two 40.\n\n"
 CALL = "## A new call in C\n\nIts declaration in include/levelspruce.h, its test in host/c.\n\n## How it reads\n\nhost/fuzz\n"

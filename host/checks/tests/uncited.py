@@ -14,6 +14,7 @@ CASES = [
     ("a law kept for itself under another's name", {LAWS: "law : 0 ≡ 0\nlaw = refl\n", "crates/two/specs/Laws.antt": "pub law : 1 ≡ 1\nlaw = refl\n", "crates/two/specs/Theorems.antt": "use Rattle.two.specs.Laws.{law}\n\npub t : 1 ≡ 1\nt = law\n"}, f"{LAWS}:1\tnothing names the law\tlaw"),
     ("a field of a record", {"crates/one/specs/Rules.antt": "pub record Rules : Type 0 where\n  pub first : ℕ\n"}, ""),
     ("a theorem", {"crates/one/specs/Theorems/Demand2.antt": LAW}, ""),
+    ("what rt keeps of a crate", {"crates/one/out/rlib/one.rlib/specs/Laws.antt": LAW}, ""),
     ("a sample", {"crates/one/specs/Samples.antt": LAW}, ""),
     ("a row of conformance", {"crates/pinned/specs/Receiving/Steps.antt": LAW}, ""),
     ("an example among definitions", {"crates/one/specs/Plain.antt": LAW}, ""),
