@@ -7,8 +7,7 @@
   nor in Inner (by what payload's loops are proved), nor in a file of such a name.
 - Such a file has none of the kit's `cond`, `eqb`, `ltb` and `leb`, but their other names, of the kit's Prelude and of
   ground's Plain, which gives the last two theirs. Laws among definitions may have them, and a choice between two
-  statements has `cond`: the kit's `if` chooses between values alone. Ground's Finding, which has what an older kit's library
-  had, counts as the kit's.
+  statements has `cond`: the kit's `if` chooses between values alone.
 """
 import pathlib
 import re
@@ -19,7 +18,6 @@ APART = {"Laws", "Theorems", "Proofs", "Wrong", "Samples", "Examples", "Opened",
 NONE = ("conformance", "groups", "invariant", "none_due", "pinned", "sure_add", "tables")
 KIT = ("cond", "eqb", "ltb", "leb")
 PLAIN = "ground/specs/Plain.antt"
-AS_KIT = "ground/specs/Finding.antt"
 
 
 def of_definitions(name):
@@ -51,7 +49,7 @@ def check(top):
     for crate in sorted({name.split("/")[0] for name in house.files}):
         opened = openers(house, crate)
         for name, file in house.files.items():
-            if not name.startswith(f"{crate}/") or not of_definitions(name) or name == AS_KIT:
+            if not name.startswith(f"{crate}/") or not of_definitions(name):
                 continue
             inside = name[len(crate) + len("/specs/"):-len(".antt")].replace("/", ".")
             for d in file.declarations:
