@@ -103,6 +103,7 @@ fn copy_lines(text: &[u8], start: usize, ports: u32, size: u32, counted: bool, m
 }
 
 // The first line, which lies up to `start`, as it is, and the others.
+#[inline(never)]
 pub(crate) fn copy_all(
     text: &[u8],
     start: usize,

@@ -87,6 +87,7 @@ fn after(read: Read, at: usize, to: usize) -> usize
     to
 }
 
+#[inline(never)]
 pub(crate) fn put_notes(
     text: &[u8],
     start: usize,
