@@ -1,9 +1,8 @@
--- The card and the answers after i turns of the loop, how many turns there are, and that after all of them the result and the answers are what an order is to leave.
+-- The card and the answers after i turns of the loop, and that after all of them the result and the answers are what an order is to leave.
 use mathlib.Core.Path.{◌≡◌, refl, sym, ap, subst}
 use mathlib.Core.Bool.{Bool, true, false, cond}
 use mathlib.Core.List.{List}
-use Prim.Native.Nat.{ℕ, ◌+◌, ◌≤◌, zero-le}
-use native.Mathlib.Nat.{le_refl}
+use Prim.Native.Nat.{ℕ, ◌+◌}
 use lib.Dec.{T, eqb, eqb→eq}
 use lib.ListN.{length, get_or}
 use Rattle.cards.specs.declared.answers.Answer.{Answer}
@@ -30,21 +29,6 @@ card_next = F.state_next card_by number_by no_command
 
 pub list_next : (card : Card) (cs : List Command) (ys : List ℕ) (i : ℕ) → stored_by (card_at card cs i) (get_or cs i no_command) i (list_at card cs ys i) ≡ list_at card cs ys (i + 1)
 list_next = F.list_next card_by number_by no_command
-
--- ---- how many turns
-pub turns_left_lem : (m k : ℕ) → turns_of m k ≤ m
-turns_left_lem m k = go (eqb m k)
-  where
-    go : (b : Bool) → cond b m 0 ≤ m
-    go true = le_refl m
-    go false = zero-le
-
-pub turns_right : (m k : ℕ) → turns_of m k ≤ k
-turns_right m k = go (eqb m k) refl
-  where
-    go : (b : Bool) → eqb m k ≡ b → cond b m 0 ≤ k
-    go true e = subst (λ (j : ℕ). m ≤ j) (eqb→eq m k (subst T (sym e) tt)) (le_refl m)
-    go false e = zero-le
 
 -- ---- all of them
 pub card_left_lem : (card : Card) (cs : List Command) (k : ℕ) → finish_of (card_at card cs (turns_of (length cs) k)) (length cs) k ≡ ordered_of card cs k
