@@ -3,8 +3,9 @@
 
 usage: turn_proofs.py CRATE NAMES.json [F ..]      NAMES.json: of 'rt check --generated DIR --old-names' in the crate's folder
 
-An answer that the check finds by itself (omega arith, search rules) is left out. What it cannot turn stays in the text
-behind 'LEFT', for the check to refuse.
+An answer that the check finds by itself (omega arith, search rules) is left out. What it cannot turn stays in a comment
+that begins 'LEFT'. Beside the script may lie names.tsv, which tools/plain_names.py --table writes: by it the names of own
+fields are spelled.
 """
 import json
 import os
@@ -64,6 +65,15 @@ def blocks(text):
     if cur:
         out.append((name, cur))
     return out, pending
+
+
+def equation(name, text):
+    """The lines of unfolding before a name's equation, the rest, and the match of its head with its parameters."""
+    unfolding, text = "", text.lstrip("\n")
+    while text.startswith("unfolding"):
+        line, _, text = text.partition("\n")
+        unfolding += line + "\n"
+    return unfolding, text, re.match(re.escape(name) + r"((?: " + NAME + r")*) =", text)
 
 
 class Walk:
@@ -155,7 +165,7 @@ class Walk:
             for m in re.finditer(r"let (" + NAME + r")(?: : " + NAME + r")? = (" + NAME + r")((?:\.before)*) in\s*\n?", text):
                 if m[2] in alias and m[1] not in alias:
                     alias[m[1]] = alias[m[2]] + m[3].count(".before")
-                    text = text[: m.start()] + text[m.end():].lstrip(" ") if False else text[: m.start()] + text[m.end():]
+                    text = text[: m.start()] + text[m.end():]
                     changed = True
                     break
         # an alias of a step: let put = c.before.put in
@@ -271,12 +281,7 @@ def turn(crate, folder, data):
                 invariants.append("-- LEFT\n" + re.sub("(?m)^", "-- ", whole))
                 continue
             new, names, changed = w.loops[key]
-            eq = whole[sig.end():].lstrip("\n")
-            unf = ""
-            while eq.startswith("unfolding"):
-                a, _, eq = eq.partition("\n")
-                unf += a + "\n"
-            mm = re.match(re.escape(name) + r"((?: " + NAME + r")*) =", eq)
+            unf, eq, mm = equation(name, whole[sig.end():])
             params = mm[1].split()
             body = eq[mm.end():]
             vals = [("l.initial." + v if ch else "l." + v) for v, ch in zip(names, changed)] + ["l." + v for v, ch in zip(names, changed) if ch]
@@ -300,12 +305,7 @@ def turn(crate, folder, data):
                 w.left.append("no goal " + m[1])
                 continue
             new = w.needs[old]
-            eq = whole[sig.end():].lstrip("\n")
-            unf = ""
-            while eq.startswith("unfolding"):
-                a, _, eq = eq.partition("\n")
-                unf += a + "\n"
-            mm = re.match(re.escape(name) + r"((?: " + NAME + r")*) =", eq)
+            unf, eq, mm = equation(name, whole[sig.end():])
             if not mm:
                 w.left.append("form of " + name)
                 answers.append((None, "-- LEFT\n" + re.sub("(?m)^", "-- ", whole)))
@@ -320,9 +320,7 @@ def turn(crate, folder, data):
             body = w.body(body, ctx, w.asked[new])
             body = re.sub(r"\bnot-(?:true|false) (?:_|[\w.'-]+) (c\.if-not[\w.'-]*)", r"\1", body)
             extra = [p for p in params[1:] if p != "κs"]
-            b = body.strip("\n")
-            b = b if b.startswith(" ") and "\n" not in body.strip("\n")[:1] else b
-            if TRIVIAL.match(b.strip()) and not unf:
+            if TRIVIAL.match(body.strip()) and not unf:
                 continue
             sep = "" if body.startswith("\n") or body.startswith(" ") else " "
             answers.append((new, "".join(n + "\n" for n in note) + f"pub {new} : goal.{new}\n{unf}{new} {' '.join(['c'] + extra)} ={sep}{body}"))

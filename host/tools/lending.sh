@@ -110,9 +110,21 @@ replayed() {
 replaying() (
     recording=$1
     shift
-    refused=$(mktemp) || exit 2
-    trap 'rm -f "$refused"' EXIT
+    refused=$(mktemp) && links=$(mktemp -d) || exit 2
+    trap 'rm -rf "$refused" "$links"' EXIT
     trap 'exit 130' INT
+    # the program opens files whose names are UTF-8; others it gets by links
+    count=0
+    for word in "$@"; do
+        shift
+        if ! printf %s "$word" | iconv -f UTF-8 -t UTF-8 >/dev/null 2>&1; then
+            count=$((count + 1))
+            case $word in /*) ;; *) word=$PWD/$word ;; esac
+            ln -s "$word" "$links/$count" || exit 2
+            word=$links/$count
+        fi
+        set -- "$@" "$word"
+    done
     passed_on() { or_says_so in_words "$recording"; }
     passing "$@"
     status=$?
