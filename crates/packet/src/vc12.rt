@@ -28,9 +28,7 @@ fn left_of(number: u32) -> u8
     ensures { result ≡ left_of number }
 {
     let mut left = 0;
-    let mut k = 32u32;
-    while 0 < k {
-        k -= 1;
+    for k in (0..32u32).rev() {
         left = brought(left, ((number >> k) % 2) as u8);
     }
     left
@@ -63,11 +61,9 @@ fn number_of(frames: &[u8]) -> u32
     requires { length frames.now ≡ 32 }
     ensures { result ≡ number (lowest_of frames.now) }
 {
-    let mut number = 0u32;
-    let mut k = 0;
-    while k < 32 {
-        number = number * 2 + (frames[k] % 2) as u32;
-        k += 1;
+    let mut number = 0;
+    for frame in frames {
+        number = number * 2 + (*frame % 2) as u32;
     }
     number
 }
@@ -85,11 +81,9 @@ pub fn read_vc12(frames: &[u8]) -> Reading
 fn number_in(row: [u8; 16]) -> u32
     ensures { result ≡ number (row_bits row) }
 {
-    let mut number = 0u32;
-    let mut k = 0;
-    while k < 16 {
-        number = number * 4 + (row[k] % 4) as u32;
-        k += 1;
+    let mut number = 0;
+    for entry in row {
+        number = number * 4 + (entry % 4) as u32;
     }
     number
 }
@@ -152,10 +146,8 @@ fn put_bytes(number: u32, frames: &mut [u8])
     requires { length frames.old ≡ 32 }
     ensures { frames.new ≡ vc12_bytes (bits 32 number) }
 {
-    let mut k = 0u32;
-    while k < 32 {
-        frames[k as usize] = frame_byte(number, k);
-        k += 1;
+    for (place, frame) in frames.iter_mut().enumerate() {
+        *frame = frame_byte(number, place as u32);
     }
 }
 

@@ -1,10 +1,6 @@
 -- The invariant: the bits from the highest down to the k-th are brought down.
-use Rattle.std.proofs.Common.{◌≤◌}
 use Rattle.packet.proofs.OneNumber.{Divided}
 use Rattle.packet.proofs.vc12.left_of.Given as goal
 
 abbrev pub invariant-loop-k : goal.invariant-loop-k
-invariant-loop-k l = (l.k ≤ 32) × Divided l.number l.k l.left
-
-abbrev pub decreases-loop-k : goal.decreases-loop-k
-decreases-loop-k l = l.k
+invariant-loop-k l = Divided l.number l.k l.left

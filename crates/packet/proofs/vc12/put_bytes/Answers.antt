@@ -4,17 +4,14 @@ use Rattle.packet.specs.Vc12.{vc12_bytes}
 use Rattle.packet.proofs.OneNumber.{filling_next}
 use Rattle.packet.proofs.vc12.put_bytes.Goals as goal
 
-pub loop-k-init : goal.loop-k-init
-loop-k-init c = (omega arith, omega arith, filling_none _ _ _)
+pub loop-place-init : goal.loop-place-init
+loop-place-init c = filling_none _ _ _
 
-pub loop-k-preserved : goal.loop-k-preserved
-loop-k-preserved c = let i = c.loop-k.invariant in (i.0, omega arith, filling_next _ i.2 c.frame_byte.ensures)
-
-pub shape_of-frames : goal.shape_of-frames
-shape_of-frames c = c.loop-k.invariant.2.len
+pub loop-place-preserved : goal.loop-place-preserved
+loop-place-preserved c = filling_next _ c.loop-place.invariant c.frame_byte.ensures
 
 pub returns : goal.returns
 unfolding vc12_bytes
 returns c =
-    let e : c.loop-k.k ≡ 32 = omega arith in
-    filling_all (rw e at c.loop-k.invariant.2) c.loop-k.invariant.0
+    let e : c.loop-place.place ≡ 32 = omega arith in
+    filling_all (rw e at c.loop-place.invariant) c.requires
