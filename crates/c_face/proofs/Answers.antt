@@ -1,4 +1,5 @@
 -- Each way out of the packet's C calls, as the definitions have it.
+use Rattle.std.specs.Prelude.{Ok}
 use mathlib.Core.Path.{◌≡◌, refl, ◌∙◌, sym, ap}
 use mathlib.Core.Bool.{Bool, true, false, ◌&&◌, false≢true}
 use mathlib.Core.List.{List}
@@ -10,11 +11,9 @@ use lib.ListN.{length}
 use Rattle.ground.specs.Truth.{and_left, and_right, fails}
 use Rattle.packet.specs.Theorems.Sent.{sent_h4_lem, sent_vc12}
 use Rattle.packet.specs.declared.layout.Fields.{Fields}
-use Rattle.packet.specs.declared.reader.Reading.{Reading}
-use Rattle.packet.specs.declared.reader.Reading.TheVariants.{Packet}
 use Rattle.packet.specs.Laws.Bounds.{sent_bounds}
 use Rattle.packet.specs.Laws.Writing.{unfit_answer, unfit_bytes}
-use Rattle.packet.specs.Reading.{read_answer, reading_number}
+use Rattle.packet.specs.Reading.{read_answer, reading_number, Reading}
 use Rattle.packet.specs.Sent.{sent_answer, sent_bytes, sent_fits}
 use Rattle.packet.specs.Vc12.{read_vc12_answer, write_vc12_answer, write_vc12_bytes}
 use Rattle.packet.specs.Writing.{write_answer, write_bytes, writing_number}
@@ -117,5 +116,5 @@ module _ (h4 s : List ℕ) where
   vc12_right t r v h e k = rw (eq-eqb (length s) 10 h, ← e) k
 
 -- a packet's values put for a reading that is this packet
-pub reading_put : (t : Reading) (f : Fields) (s v : List ℕ) → t ≡ Packet f → v ≡ values_in f → (0 ≡ reading_number t) × (v ≡ values_or t s)
+pub reading_put : (t : Reading) (f : Fields) (s v : List ℕ) → t ≡ Ok f → v ≡ values_in f → (0 ≡ reading_number t) × (v ≡ values_or t s)
 reading_put t f s v e h = rw e (refl, h)

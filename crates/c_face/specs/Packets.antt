@@ -1,13 +1,11 @@
 -- The packet's C calls in terms of the packet's own.
-use Rattle.std.specs.Prelude.{Bool, ◌&&◌, List, [], ◌∷◌, ℕ, ◌/◌, ◌%◌, ◌^◌, length, if◌then◌else◌, ◌==◌}
+use Rattle.std.specs.Prelude.{Bool, ◌&&◌, List, [], ◌∷◌, ℕ, ◌/◌, ◌%◌, ◌^◌, length, if◌then◌else◌, ◌==◌, Ok, Err}
 use Rattle.ground.specs.Plain.{◌<?◌}
 use Rattle.ground.specs.Types.{Bytes, Epoch}
 use Rattle.packet.specs.declared.layout.Fields.{Fields}
-use Rattle.packet.specs.declared.reader.Reading.{Reading}
-use Rattle.packet.specs.declared.reader.Reading.TheVariants.{Packet, Length, Crc, Fixed, Unassigned}
 use Rattle.packet.specs.Fixed.{read_fixed_answer, write_fixed_answer}
 use Rattle.packet.specs.Kinds.{frames}
-use Rattle.packet.specs.Reading.{read_answer, reading_number}
+use Rattle.packet.specs.Reading.{read_answer, reading_number, Reading}
 use Rattle.packet.specs.Sent.{sent_answer, sent_bytes}
 use Rattle.packet.specs.Vc12.{read_vc12_answer, write_vc12_answer, write_vc12_bytes}
 use Rattle.packet.specs.Writing.{write_answer, write_bytes, writing_number}
@@ -45,11 +43,8 @@ values_in f =
 
 -- these, or the lent bytes as they were
 abbrev pub values_or : Reading → Bytes → Bytes
-values_or (Packet f) fields = values_in f
-values_or Length fields = fields
-values_or Crc fields = fields
-values_or Fixed fields = fields
-values_or Unassigned fields = fields
+values_or (Ok f) fields = values_in f
+values_or (Err u) fields = fields
 
 unfoldable pub read_fields_c : Bytes → Bytes → Bytes
 read_fields_c h4 fields = if length fields == 10 then values_or (read_answer h4) fields else fields

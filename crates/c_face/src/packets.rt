@@ -4,7 +4,7 @@ ghost use Rattle.c_face.specs.Packets.{are_bytes, read_answer_c, read_fields_c, 
 ghost use Rattle.packet.specs.Fixed.{write_fixed_bytes};
 ghost use Rattle.packet.specs.Reading.{reading_number};
 
-use packet::{Fields, Reading, Word, kinds};
+use packet::{Fields, Unread, Word, kinds};
 
 fn are_bytes(epoch: u32, word: u32, gid: u32, mst: u32, rs_ack: u32, sq: u32) -> bool
     ensures { result ≡ are_bytes epoch word gid mst rs_ack sq }
@@ -46,8 +46,7 @@ fn put_packet(
         sq: sq as u8,
         reserved,
     };
-    let written = packet::write_by(kind, fields, frames);
-    written.number()
+    packet::writing_number(packet::write_by(kind, fields, frames))
 }
 
 pub fn levelspruce_packet_write(
@@ -114,19 +113,16 @@ fn put_values(values: Fields, fields: &mut [u8])
 }
 
 // A reading by its number. Under 0 its values go into the lent bytes.
-fn put_reading(reading: Reading, fields: &mut [u8]) -> u8
+fn put_reading(reading: Result<Fields, Unread>, fields: &mut [u8]) -> u8
     requires { length fields.old ≡ 10 }
     ensures { (result ≡ reading_number reading) × (fields.new ≡ values_or reading fields.old) }
 {
     match reading {
-        Reading::Packet(values) => {
+        Ok(values) => {
             put_values(values, fields);
             0
         }
-        Reading::Length => 9,
-        Reading::Crc => 5,
-        Reading::Fixed => 7,
-        Reading::Unassigned => 6,
+        Err(unread) => unread.number(),
     }
 }
 
@@ -145,8 +141,7 @@ pub fn levelspruce_packet_write_fixed(epoch: u32, sq: u32, h4: &mut [u8]) -> u8
     ensures { (result ≡ write_fixed_answer_c epoch sq h4.old)
         × (h4.new ≡ write_fixed_bytes epoch sq h4.old) }
 {
-    let written = packet::write_fixed(epoch, sq, h4);
-    written.number()
+    packet::writing_number(packet::write_fixed(epoch, sq, h4))
 }
 
 pub fn levelspruce_packet_read_fixed(h4: &[u8], fields: &mut [u8]) -> u8

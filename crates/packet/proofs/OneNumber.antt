@@ -1,5 +1,5 @@
 -- A VC-12 packet as one number of 32 bits, as the code has it, and each way out of its functions.
-use Rattle.std.proofs.Common.{◌≡◌, ℕ, suc, ◌+◌, ◌-◌, ◌*◌, ◌/◌, ◌%◌, ◌^◌, ◌<◌, ◌≤◌, Bool, true, false, cond, eqb, ◌≢◌, List, [], ◌∷◌, length, get_or, take, drop, set, sym, refl, ap, ◌∙◌, ap₂, lt_of_lt_of_le, mod-eq_of_lt, add-one, arith, pow_mono, eq-eqb, ne_eqb, eqb-true}
+use Rattle.std.proofs.Common.{◌≡◌, ℕ, suc, ◌+◌, ◌-◌, ◌*◌, ◌/◌, ◌%◌, ◌^◌, ◌<◌, ◌≤◌, Bool, true, false, cond, eqb, ◌≢◌, List, [], ◌∷◌, length, get_or, take, drop, set, sym, refl, ap, ◌∙◌, ap₂, lt_of_lt_of_le, mod-eq_of_lt, add-one, arith, pow_mono, eq-eqb, ne_eqb, eqb-true, Ok, Err}
 use lib.Bits.{bit_xor}
 use Rattle.ground.specs.Bits.{bit_number, bits, bits_number, bits_part, get_or_bits, number, number_bits, number_lt, number_more, odd}
 use Rattle.ground.specs.Division.{length_bring}
@@ -8,11 +8,10 @@ use Rattle.ground.specs.Finite.{below, below_at}
 use Rattle.ground.specs.Polynomial.{bring, remainder, zeros}
 use Rattle.ground.specs.Table.{length_tabulate, tabulate, tabulate_suc}
 use Rattle.packet.specs.declared.layout.Fields.{Fields}
-use Rattle.packet.specs.declared.reader.Reading.{Reading}
-use Rattle.packet.specs.declared.reader.Reading.TheVariants.{Crc, Length}
-use Rattle.packet.specs.declared.writer.Writing.TheVariants.{Done, Field, Length as Short}
+use Rattle.packet.specs.declared.reader.Unread.TheVariants.{Crc, Length}
+use Rattle.packet.specs.declared.writer.Unwritten.TheVariants.{Field, Length as Short}
 use Rattle.packet.specs.Laws.Vc12.{left_lt, left_none, left_some, left_of, length_data, length_lowest, length_row, right_read, wrong_read}
-use Rattle.packet.specs.Reading.{read_fields}
+use Rattle.packet.specs.Reading.{read_fields, Reading}
 use Rattle.packet.specs.Vc12.{frame_byte, lowest_of, read_vc12_answer, read_vc12_bits, read_vc12_row, row_bits, vc12_bits, vc12_bytes, vc12_data, vc12_divisor, vc12_fields, vc12_fits, write_vc12_answer, write_vc12_bytes}
 
 -- One bit brought down: the remainder and the bit are tried out, eight numbers and two.
@@ -120,7 +119,7 @@ fields_are n h =
 
 -- Reading.
 
-pub read_wrong : (n left : ℕ) → left ≡ left_of n → left ≢ 0 → Crc ≡ read_vc12_bits (bits 32 n)
+pub read_wrong : (n left : ℕ) → left ≡ left_of n → left ≢ 0 → Err Crc ≡ read_vc12_bits (bits 32 n)
 read_wrong n left e d = sym (wrong_read (bits 32 n) (λ same. d (e ∙ left_some n same)))
 
 pub read_right : (n left : ℕ) (f : Fields) (r : Reading) → left ≡ left_of n → left ≡ 0 → f ≡ vc12_fields (bits 32 n) → r ≡ read_fields f → r ≡ read_vc12_bits (bits 32 n)
@@ -133,7 +132,7 @@ pub read_bytes : (s : List ℕ) (n : ℕ) (r : Reading) → length s ≡ 32 → 
 unfolding read_vc12_answer
 read_bytes s n r h e is = rw (eq-eqb (length s) 32 h) (is ∙ ap (λ (m : ℕ). read_vc12_bits (bits 32 m)) e ∙ ap read_vc12_bits (bits_again (lowest_of s) (length_lowest s)))
 
-pub read_length : (s : List ℕ) → (length s ≡ 32 → ⊥) → Length ≡ read_vc12_answer s
+pub read_length : (s : List ℕ) → (length s ≡ 32 → ⊥) → Err Length ≡ read_vc12_answer s
 unfolding read_vc12_answer
 read_length s d = rw (ne_eqb (length s) 32 d) refl
 
@@ -196,14 +195,14 @@ filling_next {n} {f} {d} {out} v h e =
     filling 0 (n + 1) f d (set out n v) (ap₂ (λ (k w : ℕ). set out k w) z e ∙ (filling_more h).is)
 
 module _ (f : Fields) (s : List ℕ) where
-  pub write_length : (length s ≡ 32 → ⊥) → (Short ≡ write_vc12_answer f s) × (s ≡ write_vc12_bytes f s)
+  pub write_length : (length s ≡ 32 → ⊥) → (Err Short ≡ write_vc12_answer f s) × (s ≡ write_vc12_bytes f s)
   unfolding write_vc12_answer write_vc12_bytes
   write_length d = rw (ne_eqb (length s) 32 d) (refl, refl)
 
-  pub write_field : length s ≡ 32 → vc12_fits f ≡ false → (Field ≡ write_vc12_answer f s) × (s ≡ write_vc12_bytes f s)
+  pub write_field : length s ≡ 32 → vc12_fits f ≡ false → (Err Field ≡ write_vc12_answer f s) × (s ≡ write_vc12_bytes f s)
   unfolding write_vc12_answer write_vc12_bytes
   write_field h b = rw (eq-eqb (length s) 32 h, b) (refl, refl)
 
-  pub write_done : length s ≡ 32 → vc12_fits f ≡ true → (n : ℕ) (t : List ℕ) → bits 32 n ≡ vc12_bits f → t ≡ vc12_bytes (bits 32 n) → (Done ≡ write_vc12_answer f s) × (t ≡ write_vc12_bytes f s)
+  pub write_done : length s ≡ 32 → vc12_fits f ≡ true → (n : ℕ) (t : List ℕ) → bits 32 n ≡ vc12_bits f → t ≡ vc12_bytes (bits 32 n) → (Ok tt ≡ write_vc12_answer f s) × (t ≡ write_vc12_bytes f s)
   unfolding write_vc12_answer write_vc12_bytes
   write_done h b n t e g = rw (eq-eqb (length s) 32 h, b) (refl, g ∙ ap vc12_bytes e)

@@ -1,9 +1,8 @@
 -- A packet read by a table of shares that a function is lent (request 2026-02), whatever stands in it. By `shares_of` it is the reading of 01 (Theorems.ByTable).
 use Rattle.std.specs.Prelude.{ℕ, List, if◌then◌else◌, ◌==◌}
-use Rattle.packet.specs.declared.reader.Reading.{Reading}
 use Rattle.packet.specs.declared.ruling.Ruling.{Ruling}
 use Rattle.packet.specs.Kinds.{vc12_kind}
-use Rattle.packet.specs.Reading.{read_under}
+use Rattle.packet.specs.Reading.{read_under, Reading}
 use Rattle.packet.specs.Ruling.{ruling_by}
 use Rattle.packet.specs.Shares.{byte_at, joined_by, share_in}
 use Rattle.packet.specs.Vc12.{read_vc12_row}

@@ -1,12 +1,10 @@
 -- A packet read for what it rules (01, 'Report of an epoch'; 'For reading a packet: 9, 5, 7, 6'), by its kind.
-use Rattle.std.specs.Prelude.{ℕ, true, false, List, if◌then◌else◌, ◌==◌}
+use Rattle.std.specs.Prelude.{ℕ, true, false, List, if◌then◌else◌, ◌==◌, Ok, Err}
 use Rattle.packet.specs.declared.layout.Fields.{Fields}
-use Rattle.packet.specs.declared.reader.Reading.{Reading}
-use Rattle.packet.specs.declared.reader.Reading.TheVariants.{Packet, Length, Crc, Fixed, Unassigned}
 use Rattle.ground.specs.Types.{Epoch}
 use Rattle.packet.specs.Kinds.{vc12_kind}
 use Rattle.packet.specs.Layout.{fields_of}
-use Rattle.packet.specs.Reading.{read_nibbles}
+use Rattle.packet.specs.Reading.{read_nibbles, Reading}
 use Rattle.packet.specs.Vc12.{read_vc12_row, row_bits, vc12_fields}
 use Rattle.packet.specs.declared.ruling.Ruling.{Ruling}
 
@@ -14,11 +12,8 @@ abbrev pub refused : Ruling
 refused = record { good = false; word = 0; number = 0; gid = 0 }
 
 abbrev pub ruling_by : Reading → Ruling
-ruling_by (Packet f) = record { good = true; word = f.word.0; number = f.sq; gid = f.gid }
-ruling_by Length = refused
-ruling_by Crc = refused
-ruling_by Fixed = refused
-ruling_by Unassigned = refused
+ruling_by (Ok f) = record { good = true; word = f.word.0; number = f.sq; gid = f.gid }
+ruling_by (Err u) = refused
 
 -- the sixteen entries of a packet read
 unfoldable pub read_row : ℕ → List ℕ → Reading

@@ -1,10 +1,9 @@
 -- VC-12's packets (request 2026-01) worked out by hand, written and read; the limits of their fields and lengths; and one with two changed bits.
-use Rattle.std.specs.Prelude.{◌≡◌, ℕ, false, ◌||◌, List, [], ◌∷◌, replicate, slice_index_or, refl, ◌==◌}
+use Rattle.std.specs.Prelude.{◌≡◌, ℕ, false, ◌||◌, List, [], ◌∷◌, replicate, slice_index_or, refl, ◌==◌, Ok}
 use Rattle.ground.specs.Polynomial.{plus}
 use Rattle.ground.specs.Table.{tabulate}
 use Rattle.packet.specs.Fixed.{write_fixed_bytes}
 use Rattle.packet.specs.declared.layout.Fields.{Fields}
-use Rattle.packet.specs.declared.reader.Reading.TheVariants.{Packet}
 use Rattle.packet.specs.Reading.{reading_number}
 use Rattle.packet.specs.Vc12.{read_vc12_answer, vc12_bits, read_vc12_bits, write_vc12_answer, write_vc12_bytes}
 use Rattle.packet.specs.Words.{DNU, EOS, IDLE, NORM}
@@ -46,10 +45,10 @@ written : (write_vc12_bytes idle (replicate 32 0) ≡ idle_frames)
 unfolding packet_open idle idle_frames eos eos_frames norm norm_frames mixed mixed_frames
 written = (refl, refl, refl, refl)
 
-read : (read_vc12_answer idle_frames ≡ Packet idle)
-    × (read_vc12_answer eos_frames ≡ Packet eos)
-    × (read_vc12_answer norm_frames ≡ Packet norm)
-    × (read_vc12_answer mixed_frames ≡ Packet mixed)
+read : (read_vc12_answer idle_frames ≡ Ok idle)
+    × (read_vc12_answer eos_frames ≡ Ok eos)
+    × (read_vc12_answer norm_frames ≡ Ok norm)
+    × (read_vc12_answer mixed_frames ≡ Ok mixed)
 unfolding packet_open idle idle_frames eos eos_frames norm norm_frames mixed mixed_frames
 read = (refl, refl, refl, refl)
 
@@ -75,7 +74,7 @@ limits = (refl, refl, refl, refl, refl, refl, refl)
 abbrev pub nine : ℕ → ℕ → Fields
 nine word mst = record { epoch = 7; word = record { 0 = word }; gid = 0; mst = mst; rs_ack = 0; sq = 9; reserved = 0 }
 
-changed : read_vc12_bits (tabulate 32 (λ k. plus (k == 14 || k == 21) (slice_index_or (vc12_bits (nine NORM 0)) k false))) ≡ Packet (nine EOS 0x80)
+changed : read_vc12_bits (tabulate 32 (λ k. plus (k == 14 || k == 21) (slice_index_or (vc12_bits (nine NORM 0)) k false))) ≡ Ok (nine EOS 0x80)
 unfolding packet_open
 changed = refl
 

@@ -2,10 +2,9 @@
 use Rattle.std.specs.Prelude.{ℕ, Bool, if◌then◌else◌, ◌==◌}
 use Rattle.ground.specs.Types.{Bytes}
 use Rattle.packet.specs.declared.layout.Fields.{Fields}
-use Rattle.packet.specs.declared.writer.Writing.{Writing}
 use Rattle.packet.specs.Kinds.{vc12_kind}
 use Rattle.packet.specs.Vc12.{vc12_fits, write_vc12_answer, write_vc12_bytes}
-use Rattle.packet.specs.Writing.{fitting, write_answer, write_bytes}
+use Rattle.packet.specs.Writing.{fitting, write_answer, write_bytes, Writing}
 
 unfoldable pub sent_fits : ℕ → Fields → Bool
 sent_fits kind f = if kind == vc12_kind then vc12_fits f else fitting f

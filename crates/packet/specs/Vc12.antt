@@ -1,17 +1,15 @@
 -- VC-12's packet (request 2026-01): 'one bit a frame', '32 bits in order', in the lowest bit of each frame's byte.
-use Rattle.std.specs.Prelude.{ℕ, ◌+◌, ◌-◌, ◌/◌, ◌%◌, ◌^◌, Bool, true, false, List, [], ◌∷◌, ◌++◌, length, take, drop, slice_index, slice_index_or, if◌then◌else◌, ◌==◌}
+use Rattle.std.specs.Prelude.{ℕ, ◌+◌, ◌-◌, ◌/◌, ◌%◌, ◌^◌, Bool, true, false, List, [], ◌∷◌, ◌++◌, length, take, drop, slice_index, slice_index_or, if◌then◌else◌, ◌==◌, Ok, Err}
 use Rattle.ground.specs.Bits.{bits, number, odd}
 use Rattle.ground.specs.Finite.{same_bits}
 use Rattle.ground.specs.Polynomial.{check, sealed}
 use Rattle.ground.specs.Table.{tabulate}
 use Rattle.ground.specs.Types.{Bytes}
 use Rattle.packet.specs.declared.layout.Fields.{Fields}
-use Rattle.packet.specs.declared.reader.Reading.{Reading}
-use Rattle.packet.specs.declared.reader.Reading.TheVariants.{Crc, Length}
-use Rattle.packet.specs.declared.writer.Writing.{Writing}
-use Rattle.packet.specs.declared.writer.Writing.TheVariants.{Done, Field, Length as Short}
-use Rattle.packet.specs.Reading.{read_fields}
-use Rattle.packet.specs.Writing.{fits_within}
+use Rattle.packet.specs.declared.reader.Unread.TheVariants.{Crc, Length}
+use Rattle.packet.specs.declared.writer.Unwritten.TheVariants.{Field, Length as Short}
+use Rattle.packet.specs.Reading.{read_fields, Reading}
+use Rattle.packet.specs.Writing.{fits_within, Writing}
 
 -- x^3+x+1 without its leading 1
 unfoldable pub vc12_divisor : List Bool
@@ -39,7 +37,7 @@ vc12_fits f = fits_within 32 64 16 f
 
 -- 'For writing: 9, 8' (01)
 unfoldable pub write_vc12_answer : Fields → Bytes → Writing
-write_vc12_answer f s = if length s == 32 then (if vc12_fits f then Done else Field) else Short
+write_vc12_answer f s = if length s == 32 then (if vc12_fits f then Ok tt else Err Field) else Err Short
 
 -- the lent bytes afterwards: the packet, or as they were
 unfoldable pub write_vc12_bytes : Fields → Bytes → Bytes
@@ -64,14 +62,14 @@ vc12_fields l =
 
 -- 'For reading a packet: 9, 5, 7, 6' (01)
 unfoldable pub read_vc12_bits : List Bool → Reading
-read_vc12_bits l = if same_bits (check vc12_divisor (take 29 l)) (drop 29 l) then read_fields (vc12_fields l) else Crc
+read_vc12_bits l = if same_bits (check vc12_divisor (take 29 l)) (drop 29 l) then read_fields (vc12_fields l) else Err Crc
 
 -- the bits that 32 bytes carry: the lowest of each, and no other is looked at
 unfoldable pub lowest_of : Bytes → List Bool
 lowest_of s = tabulate 32 (λ k. odd (slice_index s k))
 
 unfoldable pub read_vc12_answer : Bytes → Reading
-read_vc12_answer s = if length s == 32 then read_vc12_bits (lowest_of s) else Length
+read_vc12_answer s = if length s == 32 then read_vc12_bits (lowest_of s) else Err Length
 
 -- The receiver keeps sixteen entries of two bits each, the earlier frame's twice as high.
 unfoldable pub row_bits : List ℕ → List Bool

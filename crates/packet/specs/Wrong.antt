@@ -1,16 +1,15 @@
 -- Wrong readings of 01 and of requests 2026-08, 2026-02, 2026-12 and 2026-01, each as a definition with a run on which it breaks what these say.
-use Rattle.std.specs.Prelude.{◌≡◌, ℕ, zero, suc, ◌+◌, ◌-◌, ◌*◌, ◌/◌, ◌%◌, ◌^◌, Bool, true, false, ◌||◌, List, [], ◌∷◌, ◌++◌, get_or, take, replicate, bit_xor, slice_index, slice_index_or, refl, if◌then◌else◌, ◌==◌}
+use Rattle.std.specs.Prelude.{◌≡◌, ℕ, zero, suc, ◌+◌, ◌-◌, ◌*◌, ◌/◌, ◌%◌, ◌^◌, Bool, true, false, ◌||◌, List, [], ◌∷◌, ◌++◌, get_or, take, replicate, bit_xor, slice_index, slice_index_or, refl, if◌then◌else◌, ◌==◌, Ok, Err}
 use Rattle.ground.specs.Bits.{odd}
 use Rattle.ground.specs.Polynomial.{check, plus}
 use Rattle.ground.specs.Table.{tabulate}
 use Rattle.packet.specs.declared.layout.Fields.{Fields}
-use Rattle.packet.specs.declared.reader.Reading.{Reading}
-use Rattle.packet.specs.declared.reader.Reading.TheVariants.{Packet, Crc, Fixed, Unassigned}
+use Rattle.packet.specs.declared.reader.Unread.TheVariants.{Crc, Fixed, Unassigned}
 use Rattle.packet.specs.Crc.{crc_of}
 use Rattle.packet.specs.Fixed.{fixed_fields, fixed_nibbles, read_fixed_nibbles}
 use Rattle.packet.specs.Kinds.{epoch_of, idle_number, mst_fails, mst_first, vc12_kind}
 use Rattle.packet.specs.Layout.{byte_of, carried_in, data_of, fields_of, h4_of, nibbles_of}
-use Rattle.packet.specs.Reading.{read_nibbles}
+use Rattle.packet.specs.Reading.{read_nibbles, Reading}
 use Rattle.packet.specs.Shares.{byte_at, joined_to, share_of}
 use Rattle.packet.specs.Vc12.{lowest_of, read_vc12_bits, vc12_bits, vc12_bytes, vc12_data, vc12_divisor, vc12_fields}
 use Rattle.packet.specs.Words.{FIXED, IDLE, NORM, assigned}
@@ -43,11 +42,11 @@ fails_breaks = (refl, refl)
 -- The word judged before the CRC. 'For reading a packet: 9, 5, 7, 6': a word FIXED under a wrong CRC is 5.
 wrong_read : List ℕ → Reading
 wrong_read ns =
-    if (fields_of ns).word.0 == FIXED then Fixed
-    else if assigned (fields_of ns).word then (if crc_of (take 14 ns) == carried_in ns then Packet (fields_of ns) else Crc)
-    else Unassigned
+    if (fields_of ns).word.0 == FIXED then Err Fixed
+    else if assigned (fields_of ns).word then (if crc_of (take 14 ns) == carried_in ns then Ok (fields_of ns) else Err Crc)
+    else Err Unassigned
 
-read_breaks : (wrong_read (1 ∷ replicate 15 0) ≡ Fixed) × (read_nibbles (1 ∷ replicate 15 0) ≡ Crc)
+read_breaks : (wrong_read (1 ∷ replicate 15 0) ≡ Err Fixed) × (read_nibbles (1 ∷ replicate 15 0) ≡ Err Crc)
 unfolding packet_open wrong_read
 read_breaks = (refl, refl)
 
@@ -73,7 +72,7 @@ wrong_nibbles z =
     let sum = crc_of (data_of (with_reserved_lem 0)) in
     data_of (with_reserved_lem z) ++ ((sum / 16) ∷ (sum % 16) ∷ [])
 
-nibbles_break : (read_nibbles (wrong_nibbles 1792) ≡ Crc) × (read_nibbles (nibbles_of (with_reserved_lem 1792)) ≡ Packet (with_reserved_lem 1792))
+nibbles_break : (read_nibbles (wrong_nibbles 1792) ≡ Err Crc) × (read_nibbles (nibbles_of (with_reserved_lem 1792)) ≡ Ok (with_reserved_lem 1792))
 unfolding packet_open wrong_nibbles with_reserved_lem
 nibbles_break = (refl, refl)
 
@@ -115,12 +114,12 @@ sums_break = (refl, refl)
 -- Wrong readings of request 2026-12.
 
 -- The CRC still checked, on SQ 5 in epoch 58: 5.
-checked_breaks : (read_nibbles (fixed_nibbles 58 5) ≡ Crc) × (read_fixed_nibbles (fixed_nibbles 58 5) ≡ Packet (fixed_fields 58 5))
+checked_breaks : (read_nibbles (fixed_nibbles 58 5) ≡ Err Crc) × (read_fixed_nibbles (fixed_nibbles 58 5) ≡ Ok (fixed_fields 58 5))
 unfolding packet_open
 checked_breaks = (refl, refl)
 
 -- The word judged as in LCAS, on SQ 0 in epoch 0, whose CRC is right: 7.
-judged_breaks : (read_nibbles (fixed_nibbles 0 0) ≡ Fixed) × (read_fixed_nibbles (fixed_nibbles 0 0) ≡ Packet (fixed_fields 0 0))
+judged_breaks : (read_nibbles (fixed_nibbles 0 0) ≡ Err Fixed) × (read_fixed_nibbles (fixed_nibbles 0 0) ≡ Ok (fixed_fields 0 0))
 unfolding packet_open
 judged_breaks = (refl, refl)
 
@@ -145,7 +144,7 @@ vc12_last = record { epoch = 31; word = record { 0 = NORM }; gid = 1; mst = 0; r
 wrong_lowest : List ℕ → List Bool
 wrong_lowest s = tabulate 32 (λ k. get_or s k 0 == 1)
 
-lowest_breaks : (read_vc12_bits (wrong_lowest (vc12_bytes (vc12_bits vc12_last))) ≡ Crc) × (read_vc12_bits (lowest_of (vc12_bytes (vc12_bits vc12_last))) ≡ Packet vc12_last)
+lowest_breaks : (read_vc12_bits (wrong_lowest (vc12_bytes (vc12_bits vc12_last))) ≡ Err Crc) × (read_vc12_bits (lowest_of (vc12_bytes (vc12_bits vc12_last))) ≡ Ok vc12_last)
 unfolding packet_open wrong_lowest vc12_last
 lowest_breaks = (refl, refl)
 
@@ -156,7 +155,7 @@ vc12_norm sq reserved = record { epoch = 3; word = record { 0 = NORM }; gid = 0;
 two_changed : List Bool → List Bool
 two_changed l = tabulate 32 (λ k. plus (k == 10 || k == 17) (slice_index_or l k false))
 
-changes_pass : (read_vc12_bits (two_changed (vc12_bits (vc12_norm 0 0))) ≡ Packet (vc12_norm 1 4)) × (read_vc12_bits (two_changed (vc12_bits (vc12_norm 1 0))) ≡ Packet (vc12_norm 0 4))
+changes_pass : (read_vc12_bits (two_changed (vc12_bits (vc12_norm 0 0))) ≡ Ok (vc12_norm 1 4)) × (read_vc12_bits (two_changed (vc12_bits (vc12_norm 1 0))) ≡ Ok (vc12_norm 0 4))
 unfolding packet_open two_changed vc12_norm
 changes_pass = (refl, refl)
 

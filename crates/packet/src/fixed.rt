@@ -3,11 +3,11 @@ ghost use Rattle.std.specs.Prelude.{◌≡◌};
 ghost use Rattle.packet.specs.Fixed.{fixed_fields, fixed_nibbles, fixed_ruling_of, read_fixed_answer, read_fixed_nibbles, write_fixed_answer, write_fixed_bytes};
 
 use crate::layout::Fields;
-use crate::reader::Reading;
-use crate::ruling::{Ruling, refusal};
+use crate::reader::Unread;
+use crate::ruling::Ruling;
 use crate::words::Word;
-use crate::writer::Writing;
-use crate::{layout, reader};
+use crate::writer::Unwritten;
+use crate::{layout, reader, ruling};
 
 fn fixed_nibbles(epoch: u8, sq: u8) -> [u8; 16]
     ensures { result ≡ fixed_nibbles epoch sq }
@@ -33,22 +33,22 @@ fn fixed_nibbles(epoch: u8, sq: u8) -> [u8; 16]
 }
 
 // Epoch and SQ are 32 bits wide, so that 256 is refused and not cut down to 0.
-pub fn write_fixed(epoch: u32, sq: u32, h4: &mut [u8]) -> Writing
+pub fn write_fixed(epoch: u32, sq: u32, h4: &mut [u8]) -> Result<(), Unwritten>
     ensures { (result ≡ write_fixed_answer epoch sq h4.old) × (h4.new ≡ write_fixed_bytes epoch sq h4.old) }
 {
     if h4.len() != 16 {
-        return Writing::Length;
+        return Err(Unwritten::Length);
     }
     if epoch >= 256 {
-        return Writing::Field;
+        return Err(Unwritten::Field);
     }
     if sq >= 256 {
-        return Writing::Field;
+        return Err(Unwritten::Field);
     }
     let nibbles = fixed_nibbles(epoch as u8, sq as u8);
     let image = layout::h4_of(nibbles);
     h4.copy_from_slice(&image);
-    Writing::Done
+    Ok(())
 }
 
 fn fixed_fields(epoch: u8, sq: u8) -> Fields
@@ -66,25 +66,24 @@ fn fixed_fields(epoch: u8, sq: u8) -> Fields
 }
 
 // Sixteen nibbles read, each in the low four bits of its byte.
-pub fn read_fixed_nibbles(nibbles: [u8; 16]) -> Reading
+pub fn read_fixed_nibbles(nibbles: [u8; 16]) -> Result<Fields, Unread>
     ensures { result ≡ read_fixed_nibbles nibbles }
 {
     let word = nibbles[10] % 16;
     let epoch = layout::byte_of(nibbles[8], nibbles[9]);
     let sq = layout::byte_of(nibbles[6], nibbles[7]);
     if word != Word::FIXED.0 {
-        return Reading::Unassigned;
+        return Err(Unread::Unassigned);
     }
-    let fields = fixed_fields(epoch, sq);
-    Reading::Packet(fields)
+    Ok(fixed_fields(epoch, sq))
 }
 
 // Sixteen H4 bytes read.
-pub fn read_fixed(h4: &[u8]) -> Reading
+pub fn read_fixed(h4: &[u8]) -> Result<Fields, Unread>
     ensures { result ≡ read_fixed_answer h4.now }
 {
     if h4.len() != 16 {
-        return Reading::Length;
+        return Err(Unread::Length);
     }
     let nibbles = reader::highs_of(h4);
     read_fixed_nibbles(nibbles)
@@ -94,20 +93,5 @@ pub fn read_fixed(h4: &[u8]) -> Reading
 pub fn fixed_ruling_of(nibbles: [u8; 16]) -> Ruling
     ensures { result ≡ fixed_ruling_of nibbles }
 {
-    let reading = read_fixed_nibbles(nibbles);
-    match reading {
-        Reading::Packet(fields) => {
-            let word = fields.word;
-            Ruling {
-                good: true,
-                word: word.0,
-                number: fields.sq,
-                gid: fields.gid,
-            }
-        }
-        Reading::Length => refusal(),
-        Reading::Crc => refusal(),
-        Reading::Fixed => refusal(),
-        Reading::Unassigned => refusal(),
-    }
+    ruling::ruling_by(read_fixed_nibbles(nibbles))
 }

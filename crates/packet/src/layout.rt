@@ -7,7 +7,7 @@ ghost use Rattle.packet.specs.Shares.{halves_of, shares_of};
 use crate::crc::crc;
 use crate::words::Word;
 
-#[derive(Clone, Copy)]
+#[derive(Clone, Copy, PartialEq, Eq)]
 pub struct Fields {
     pub epoch: u8,
     pub word: Word,

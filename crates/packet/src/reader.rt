@@ -2,7 +2,7 @@
 ghost use Rattle.std.specs.Prelude.{◌≡◌, [], ◌∷◌, length};
 ghost use Rattle.packet.specs.ByTable.{read_nibbles_with};
 ghost use Rattle.packet.specs.Layout.{highs_of};
-ghost use Rattle.packet.specs.Reading.{read_answer, read_fields, reading_number};
+ghost use Rattle.packet.specs.Reading.{read_answer, read_fields, reading_number, unread_number};
 ghost use Rattle.packet.specs.Shares.{halves_of};
 
 use crate::crc::join;
@@ -11,41 +11,49 @@ use crate::layout::{Fields, byte_of};
 use crate::shares::share_table;
 use crate::words::Word;
 
-#[derive(Clone, Copy)]
-pub enum Reading {
-    Packet(Fields),
+// Why there is no packet.
+#[derive(Clone, Copy, PartialEq, Eq)]
+pub enum Unread {
     Length,
     Crc,
     Fixed,
     Unassigned,
 }
 
-impl Reading {
+impl Unread {
     pub fn number(self) -> u8
-        ensures { result ≡ reading_number self }
+        ensures { result ≡ unread_number self }
     {
         match self {
-            Reading::Packet(_) => 0,
-            Reading::Length => 9,
-            Reading::Crc => 5,
-            Reading::Fixed => 7,
-            Reading::Unassigned => 6,
+            Unread::Length => 9,
+            Unread::Crc => 5,
+            Unread::Fixed => 7,
+            Unread::Unassigned => 6,
         }
     }
 }
 
+// 01's number for what was read.
+pub fn reading_number(reading: Result<Fields, Unread>) -> u8
+    ensures { result ≡ reading_number reading }
+{
+    match reading {
+        Ok(_) => 0,
+        Err(unread) => unread.number(),
+    }
+}
+
 // The fields of a packet whose CRC is right.
-pub(crate) fn by_word(fields: Fields) -> Reading
+pub(crate) fn by_word(fields: Fields) -> Result<Fields, Unread>
     ensures { result ≡ read_fields fields }
 {
-    let word = fields.word;
-    if word.0 == Word::FIXED.0 {
-        return Reading::Fixed;
+    if fields.word == Word::FIXED {
+        return Err(Unread::Fixed);
     }
-    if !word.is_assigned() {
-        return Reading::Unassigned;
+    if !fields.word.is_assigned() {
+        return Err(Unread::Unassigned);
     }
-    Reading::Packet(fields)
+    Ok(fields)
 }
 
 // A packet of seven bytes and their CRC. Takes bytes and no array, so that the compiler puts it into both callers and they stay in registers.
@@ -59,19 +67,19 @@ fn read_bytes(
     at_5: u8,
     at_6: u8,
     carried: u8,
-) -> Reading
+) -> Result<Fields, Unread>
     ensures { result ≡ read_nibbles_with table.now (halves_of (at_0 ∷ at_1 ∷ at_2 ∷ at_3 ∷ at_4 ∷ at_5 ∷ at_6 ∷ carried ∷ [])) }
 {
     let sum = join(table, at_0, at_1, at_2, at_3, at_4, at_5, at_6);
     if sum != carried {
-        return Reading::Crc;
+        return Err(Unread::Crc);
     }
     let nibbles = layout::halves_of(at_0, at_1, at_2, at_3, at_4, at_5, at_6, carried);
     by_word(layout::fields_of(nibbles))
 }
 
 // Sixteen nibbles read, each in the low four bits of its byte.
-pub fn read_nibbles(table: &[[u8; 256]; 7], nibbles: [u8; 16]) -> Reading
+pub fn read_nibbles(table: &[[u8; 256]; 7], nibbles: [u8; 16]) -> Result<Fields, Unread>
     ensures { result ≡ read_nibbles_with table.now nibbles }
 {
     read_bytes(
@@ -112,11 +120,11 @@ pub(crate) fn highs_of(h4: &[u8]) -> [u8; 16]
 }
 
 // Sixteen H4 bytes read. It goes by no array of nibbles: the compiler would lay that in memory.
-pub fn read(h4: &[u8]) -> Reading
+pub fn read(h4: &[u8]) -> Result<Fields, Unread>
     ensures { result ≡ read_answer h4.now }
 {
     if h4.len() != 16 {
-        return Reading::Length;
+        return Err(Unread::Length);
     }
     let table = share_table();
     read_bytes(

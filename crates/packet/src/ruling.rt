@@ -1,9 +1,10 @@
 // A packet read for what it rules.
 ghost use Rattle.std.specs.Prelude.{◌≡◌};
 ghost use Rattle.packet.specs.ByTable.{read_row_with, ruling_with};
-ghost use Rattle.packet.specs.Ruling.{refused};
+ghost use Rattle.packet.specs.Ruling.{ruling_by};
 
-use crate::reader::Reading;
+use crate::layout::Fields;
+use crate::reader::Unread;
 use crate::{kinds, reader, vc12};
 
 #[derive(Clone, Copy)]
@@ -15,19 +16,27 @@ pub struct Ruling {
     pub gid: u8,
 }
 
-pub(crate) fn refusal() -> Ruling
-    ensures { result ≡ refused }
+pub(crate) fn ruling_by(reading: Result<Fields, Unread>) -> Ruling
+    ensures { result ≡ ruling_by reading }
 {
-    Ruling {
-        good: false,
-        word: 0,
-        number: 0,
-        gid: 0,
+    match reading {
+        Ok(fields) => Ruling {
+            good: true,
+            word: fields.word.0,
+            number: fields.sq,
+            gid: fields.gid,
+        },
+        Err(_) => Ruling {
+            good: false,
+            word: 0,
+            number: 0,
+            gid: 0,
+        },
     }
 }
 
 // The sixteen entries of a packet, by its kind.
-pub fn read_row(table: &[[u8; 256]; 7], kind: u8, row: [u8; 16]) -> Reading
+pub fn read_row(table: &[[u8; 256]; 7], kind: u8, row: [u8; 16]) -> Result<Fields, Unread>
     ensures { result ≡ read_row_with table.now kind row }
 {
     if kind == kinds::VC12 {
@@ -40,20 +49,5 @@ pub fn read_row(table: &[[u8; 256]; 7], kind: u8, row: [u8; 16]) -> Reading
 pub fn ruling_of(table: &[[u8; 256]; 7], kind: u8, epoch: u8, row: [u8; 16]) -> Ruling
     ensures { result ≡ ruling_with table.now kind epoch row }
 {
-    let reading = read_row(table, kind, row);
-    match reading {
-        Reading::Packet(fields) => {
-            let word = fields.word;
-            Ruling {
-                good: true,
-                word: word.0,
-                number: fields.sq,
-                gid: fields.gid,
-            }
-        }
-        Reading::Length => refusal(),
-        Reading::Crc => refusal(),
-        Reading::Fixed => refusal(),
-        Reading::Unassigned => refusal(),
-    }
+    ruling_by(read_row(table, kind, row))
 }

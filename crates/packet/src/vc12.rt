@@ -8,9 +8,9 @@ ghost use Rattle.packet.specs.Vc12.{frame_byte, lowest_of, read_vc12_answer, rea
 
 use crate::layout::Fields;
 use crate::reader;
-use crate::reader::Reading;
+use crate::reader::Unread;
 use crate::words::Word;
-use crate::writer::Writing;
+use crate::writer::Unwritten;
 
 // One bit more of a division by x^3+x+1.
 fn brought(left: u8, bit: u8) -> u8
@@ -48,11 +48,11 @@ fn fields_of(number: u32) -> Fields
     }
 }
 
-fn read_number(number: u32) -> Reading
+fn read_number(number: u32) -> Result<Fields, Unread>
     ensures { result ≡ read_vc12_bits (bits 32 number) }
 {
     if left_of(number) != 0 {
-        return Reading::Crc;
+        return Err(Unread::Crc);
     }
     reader::by_word(fields_of(number))
 }
@@ -69,11 +69,11 @@ fn number_of(frames: &[u8]) -> u32
 }
 
 // The bytes of 32 frames read.
-pub fn read_vc12(frames: &[u8]) -> Reading
+pub fn read_vc12(frames: &[u8]) -> Result<Fields, Unread>
     ensures { result ≡ read_vc12_answer frames.now }
 {
     if frames.len() != 32 {
-        return Reading::Length;
+        return Err(Unread::Length);
     }
     read_number(number_of(frames))
 }
@@ -89,7 +89,7 @@ fn number_in(row: [u8; 16]) -> u32
 }
 
 // Sixteen entries read, each with two bits in its lowest.
-pub fn read_vc12_row(row: [u8; 16]) -> Reading
+pub fn read_vc12_row(row: [u8; 16]) -> Result<Fields, Unread>
     ensures { result ≡ read_vc12_row row }
 {
     read_number(number_in(row))
@@ -152,15 +152,15 @@ fn put_bytes(number: u32, frames: &mut [u8])
 }
 
 // The bytes of 32 frames: the first says the start.
-pub fn write_vc12(fields: Fields, frames: &mut [u8]) -> Writing
+pub fn write_vc12(fields: Fields, frames: &mut [u8]) -> Result<(), Unwritten>
     ensures { (result ≡ write_vc12_answer fields frames.old) × (frames.new ≡ write_vc12_bytes fields frames.old) }
 {
     if frames.len() != 32 {
-        return Writing::Length;
+        return Err(Unwritten::Length);
     }
     if !fits(fields) {
-        return Writing::Field;
+        return Err(Unwritten::Field);
     }
     put_bytes(packet_of(fields), frames);
-    Writing::Done
+    Ok(())
 }

@@ -2,7 +2,7 @@
 ghost use Rattle.std.specs.Prelude.{◌≡◌, [], ◌∷◌};
 ghost use Rattle.packet.specs.Words.{FIXED, ADD, NORM, EOS, IDLE, DNU, word_of, nibble_of, assigned};
 
-#[derive(Clone, Copy)]
+#[derive(Clone, Copy, PartialEq, Eq)]
 pub struct Word(pub u8);
 
 impl Word {
@@ -45,15 +45,13 @@ impl Word {
         self.0 % 16
     }
 
+    #[tactic(auto, unfolding(crate::specs::Words::assigned))]
     pub fn is_assigned(self) -> bool
         ensures { result ≡ assigned self }
     {
-        let word = self.0;
-        (word == Word::FIXED.0)
-            | (word == Word::ADD.0)
-            | (word == Word::NORM.0)
-            | (word == Word::EOS.0)
-            | (word == Word::IDLE.0)
-            | (word == Word::DNU.0)
+        matches!(
+            self,
+            Word::FIXED | Word::ADD | Word::NORM | Word::EOS | Word::IDLE | Word::DNU
+        )
     }
 }

@@ -1,28 +1,37 @@
 // A packet written (01, 'Answer numbers': for writing 9, then 8).
 ghost use Rattle.std.specs.Prelude.{◌≡◌};
-ghost use Rattle.packet.specs.Writing.{fitting, write_answer, write_bytes, writing_number};
+ghost use Rattle.packet.specs.Writing.{fitting, write_answer, write_bytes, unwritten_number, writing_number};
 
 use crate::layout;
 use crate::layout::Fields;
 use crate::shares::share_table;
 use crate::words::Word;
 
-#[derive(Clone, Copy)]
-pub enum Writing {
-    Done,
+// Why nothing was written.
+#[derive(Clone, Copy, PartialEq, Eq)]
+pub enum Unwritten {
     Length,
     Field,
 }
 
-impl Writing {
+impl Unwritten {
     pub fn number(self) -> u8
-        ensures { result ≡ writing_number self }
+        ensures { result ≡ unwritten_number self }
     {
         match self {
-            Writing::Done => 0,
-            Writing::Length => 9,
-            Writing::Field => 8,
+            Unwritten::Length => 9,
+            Unwritten::Field => 8,
         }
+    }
+}
+
+// 01's number for a writing.
+pub fn writing_number(writing: Result<(), Unwritten>) -> u8
+    ensures { result ≡ writing_number writing }
+{
+    match writing {
+        Ok(()) => 0,
+        Err(unwritten) => unwritten.number(),
     }
 }
 
@@ -38,18 +47,18 @@ fn fits(fields: Fields) -> bool
         & assigned
 }
 
-pub fn write(fields: Fields, h4: &mut [u8]) -> Writing
+pub fn write(fields: Fields, h4: &mut [u8]) -> Result<(), Unwritten>
     ensures { (result ≡ write_answer fields h4.old) × (h4.new ≡ write_bytes fields h4.old) }
 {
     if h4.len() != 16 {
-        return Writing::Length;
+        return Err(Unwritten::Length);
     }
     if !fits(fields) {
-        return Writing::Field;
+        return Err(Unwritten::Field);
     }
     let table = share_table();
     let nibbles = layout::nibbles_of(&table, fields);
     let image = layout::h4_of(nibbles);
     h4.copy_from_slice(&image);
-    Writing::Done
+    Ok(())
 }

@@ -1,10 +1,9 @@
 -- What the receiver saw, for the host to read: of each port the packet that rules the oldest epoch not yet reported. It is what a fetch judges by (Report's `seen_of`); after a report the packets are those of the epoch just reported.
-use Rattle.std.specs.Prelude.{Bool, List, [], ◌∷◌, ℕ, get_or, length, if◌then◌else◌}
+use Rattle.std.specs.Prelude.{Bool, List, [], ◌∷◌, ℕ, get_or, length, if◌then◌else◌, Ok, Err}
 use Rattle.ground.specs.Counting.Each.{each}
 use Rattle.ground.specs.Flags.{one_if}
 use Rattle.ground.specs.Types.{Bytes, Rows}
-use Rattle.packet.specs.declared.reader.Reading.{Reading}
-use Rattle.packet.specs.declared.reader.Reading.TheVariants.{Packet, Length, Crc, Fixed, Unassigned}
+use Rattle.packet.specs.Reading.{Reading, unread_number}
 use Rattle.phases.specs.Sizes.{ports_in}
 use Rattle.receiver.specs.declared.seeing.Carried.{Carried}
 use Rattle.receiver.specs.Report.{ruling_epoch}
@@ -23,11 +22,8 @@ nothing_carried answer = record { answer = answer; epoch = 0; word = 0; number =
 
 -- a packet by its reading
 abbrev pub carried_by : Reading → Carried
-carried_by (Packet f) = record { answer = 0; epoch = f.epoch; word = f.word.0; number = f.sq; gid = f.gid; mst = f.mst; rs_ack = f.rs_ack }
-carried_by Length = nothing_carried 9
-carried_by Crc = nothing_carried 5
-carried_by Fixed = nothing_carried 7
-carried_by Unassigned = nothing_carried 6
+carried_by (Ok f) = record { answer = 0; epoch = f.epoch; word = f.word.0; number = f.sq; gid = f.gid; mst = f.mst; rs_ack = f.rs_ack }
+carried_by (Err u) = nothing_carried (unread_number u)
 
 -- what the packet that rules port i carries, whole or not
 unfoldable pub carried_at : (g : Group) (s : Rows) (i : ℕ) → Carried

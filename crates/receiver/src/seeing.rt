@@ -7,7 +7,7 @@ ghost use Rattle.rows.specs.Packets.{packets_at};
 ghost use Rattle.step.specs.Carried.{other_number};
 
 use crate::{flags, report, shown};
-use packet::Reading;
+use packet::{Fields, Unread};
 use rows::Group;
 use step::answers;
 use store::marks;
@@ -38,26 +38,20 @@ fn nothing_carried(answer: u8) -> Carried
     }
 }
 
-fn carried_by(reading: Reading) -> Carried
+fn carried_by(reading: Result<Fields, Unread>) -> Carried
     ensures { result ≡ carried_by reading }
 {
     match reading {
-        Reading::Packet(fields) => {
-            let word = fields.word;
-            Carried {
-                answer: 0,
-                epoch: fields.epoch,
-                word: word.0,
-                number: fields.sq,
-                gid: fields.gid,
-                mst: fields.mst,
-                rs_ack: fields.rs_ack,
-            }
-        }
-        Reading::Length => nothing_carried(9),
-        Reading::Crc => nothing_carried(5),
-        Reading::Fixed => nothing_carried(7),
-        Reading::Unassigned => nothing_carried(6),
+        Ok(fields) => Carried {
+            answer: 0,
+            epoch: fields.epoch,
+            word: fields.word.0,
+            number: fields.sq,
+            gid: fields.gid,
+            mst: fields.mst,
+            rs_ack: fields.rs_ack,
+        },
+        Err(unread) => nothing_carried(unread.number()),
     }
 }
 

@@ -7,9 +7,9 @@ use lib.Dec.{eqb, ltb}
 use lib.ListN.{length}
 use borrow.Author.Tests.{eq-eqb, ne_eqb, lt-ltb, le-ltb}
 use Rattle.packet.specs.declared.layout.Fields.{Fields}
-use Rattle.packet.specs.declared.writer.Writing.{Writing}
 use Rattle.packet.specs.Kinds.{epoch_after, frames, payload_right}
 use Rattle.packet.specs.Sent.{sent_answer, sent_bytes}
+use Rattle.packet.specs.Writing.{Writing}
 use Rattle.payload.specs.declared.answer.Answer as P
 use Rattle.payload.specs.Spreading.{one_answer, spread_one}
 use Rattle.sender.specs.declared.board.Board.{Board}

@@ -1,13 +1,15 @@
 -- What the answers of writing a packet and of spreading mean to the sender's caller: the same numbers of 01.
-use Rattle.packet.specs.declared.writer.Writing.{Writing}
+use Rattle.std.specs.Prelude.{Ok, Err}
+use Rattle.packet.specs.Writing.{Writing}
+use Rattle.packet.specs.declared.writer.Unwritten.TheVariants as W
 use Rattle.payload.specs.declared.answer.Answer as P
 use Rattle.sender.specs.declared.table.Answer.{Answer}
 use Rattle.sender.specs.declared.table.Answer.TheVariants as A
 
 abbrev pub written : Writing → Answer
-written Writing.Done = A.Done
-written Writing.Length = A.Length
-written Writing.Field = A.Field
+written (Ok u) = A.Done
+written (Err W.Length) = A.Length
+written (Err W.Field) = A.Field
 
 abbrev pub spread_told : P.Answer → Answer
 spread_told P.Answer.Done = A.Done

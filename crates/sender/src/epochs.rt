@@ -9,7 +9,7 @@ use crate::board::Board;
 use crate::ranks::Ranks;
 use crate::table::{Answer, Outcome, Table};
 use crate::{board, commands, ranks, reports, table};
-use packet::{Fields, Writing, kinds};
+use packet::{Fields, Unwritten, kinds};
 
 // outgoing: what goes out in this epoch's packets. ruling: what went out in the packets before, which rules this epoch's payload.
 // Before the first epoch starts, epoch is the number it will have.
@@ -79,13 +79,13 @@ fn epoch_started(sender: Sender) -> u8
     sender.epoch
 }
 
-fn written_as(writing: Writing) -> Answer
+fn written_as(writing: Result<(), Unwritten>) -> Answer
     ensures { result ≡ written writing }
 {
     match writing {
-        Writing::Done => Answer::Done,
-        Writing::Length => Answer::Length,
-        Writing::Field => Answer::Field,
+        Ok(()) => Answer::Done,
+        Err(Unwritten::Length) => Answer::Length,
+        Err(Unwritten::Field) => Answer::Field,
     }
 }
 

@@ -1,9 +1,9 @@
 -- What a packet that rules carries, for the host to read: its reading by its kind (requests 2026-01 and 2026-12), and whether its number is another than the receiver's own count (request 2026-04).
 use Rattle.std.specs.Prelude.{Bool, not, ◌||◌, List, ℕ, if◌then◌else◌, ◌==◌}
-use Rattle.packet.specs.declared.reader.Reading.{Reading}
 use Rattle.packet.specs.Fixed.{read_fixed_nibbles}
 use Rattle.packet.specs.Kinds.{fixed_kind}
 use Rattle.packet.specs.Ruling.{read_row}
+use Rattle.packet.specs.Reading.{Reading}
 use Rattle.step.specs.OwnCount.{own_number, without_mfi2}
 
 -- 'For reading a packet: 9, 5, 7, 6' (01), by its kind

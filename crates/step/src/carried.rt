@@ -3,10 +3,10 @@ ghost use Rattle.std.specs.Prelude.{◌≡◌};
 ghost use Rattle.step.specs.Carried.{other_number, reading_in};
 
 use crate::own;
-use packet::{Reading, kinds};
+use packet::{Fields, Unread, kinds};
 
 // A packet by its kind.
-pub fn reading_of(kind: u8, row: [u8; 16]) -> Reading
+pub fn reading_of(kind: u8, row: [u8; 16]) -> Result<Fields, Unread>
     ensures { result ≡ reading_in kind row }
 {
     if kind == kinds::FIXED {

@@ -4,7 +4,7 @@ ghost use Rattle.step.specs.ByTable.{own_ruling_with, ruling_in_with};
 ghost use Rattle.step.specs.OwnCount.{ends_odd, odd_packet, own_number, right_crc};
 
 use crate::run;
-use packet::{Ruling, kinds, symbols};
+use packet::{Ruling, Unread, kinds, symbols};
 
 // Whether MFI2, in the ninth and tenth nibble, is the number of the packet's epoch.
 pub(crate) fn is_own(epoch: u8, nibbles: [u8; 16]) -> bool
@@ -45,9 +45,7 @@ fn is_right(kind: u8, nibbles: [u8; 16]) -> bool
         return true;
     }
     let table = packet::share_table();
-    let reading = packet::read_nibbles(&table, nibbles);
-    let answer = reading.number();
-    !(answer == 5)
+    packet::read_nibbles(&table, nibbles) != Err(Unread::Crc)
 }
 
 // A right CRC, and another MFI2, which is looked at first: the CRC takes longer than all else of a frame.

@@ -1,12 +1,11 @@
 -- 'Join our sender and receiver over a path with whole-epoch delays, a out and b back, all packets undamaged' (02, 2026-13): the way out is a link of demand 3, frame by frame, and the way back is packets of
 -- another sender of ours, whose MST and RS-Ack are the receiver's reply.
-use Rattle.std.specs.Prelude.{◌≡◌, ◌≢◌, false, List, [], ◌∷◌, ◌++◌, ℕ, suc, ◌+◌, ◌-◌, ◌*◌, ◌≤◌, ◌<◌, get_or, if◌then◌else◌}
+use Rattle.std.specs.Prelude.{◌≡◌, ◌≢◌, false, List, [], ◌∷◌, ◌++◌, ℕ, suc, ◌+◌, ◌-◌, ◌*◌, ◌≤◌, ◌<◌, get_or, if◌then◌else◌, Ok, Err}
 use Rattle.ground.specs.Plain.{◌≤?◌}
 use Rattle.ground.specs.Types.{Bytes}
-use Rattle.packet.specs.declared.reader.Reading.{Reading}
-use Rattle.packet.specs.declared.reader.Reading.TheVariants.{Packet, Length, Crc, Fixed, Unassigned}
 use Rattle.packet.specs.Ruling.{read_row}
 use Rattle.packet.specs.Symbols.{packet_row}
+use Rattle.packet.specs.Reading.{Reading}
 use Rattle.receiver.specs.Shown.{reply_of}
 use Rattle.sender.specs.declared.table.Answer.TheVariants.{Done}
 use Rattle.sender.specs.declared.table.Table.{Table}
@@ -25,11 +24,8 @@ use Rattle.sure_add.specs.AsSent.{AsSent}
 
 -- a packet of the way back as the host hands it to the sender: its epoch, MST and RS-Ack; one that is refused is not handed
 abbrev pub report_by : Reading → List Call
-report_by (Packet f) = Report f.epoch f.mst f.rs_ack ∷ []
-report_by Length = []
-report_by Crc = []
-report_by Fixed = []
-report_by Unassigned = []
+report_by (Ok f) = Report f.epoch f.mst f.rs_ack ∷ []
+report_by (Err u) = []
 
 -- the receiver at the start of the t-th epoch: all frames before that frame time, and after each the reports until none was due
 abbrev pub at_start : (k : Link) (m₀ : Moment) (t : ℕ) → Moment

@@ -2,7 +2,7 @@
 // a proof to compute.
 use crate::show;
 use packet::kinds::VC12;
-use packet::{Fields, Reading, Word};
+use packet::{Fields, Word};
 
 pub(crate) fn run(rt: &impl Print) {
     row(
@@ -37,22 +37,12 @@ fn fields(epoch: u8, word: Word, gid: u8, mst: u8, rs_ack: u8, sq: u8) -> Fields
 
 fn written(fields: Fields) -> [u8; 32] {
     let mut frames = [0u8; 32];
-    packet::write_vc12(fields, &mut frames);
+    let _ = packet::write_vc12(fields, &mut frames);
     frames
 }
 
 fn is_read_as(frames: [u8; 32], fields: Fields) -> bool {
-    let reading = packet::read_vc12(&frames);
-    let Reading::Packet(found) = reading else {
-        return false;
-    };
-    (found.epoch == fields.epoch)
-        & (found.word.0 == fields.word.0)
-        & (found.gid == fields.gid)
-        & (found.mst == fields.mst)
-        & (found.rs_ack == fields.rs_ack)
-        & (found.sq == fields.sq)
-        & (found.reserved == fields.reserved)
+    packet::read_vc12(&frames).is_ok_and(|found| found == fields)
 }
 
 fn row(rt: &impl Print, words: &[u8], fields: Fields) {

@@ -1,11 +1,10 @@
 -- A relay over the C calls (request 2026-08): what levelspruce_packet_read gives, handed to levelspruce_packet_write, is the same packet again.
-use Rattle.std.specs.Prelude.{◌≡◌, refl, Bool, true, false, List, ℕ, ◌+◌, ◌*◌, ◌/◌, ◌%◌, ◌^◌, eqb, length}
+use Rattle.std.specs.Prelude.{◌≡◌, refl, Bool, true, false, List, ℕ, ◌+◌, ◌*◌, ◌/◌, ◌%◌, ◌^◌, eqb, length, Ok, Err}
 use Rattle.std.proofs.Common.{ap, arith}
 use Rattle.packet.specs.Theorems.WrittenAgain.{again, again_bytes}
 use Rattle.packet.specs.declared.layout.Fields.{Fields}
-use Rattle.packet.specs.declared.reader.Reading.{Reading}
-use Rattle.packet.specs.declared.reader.Reading.TheVariants.{Packet, Length, Crc, Fixed, Unassigned}
-use Rattle.packet.specs.Reading.{read_answer}
+use Rattle.packet.specs.declared.reader.Unread.TheVariants.{Length, Crc, Fixed, Unassigned}
+use Rattle.packet.specs.Reading.{read_answer, Reading}
 use Rattle.packet.specs.Writing.{writing_number}
 use Rattle.c_face.specs.Packets.{read_answer_c, read_fields_c, values_in}
 use Rattle.c_face.specs.Relaying.{Relayed, handed_on}
@@ -31,7 +30,7 @@ same_fields f =
 -- where a read is answered 0, the bytes are a packet's
 record Read (h4 fields : List ℕ) : Type 0 where
   packet : Fields
-  is : read_answer h4 ≡ Packet packet
+  is : read_answer h4 ≡ Ok packet
   values : read_fields_c h4 fields ≡ values_in packet
 
 read_well : (h4 fields : List ℕ) → read_answer_c h4 fields ≡ 0 → Read h4 fields
@@ -39,11 +38,11 @@ unfolding read_answer_c read_fields_c
 read_well h4 fields e = go (eqb (length fields) 10) (read_answer h4) refl refl
   where
     go : (l : Bool) (r : Reading) → eqb (length fields) 10 ≡ l → read_answer h4 ≡ r → Read h4 fields
-    go true (Packet f) hl hr = record { packet = f; is = hr; values = rw (hl, hr) refl }
-    go true Length hl hr = absurd (let n : ◌≡◌ {A = ℕ} 9 0 = rw (hl, hr) at e in omega arith)
-    go true Crc hl hr = absurd (let n : ◌≡◌ {A = ℕ} 5 0 = rw (hl, hr) at e in omega arith)
-    go true Fixed hl hr = absurd (let n : ◌≡◌ {A = ℕ} 7 0 = rw (hl, hr) at e in omega arith)
-    go true Unassigned hl hr = absurd (let n : ◌≡◌ {A = ℕ} 6 0 = rw (hl, hr) at e in omega arith)
+    go true (Ok f) hl hr = record { packet = f; is = hr; values = rw (hl, hr) refl }
+    go true (Err Length) hl hr = absurd (let n : ◌≡◌ {A = ℕ} 9 0 = rw (hl, hr) at e in omega arith)
+    go true (Err Crc) hl hr = absurd (let n : ◌≡◌ {A = ℕ} 5 0 = rw (hl, hr) at e in omega arith)
+    go true (Err Fixed) hl hr = absurd (let n : ◌≡◌ {A = ℕ} 7 0 = rw (hl, hr) at e in omega arith)
+    go true (Err Unassigned) hl hr = absurd (let n : ◌≡◌ {A = ℕ} 6 0 = rw (hl, hr) at e in omega arith)
     go false r hl hr = absurd (let n : ◌≡◌ {A = ℕ} 9 0 = rw hl at e in omega arith)
 
 pub relayed : (h4 fields t : List ℕ) → read_answer_c h4 fields ≡ 0 → length t ≡ 16 → Relayed h4 t (handed_on (read_fields_c h4 fields))

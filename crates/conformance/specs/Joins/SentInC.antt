@@ -2,7 +2,7 @@
 -- it has a byte for each frame of an epoch, each byte counts at its place (of VC-12: says the start at place 0 and nowhere else, and has the count's bits at places 0 to 4), and it reads back as what the sender says.
 use Rattle.std.proofs.Math.Path.{◌≡◌, refl}
 use Rattle.std.proofs.Common.{sym, ap, ◌∙◌, ⊎_elim, arith}
-use Rattle.std.specs.Prelude.{Bool, not, ◌&&◌, ◌||◌, List, [], ◌∷◌, ℕ, ◌≤◌, ◌<◌, get_or, length, if◌then◌else◌, ◌==◌}
+use Rattle.std.specs.Prelude.{Bool, not, ◌&&◌, ◌||◌, List, [], ◌∷◌, ℕ, ◌≤◌, ◌<◌, get_or, length, if◌then◌else◌, ◌==◌, Ok}
 use Rattle.std.proofs.Math.Bool.{true, false}
 use borrow.Author.Tests.{eq-eqb, lt-ltb, ltb-false, ltb-true}
 use Rattle.c_face.specs.Keeping.{sender_of}
@@ -16,11 +16,10 @@ use Rattle.packet.specs.AsSent.{Sent}
 use Rattle.packet.specs.Counts.{counts}
 use Rattle.packet.specs.Kinds.{epoch_of, epochs, frames, place_of, tag_of}
 use Rattle.packet.specs.Theorems.Sent.{sent_as}
-use Rattle.packet.specs.declared.reader.Reading.TheVariants.{Packet}
 use Rattle.packet.specs.Ruling.{read_row}
 use Rattle.packet.specs.Sent.{sent_answer, sent_bytes, sent_fits}
 use Rattle.packet.specs.Symbols.{packet_row}
-use Rattle.packet.specs.declared.writer.Writing.TheVariants as W
+use Rattle.packet.specs.declared.writer.Unwritten.TheVariants as W
 use Rattle.sender.specs.Commands.{fresh_of, start_of}
 use Rattle.sender.specs.Epochs.{SenderCall, begin_of, fresh_sender, packet_answer, packet_bytes, packet_fields, sender_after, sender_outcome_of, sender_run, start_epoch_of, started_sender}
 use Rattle.sender.specs.SenderRuns.{AllGiven}
@@ -38,7 +37,7 @@ pub record WrittenC (kind : ℕ) (state : List ℕ) (slot : ℕ) (bytes : List �
   pub fields : sent_fits kind (packet_fields (sender_of state) slot) ≡ true
   pub long : length (packet_bytes_c state slot bytes) ≡ frames kind
   pub told : (x : ℕ) → (packet_fields (sender_of state) slot).epoch ≡ epoch_of kind (tag_of kind x) → counts kind (tag_of kind x) (get_or (packet_bytes_c state slot bytes) (place_of kind (tag_of kind x)) 0) ≡ true
-  pub reads : read_row kind (packet_row kind (packet_bytes_c state slot bytes)) ≡ Packet (packet_fields (sender_of state) slot)
+  pub reads : read_row kind (packet_row kind (packet_bytes_c state slot bytes)) ≡ Ok (packet_fields (sender_of state) slot)
 
 -- the calls of an epoch that are not refused for a number that is no byte are given bytes
 meant_given : (cs : List SenderCall) → AllGiven (meant cs)
@@ -94,7 +93,7 @@ module _ {A : Type 0} (a b c : Bool) (ea : a ≡ true) (eb : b ≡ true) (ec : c
 
 -- a slot's packet, once it is answered 0
 module _ (s : Sender) (slot : ℕ) (bytes : List ℕ) (below : slot < slot_count s.table.count) (room : length bytes ≡ frames s.table.kind) (begun : s.begun ≡ true) where
-  sent_done : packet_answer s slot bytes ≡ Done → sent_answer s.table.kind (packet_fields s slot) bytes ≡ W.Done
+  sent_done : packet_answer s slot bytes ≡ Done → sent_answer s.table.kind (packet_fields s slot) bytes ≡ Ok tt
   unfolding packet_answer
   sent_done e =
       written_done (sent_answer s.table.kind (packet_fields s slot) bytes)
@@ -186,7 +185,7 @@ module _ (kind count first : ℕ) (state : List ℕ) (done : start_answer_c kind
       room_is : length bytes ≡ frames s.table.kind
       room_is = room ∙ ap frames (sym kind_is)
 
-      sent : sent_answer kind (packet_fields s slot) bytes ≡ W.Done
+      sent : sent_answer kind (packet_fields s slot) bytes ≡ Ok tt
       sent = ap (λ (k : ℕ). sent_answer k (packet_fields s slot) bytes) (sym kind_is) ∙ sent_done s slot bytes there room_is begun answered
 
       w : Sent kind (packet_fields s slot) bytes

@@ -1,5 +1,5 @@
 -- Packets as they are read, over the kind of packet: what crates above know of reading.
-use Rattle.std.specs.Prelude.{◌≡◌, ℕ, Bool, true, false, ◌||◌, List, take, drop, slice_index, refl, if◌then◌else◌, ◌==◌}
+use Rattle.std.specs.Prelude.{◌≡◌, ℕ, Bool, true, false, ◌||◌, List, take, drop, slice_index, refl, if◌then◌else◌, ◌==◌, Ok, Err}
 use Rattle.std.proofs.Common.{ap, arith}
 use Rattle.std.proofs.lemmas.Bool.{false≢true}
 use Rattle.ground.specs.Finite.{same_bits}
@@ -7,23 +7,22 @@ use Rattle.ground.specs.Polynomial.{check}
 use Rattle.ground.specs.Truth.{cond_by}
 use Rattle.packet.specs.Crc.{crc_of}
 use Rattle.packet.specs.declared.layout.Fields.{Fields}
-use Rattle.packet.specs.declared.reader.Reading.{Reading}
-use Rattle.packet.specs.declared.reader.Reading.TheVariants.{Crc, Fixed, Packet, Unassigned}
+use Rattle.packet.specs.declared.reader.Unread.TheVariants.{Crc, Fixed, Unassigned}
 use Rattle.packet.specs.declared.words.Word.{Word}
 use Rattle.packet.specs.Kinds.{vc12_kind}
 use Rattle.packet.specs.Layout.{byte_of, carried_in, fields_of}
-use Rattle.packet.specs.Reading.{read_fields, read_nibbles, reading_number}
+use Rattle.packet.specs.Reading.{read_fields, read_nibbles, reading_number, Reading}
 use Rattle.packet.specs.Ruling.{read_row, ruling_by, ruling_of}
 use Rattle.packet.specs.Vc12.{read_vc12_bits, read_vc12_row, row_bits, vc12_divisor, vc12_fields}
 use Rattle.packet.specs.Words.{ADD, DNU, EOS, FIXED, IDLE, NORM, assigned}
 
 -- what holds of a wrong CRC, and of any fields under a right one, holds of every row that is read
-pub row_by : (P : Reading → Type 0) → P Crc → ((f : Fields) → P (read_fields f)) → (kind : ℕ) (row : List ℕ) → P (read_row kind row)
+pub row_by : (P : Reading → Type 0) → P (Err Crc) → ((f : Fields) → P (read_fields f)) → (kind : ℕ) (row : List ℕ) → P (read_row kind row)
 unfolding read_row read_vc12_row read_vc12_bits read_nibbles
 row_by P crc right kind row =
     cond_by P (kind == vc12_kind) (read_vc12_row row) (read_nibbles row)
-    (λ v. cond_by P (same_bits (check vc12_divisor (take 29 (row_bits row))) (drop 29 (row_bits row))) (read_fields (vc12_fields (row_bits row))) Crc (λ e. right (vc12_fields (row_bits row))) (λ e. crc))
-    (λ v. cond_by P (crc_of (take 14 row) == carried_in row) (read_fields (fields_of row)) Crc (λ e. right (fields_of row)) (λ e. crc))
+    (λ v. cond_by P (same_bits (check vc12_divisor (take 29 (row_bits row))) (drop 29 (row_bits row))) (read_fields (vc12_fields (row_bits row))) (Err Crc) (λ e. right (vc12_fields (row_bits row))) (λ e. crc))
+    (λ v. cond_by P (crc_of (take 14 row) == carried_in row) (read_fields (fields_of row)) (Err Crc) (λ e. right (fields_of row)) (λ e. crc))
 
 -- what a packet rules is what it reads as
 pub rules_as_read : (kind epoch : ℕ) (row : List ℕ) → ruling_of kind epoch row ≡ ruling_by (read_row kind row)
@@ -55,8 +54,8 @@ good_word kind row = row_by Known (λ e. absurd (false≢true e)) known kind row
   where
     known : (f : Fields) → (ruling_by (read_fields f)).good ≡ true → is_lcas (ruling_by (read_fields f)).word ≡ true
     known f =
-        cond_by Known (f.word.0 == FIXED) Fixed (if assigned f.word then Packet f else Unassigned) (λ x e. absurd (false≢true e))
-        (λ x. cond_by Known (assigned f.word) (Packet f) Unassigned (λ a e. assigned_lcas f.word x a) (λ a e. absurd (false≢true e)))
+        cond_by Known (f.word.0 == FIXED) (Err Fixed) (if assigned f.word then Ok f else Err Unassigned) (λ x e. absurd (false≢true e))
+        (λ x. cond_by Known (assigned f.word) (Ok f) (Err Unassigned) (λ a e. assigned_lcas f.word x a) (λ a e. absurd (false≢true e)))
 
 -- H4.
 
@@ -65,15 +64,15 @@ unfolding read_row
 h4_read kind row q clock e = rw clock at e
 
 -- a packet that reads well has the fields that are read
-pub fields_of_read : (f : Fields) (row : List ℕ) → read_nibbles row ≡ Packet f → fields_of row ≡ f
+pub fields_of_read : (f : Fields) (row : List ℕ) → read_nibbles row ≡ Ok f → fields_of row ≡ f
 unfolding read_nibbles
 fields_of_read f row e = go (crc_of (take 14 row) == carried_in row) ((fields_of row).word.0 == FIXED) (assigned (fields_of row).word) refl refl refl
   where
     go : (c x a : Bool) → (crc_of (take 14 row) == carried_in row) ≡ c → ((fields_of row).word.0 == FIXED) ≡ x → assigned (fields_of row).word ≡ a → fields_of row ≡ f
-    go true false true hc hx ha = let w : Packet (fields_of row) ≡ Packet f = rw (hc, hx, ha) at e in cc
-    go true false false hc hx ha = absurd (let w : Unassigned ≡ Packet f = rw (hc, hx, ha) at e in let n = ap reading_number w in omega arith)
-    go true true a hc hx ha = absurd (let w : Fixed ≡ Packet f = rw (hc, hx) at e in let n = ap reading_number w in omega arith)
-    go false x a hc hx ha = absurd (let w : Crc ≡ Packet f = rw hc at e in let n = ap reading_number w in omega arith)
+    go true false true hc hx ha = let w : Ok (fields_of row) ≡ Ok f = rw (hc, hx, ha) at e in cc
+    go true false false hc hx ha = absurd (let w : Err Unassigned ≡ Ok f = rw (hc, hx, ha) at e in let n = ap reading_number w in omega arith)
+    go true true a hc hx ha = absurd (let w : Err Fixed ≡ Ok f = rw (hc, hx) at e in let n = ap reading_number w in omega arith)
+    go false x a hc hx ha = absurd (let w : Err Crc ≡ Ok f = rw hc at e in let n = ap reading_number w in omega arith)
 
 -- MFI2 is its two nibbles
 pub epoch_read : (row : List ℕ) → (fields_of row).epoch ≡ byte_of (slice_index row 8) (slice_index row 9)

@@ -1,5 +1,5 @@
 -- VC-12's packets as bits: their lengths, what reading makes of them, and that one changed bit is refused.
-use Rattle.std.specs.Prelude.{◌≡◌, ℕ, ◌+◌, ◌*◌, ◌%◌, ◌^◌, ◌<◌, Bool, true, false, cond, List, ◌++◌, length, get_or, take, drop, ◌==◌, ◌≢◌, slice_index, slice_index_or}
+use Rattle.std.specs.Prelude.{◌≡◌, ℕ, ◌+◌, ◌*◌, ◌%◌, ◌^◌, ◌<◌, Bool, true, false, cond, List, ◌++◌, length, get_or, take, drop, ◌==◌, ◌≢◌, slice_index, slice_index_or, Err}
 use Rattle.std.proofs.Math.Path.{refl, sym, ap, ap₂}
 use Rattle.std.proofs.Common.{◌∙◌, mod-eq_of_lt, arith, lit<, length-append, length-drop, take-append-drop, take_at, drop_at, length-take-le}
 use Rattle.ground.specs.Bits.{bits, bits_join, bits_number, number, number_append, number_bits, number_lt, odd}
@@ -13,7 +13,7 @@ use Rattle.ground.specs.Table.{get_or_tabulate, tabulate, tabulate_ext, tabulate
 use Rattle.ground.specs.Truth.{fails}
 use Rattle.packet.specs.Bounds.{Vc12Bounds}
 use Rattle.packet.specs.declared.layout.Fields.{Fields}
-use Rattle.packet.specs.declared.reader.Reading.TheVariants.{Crc}
+use Rattle.packet.specs.declared.reader.Unread.TheVariants.{Crc}
 use Rattle.packet.specs.Reading.{read_fields}
 use Rattle.packet.specs.Vc12.{frame_byte, lowest_of, read_vc12_bits, row_bits, vc12_bits, vc12_bytes, vc12_data, vc12_divisor, vc12_fields}
 
@@ -116,7 +116,7 @@ pub right_read : (l : List Bool) → check vc12_divisor (take 29 l) ≡ drop 29 
 unfolding read_vc12_bits
 right_read l e = rw (e, bits_same (drop 29 l)) refl
 
-pub wrong_read : (l : List Bool) → (check vc12_divisor (take 29 l) ≢ drop 29 l) → read_vc12_bits l ≡ Crc
+pub wrong_read : (l : List Bool) → (check vc12_divisor (take 29 l) ≢ drop 29 l) → read_vc12_bits l ≡ Err Crc
 unfolding read_vc12_bits
 wrong_read l d = rw (fails (same_bits (check vc12_divisor (take 29 l)) (drop 29 l)) (λ t. d (same_bits_lem (check vc12_divisor (take 29 l)) (drop 29 l) t))) refl
 
@@ -129,7 +129,7 @@ sized : length vc12_divisor ≡ 3
 unfolding vc12_divisor
 sized = refl
 
-pub bits_damaged : (d l : List Bool) → length d ≡ 29 → length l ≡ 32 → bits_apart (sealed vc12_divisor d) l ≡ 1 → read_vc12_bits l ≡ Crc
+pub bits_damaged : (d l : List Bool) → length d ≡ 29 → length l ≡ 32 → bits_apart (sealed vc12_divisor d) l ≡ 1 → read_vc12_bits l ≡ Err Crc
 bits_damaged d l hd hl one = wrong_read l refused
   where
     halves : take 29 l ++ drop 29 l ≡ l

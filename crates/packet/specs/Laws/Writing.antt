@@ -1,8 +1,8 @@
 -- What is answered where a packet is to be written as our sender does, over the kind of packet; and fields that do not fit.
-use Rattle.std.specs.Prelude.{◌≡◌, ℕ, ◌^◌, ◌<◌, Bool, true, false, cond, not, ◌&&◌, ◌⊎◌, List, length, ◌==◌, refl}
+use Rattle.std.specs.Prelude.{◌≡◌, ℕ, ◌^◌, ◌<◌, Bool, true, false, cond, not, ◌&&◌, ◌⊎◌, List, length, ◌==◌, refl, Ok, Err}
 use Rattle.std.proofs.Common.{⊎_elim, arith, lt-ltb}
 use Rattle.packet.specs.declared.layout.Fields.{Fields}
-use Rattle.packet.specs.declared.writer.Writing.TheVariants.{Done, Field, Length}
+use Rattle.packet.specs.declared.writer.Unwritten.TheVariants.{Field, Length}
 use Rattle.packet.specs.Kinds.{epochs, frames, idle_number, vc12_kind}
 use Rattle.packet.specs.Sent.{sent_answer, sent_bytes, sent_fits}
 use Rattle.packet.specs.Vc12.{vc12_fits, write_vc12_answer, write_vc12_bytes}
@@ -10,13 +10,13 @@ use Rattle.packet.specs.Words.{FIXED, assigned}
 use Rattle.packet.specs.Writing.{fits_within, fitting, write_answer, write_bytes, writing_number}
 
 -- a packet has one byte for each frame of its epoch
-pub answer_sized : (kind : ℕ) (f : Fields) (s : List ℕ) → sent_answer kind f s ≡ cond (length s == frames kind) (cond (sent_fits kind f) Done Field) Length
+pub answer_sized : (kind : ℕ) (f : Fields) (s : List ℕ) → sent_answer kind f s ≡ cond (length s == frames kind) (cond (sent_fits kind f) (Ok (tt {0})) (Err Field)) (Err Length)
 unfolding sent_answer sent_fits frames write_answer write_vc12_answer
 answer_sized kind f s = go (kind == vc12_kind)
   where
     go : (b : Bool)
-        → cond b (cond (length s == 32) (cond (vc12_fits f) Done Field) Length) (cond (length s == 16) (cond (fitting f) Done Field) Length)
-        ≡ cond (length s == cond b 32 16) (cond (cond b (vc12_fits f) (fitting f)) Done Field) Length
+        → cond b (cond (length s == 32) (cond (vc12_fits f) (Ok (tt {0})) (Err Field)) (Err Length)) (cond (length s == 16) (cond (fitting f) (Ok (tt {0})) (Err Field)) (Err Length))
+        ≡ cond (length s == cond b 32 16) (cond (cond b (vc12_fits f) (fitting f)) (Ok (tt {0})) (Err Field)) (Err Length)
     go true = refl
     go false = refl
 
@@ -42,7 +42,7 @@ fields_fit kind f = go (kind == vc12_kind)
 pub unfit_answer : (kind : ℕ) (f : Fields) (s : List ℕ) → sent_fits kind f ≡ false → writing_number (sent_answer kind f s) ≡ cond (length s == frames kind) 8 9
 unfit_answer kind f s e = rw (answer_sized kind f s, e) (go (length s == frames kind))
   where
-    go : (b : Bool) → writing_number (cond b Field Length) ≡ cond b 8 9
+    go : (b : Bool) → writing_number (cond b (Err Field) (Err Length)) ≡ cond b 8 9
     go true = refl
     go false = refl
 

@@ -2,11 +2,10 @@
 use Rattle.std.specs.Prelude.{◌≡◌, ℕ, zero, suc, ◌<◌, ◌≤◌, List, length, take, bit_xor, refl, if◌then◌else◌, ◌==◌}
 use Rattle.std.proofs.Common.{◌∙◌, ap₂, arith}
 use Rattle.std.proofs.Math.Path.{ap}
-use Rattle.packet.specs.declared.reader.Reading.{Reading}
 use Rattle.packet.specs.ByTable.{crc_with, read_nibbles_with, read_row_with, ruling_with}
 use Rattle.packet.specs.Crc.{crc_of}
 use Rattle.packet.specs.Kinds.{vc12_kind}
-use Rattle.packet.specs.Reading.{read_nibbles, read_under}
+use Rattle.packet.specs.Reading.{read_nibbles, read_under, Reading}
 use Rattle.packet.specs.Ruling.{read_row, ruling_by, ruling_of}
 use Rattle.packet.specs.Shares.{byte_at, joined_by, joined_to, share_in, share_of, shares_of}
 use Rattle.packet.specs.Theorems.Shares.{every_share, joined}

@@ -1,12 +1,11 @@
 -- A written packet with one to three of its 64 bits changed is refused with 5. The low nibbles of the sixteen H4 bytes may be any.
-use Rattle.std.specs.Prelude.{◌≡◌, ℕ, ◌*◌, ◌<◌, ◌≤◌, List, [], ◌∷◌, ◌++◌, length, take, slice_index, refl}
+use Rattle.std.specs.Prelude.{◌≡◌, ℕ, ◌*◌, ◌<◌, ◌≤◌, List, [], ◌∷◌, ◌++◌, length, take, slice_index, refl, Ok, Err}
 use Rattle.std.proofs.Common.{◌∙◌, sym, ap, append-nil, arith, eq-eqb, ne_eqb, take-append-drop, drop_of_length-le, drop-cons, length-take-le}
 use Rattle.ground.specs.Bits.{bits}
 use Rattle.ground.specs.Distance.{caught}
 use Rattle.ground.specs.Polynomial.{bits_apart, check}
 use Rattle.packet.specs.declared.layout.Fields.{Fields}
-use Rattle.packet.specs.declared.reader.Reading.TheVariants.{Crc}
-use Rattle.packet.specs.declared.writer.Writing.TheVariants.{Done}
+use Rattle.packet.specs.declared.reader.Unread.TheVariants.{Crc}
 use Rattle.packet.specs.Changes.{changed_bits}
 use Rattle.packet.specs.Crc.{bits_of, crc_of, divisor, nibble_bits}
 use Rattle.packet.specs.Laws.Bounds.{bounds}
@@ -31,7 +30,7 @@ last_two ns h =
 
 -- sixteen nibbles that differ from a packet's in one to three bits
 pub nibbles_damaged : (d ns : List ℕ) → length d ≡ 14 → length ns ≡ 16
-    → 1 ≤ bits_apart (bits_of (sealed_of d)) (bits_of ns) → bits_apart (bits_of (sealed_of d)) (bits_of ns) ≤ 3 → read_nibbles ns ≡ Crc
+    → 1 ≤ bits_apart (bits_of (sealed_of d)) (bits_of ns) → bits_apart (bits_of (sealed_of d)) (bits_of ns) ≤ 3 → read_nibbles ns ≡ Err Crc
 unfolding divisor nibble_bits read_nibbles carried_in
 nibbles_damaged d ns hd hn low high = rw (ne_eqb (crc_of (take 14 ns)) (byte_of a b) refused) refl
   where
@@ -57,7 +56,7 @@ nibbles_damaged d ns hd hn low high = rw (ne_eqb (crc_of (take 14 ns)) (byte_of 
         (let h = length_bits_of d in omega arith)
         (rw (packet_bits d, tail) at low) (let few : bits_apart (bits_of (sealed_of d)) (bits_of ns) < 4 = omega arith in rw (packet_bits d, tail) at few) (fitted a b (take 14 ns) same)
 
-pub sent : (f : Fields) (s : List ℕ) → write_answer f s ≡ Done → highs_of (write_bytes f s) ≡ sealed_of (data_of f)
+pub sent : (f : Fields) (s : List ℕ) → write_answer f s ≡ Ok tt → highs_of (write_bytes f s) ≡ sealed_of (data_of f)
 unfolding nibbles_of
 sent f s e =
     let w = written_as f s e in
@@ -71,8 +70,8 @@ pub length_data : (f : Fields) → length (data_of f) ≡ 14
 unfolding data_of
 length_data f = refl
 
-pub damaged : (f : Fields) (s came : List ℕ) → write_answer f s ≡ Done → length came ≡ 16
-    → 1 ≤ changed_bits (write_bytes f s) came → changed_bits (write_bytes f s) came ≤ 3 → read_answer came ≡ Crc
+pub damaged : (f : Fields) (s came : List ℕ) → write_answer f s ≡ Ok tt → length came ≡ 16
+    → 1 ≤ changed_bits (write_bytes f s) came → changed_bits (write_bytes f s) came ≤ 3 → read_answer came ≡ Err Crc
 unfolding read_answer
 damaged f s came e h low high =
     rw (eq-eqb (length came) 16 h)

@@ -1,21 +1,20 @@
 -- Fixed groups' packets (request 2026-12): what is written reads as given, and so does a neighbour's packet, whatever its other nibbles; nothing but MFI2, SQ and the word decides what is read, the answers are 9 and 8 in writing and 9 and 6 in reading, and one changed bit is told by nothing.
-use Rattle.std.specs.Prelude.{◌≡◌, ℕ, ◌/◌, ◌%◌, ◌<◌, ◌≤◌, Bool, true, false, cond, ◌≢◌, List, length, ◌==◌, nat_lt, slice_index, refl}
+use Rattle.std.specs.Prelude.{◌≡◌, ℕ, ◌/◌, ◌%◌, ◌<◌, ◌≤◌, Bool, true, false, cond, ◌≢◌, List, length, ◌==◌, nat_lt, slice_index, refl, Ok, Err}
 use Rattle.std.proofs.Common.{◌∙◌, arith, ltb-true, ne_eqb}
 use Rattle.ground.specs.Polynomial.{bits_apart}
 use Rattle.ground.specs.Truth.{and_left, and_right, cond_by}
 use Rattle.packet.specs.Counts.{counts}
 use Rattle.packet.specs.Kinds.{epoch_of, fixed_kind, place_of, tag_of}
 use Rattle.packet.specs.Samples.{fixed_sent}
-use Rattle.packet.specs.declared.reader.Reading.{Reading}
-use Rattle.packet.specs.declared.reader.Reading.TheVariants.{Packet, Unassigned}
-use Rattle.packet.specs.declared.writer.Writing.TheVariants.{Done, Length, Field}
+use Rattle.packet.specs.declared.reader.Unread.TheVariants.{Unassigned}
+use Rattle.packet.specs.declared.writer.Unwritten.TheVariants.{Length, Field}
 use Rattle.packet.specs.Crc.{bits_of, nibble_bits}
 use Rattle.packet.specs.Fixed.{fixed_fields, fixed_fits, fixed_nibbles, fixed_nibbles_with, fixed_ruling_of, read_fixed_answer, read_fixed_nibbles, write_fixed_answer, write_fixed_bytes}
 use Rattle.packet.specs.Laws.Bytes.{byte_back}
 use Rattle.packet.specs.Laws.Counting.{counted_with, counts_h4}
 use Rattle.packet.specs.Laws.Nibbles.{Nibbles, highs_back}
 use Rattle.packet.specs.Layout.{byte_of, fields_of, h4_of, highs_of}
-use Rattle.packet.specs.Reading.{reading_number}
+use Rattle.packet.specs.Reading.{reading_number, Reading}
 use Rattle.packet.specs.Ruling.{refused, ruling_by}
 use Rattle.packet.specs.Symbols.{entry_from, packet_row, row_from}
 use Rattle.packet.specs.Words.{FIXED}
@@ -26,25 +25,25 @@ unfolding fixed_nibbles fixed_nibbles_with
 nibbles e q he hq =
     (omega arith, (omega arith, (omega arith, (omega arith, (omega arith, (omega arith, (omega arith, (omega arith, (omega arith, (omega arith, (omega arith, (omega arith, (omega arith, (omega arith, (omega arith, (omega arith, tt))))))))))))))))
 
-nibbles_back : (e q : ℕ) → e < 256 → q < 256 → read_fixed_nibbles (fixed_nibbles e q) ≡ Packet (fixed_fields e q)
+nibbles_back : (e q : ℕ) → e < 256 → q < 256 → read_fixed_nibbles (fixed_nibbles e q) ≡ Ok (fixed_fields e q)
 unfolding read_fixed_nibbles fixed_nibbles fixed_nibbles_with
 nibbles_back e q he hq = rw (byte_back e he, byte_back q hq) refl
 
-bytes_back : (e q : ℕ) → e < 256 → q < 256 → read_fixed_answer (h4_of (fixed_nibbles e q)) ≡ Packet (fixed_fields e q)
+bytes_back : (e q : ℕ) → e < 256 → q < 256 → read_fixed_answer (h4_of (fixed_nibbles e q)) ≡ Ok (fixed_fields e q)
 unfolding read_fixed_answer h4_of fixed_nibbles fixed_nibbles_with
 bytes_back e q he hq = rw (highs_back (fixed_nibbles e q) (nibbles e q he hq) refl) (nibbles_back e q he hq)
 
 -- what is written reads as given
-pub fixed_back : (e q : ℕ) (s : List ℕ) → write_fixed_answer e q s ≡ Done → read_fixed_answer (write_fixed_bytes e q s) ≡ Packet (fixed_fields e q)
+pub fixed_back : (e q : ℕ) (s : List ℕ) → write_fixed_answer e q s ≡ Ok tt → read_fixed_answer (write_fixed_bytes e q s) ≡ Ok (fixed_fields e q)
 unfolding write_fixed_answer write_fixed_bytes
 fixed_back e q s d = go (length s == 16) (fixed_fits e q) refl refl
   where
-    go : (l t : Bool) → (length s == 16) ≡ l → fixed_fits e q ≡ t → read_fixed_answer (write_fixed_bytes e q s) ≡ Packet (fixed_fields e q)
+    go : (l t : Bool) → (length s == 16) ≡ l → fixed_fits e q ≡ t → read_fixed_answer (write_fixed_bytes e q s) ≡ Ok (fixed_fields e q)
     go true true hl ht =
         rw (hl, ht)
         (bytes_back e q (ltb-true e 256 (and_left (nat_lt e 256) (nat_lt q 256) ht)) (ltb-true q 256 (and_right (nat_lt e 256) (nat_lt q 256) ht)))
-    go true false hl ht = absurd (let z : ◌≡◌ {A = ℕ} 0 1 = (let w : Field ≡ Done = rw (hl, ht) at d in cc) in omega arith)
-    go false t hl ht = absurd (let z : ◌≡◌ {A = ℕ} 0 1 = (let w : Length ≡ Done = rw hl at d in cc) in omega arith)
+    go true false hl ht = absurd (let z : ◌≡◌ {A = ℕ} 0 1 = (let w : Err Field ≡ Ok tt = rw (hl, ht) at d in cc) in omega arith)
+    go false t hl ht = absurd (let z : ◌≡◌ {A = ℕ} 0 1 = (let w : Err Length ≡ Ok tt = rw hl at d in cc) in omega arith)
 
 -- only MFI2, SQ and the word decide: places 6 to 10 of a packet
 pub fixed_decided : (ms ns : List ℕ) → ((i : ℕ) → 6 ≤ i → i ≤ 10 → slice_index ms i % 16 ≡ slice_index ns i % 16) → read_fixed_nibbles ms ≡ read_fixed_nibbles ns
@@ -83,7 +82,7 @@ pub fixed_word : (ns : List ℕ) → (fixed_ruling_of ns).word ≡ FIXED
 unfolding fixed_ruling_of read_fixed_nibbles
 fixed_word ns =
     cond_by (λ (q : Reading). (ruling_by q).word ≡ FIXED) (slice_index ns 10 % 16 == FIXED)
-    (Packet (fixed_fields (byte_of (slice_index ns 8) (slice_index ns 9)) (byte_of (slice_index ns 6) (slice_index ns 7)))) Unassigned (λ e. refl) (λ e. refl)
+    (Ok (fixed_fields (byte_of (slice_index ns 8) (slice_index ns 9)) (byte_of (slice_index ns 6) (slice_index ns 7)))) (Err Unassigned) (λ e. refl) (λ e. refl)
 
 -- and one with another word rules nothing
 pub fixed_other : (ns : List ℕ) → slice_index ns 10 % 16 ≢ FIXED → fixed_ruling_of ns ≡ refused
@@ -95,7 +94,7 @@ pub fixed_written : (e q : ℕ) (s : List ℕ) → writing_number (write_fixed_a
 unfolding write_fixed_answer
 fixed_written e q s = go (length s == 16) (fixed_fits e q)
   where
-    go : (l t : Bool) → writing_number (cond l (cond t Done Field) Length) ≡ cond l (cond t 0 8) 9
+    go : (l t : Bool) → writing_number (cond l (cond t (Ok tt) (Err Field)) (Err Length)) ≡ cond l (cond t 0 8) 9
     go true true = refl
     go true false = refl
     go false t = refl
@@ -110,6 +109,6 @@ fixed_answered s = go (length s == 16) (slice_index s 10 / 16 % 16 == 0) refl re
     go true false hl ht = rw (hl, ht) refl
     go false t hl ht = rw hl refl
 
-pub one_bit : (read_fixed_answer (fixed_sent 5) ≡ Packet (fixed_fields 58 5)) × (read_fixed_answer (fixed_sent 4) ≡ Packet (fixed_fields 58 4)) × (bits_apart (bits_of (highs_of (fixed_sent 5))) (bits_of (highs_of (fixed_sent 4))) ≡ 1)
+pub one_bit : (read_fixed_answer (fixed_sent 5) ≡ Ok (fixed_fields 58 5)) × (read_fixed_answer (fixed_sent 4) ≡ Ok (fixed_fields 58 4)) × (bits_apart (bits_of (highs_of (fixed_sent 5))) (bits_of (highs_of (fixed_sent 4))) ≡ 1)
 unfolding write_fixed_bytes fixed_nibbles fixed_nibbles_with h4_of highs_of read_fixed_answer read_fixed_nibbles nibble_bits
 one_bit = (refl, refl, refl)

@@ -2,10 +2,8 @@
 use Rattle.std.specs.Prelude.{◌≡◌, ℕ, List}
 use Rattle.std.proofs.Common.{◌∙◌, sym}
 use Rattle.packet.specs.declared.layout.Fields.{Fields}
-use Rattle.packet.specs.declared.reader.Reading.{Reading}
-use Rattle.packet.specs.declared.writer.Writing.{Writing}
-use Rattle.packet.specs.Reading.{read_answer, read_nibbles}
-use Rattle.packet.specs.Writing.{write_answer, write_bytes}
+use Rattle.packet.specs.Reading.{read_answer, read_nibbles, Reading}
+use Rattle.packet.specs.Writing.{write_answer, write_bytes, Writing}
 
 -- what write promises of its answer r and the H4 bytes t that it leaves
 pub record Writes (f : Fields) (h4 : List ℕ) (r : Writing) (t : List ℕ) : Type 0 where

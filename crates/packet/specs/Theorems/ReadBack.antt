@@ -1,11 +1,10 @@
 -- What is written reads back as given, the reserved and zero bits among it.
-use Rattle.std.specs.Prelude.{◌≡◌, ℕ, ◌+◌, ◌*◌, ◌/◌, ◌%◌, ◌^◌, ◌<◌, Bool, true, false, List, length, take, ◌==◌, refl}
+use Rattle.std.specs.Prelude.{◌≡◌, ℕ, ◌+◌, ◌*◌, ◌/◌, ◌%◌, ◌^◌, ◌<◌, Bool, true, false, List, length, take, ◌==◌, refl, Ok, Err}
 use Rattle.std.proofs.Common.{sym, arith, eq-eqb}
 use Rattle.packet.specs.Bounds.{Bounds}
 use Rattle.packet.specs.Laws.Bounds.{bounds}
 use Rattle.packet.specs.declared.layout.Fields.{Fields}
-use Rattle.packet.specs.declared.reader.Reading.TheVariants.{Packet}
-use Rattle.packet.specs.declared.writer.Writing.TheVariants.{Done, Field, Length}
+use Rattle.packet.specs.declared.writer.Unwritten.TheVariants.{Field, Length}
 use Rattle.packet.specs.Crc.{crc_of}
 use Rattle.packet.specs.Laws.Bytes.{byte_back, crc_lt}
 use Rattle.packet.specs.Laws.Nibbles.{packet_nibbles, highs_back}
@@ -58,7 +57,7 @@ pub carried_back : (f : Fields) → carried_in (nibbles_of f) ≡ crc_of (take 1
 unfolding carried_in nibbles_of sealed_of data_of
 carried_back f = byte_back (crc_of (data_of f)) (crc_lt (data_of f))
 
-pub nibbles_back : (f : Fields) → fitting f ≡ true → read_nibbles (nibbles_of f) ≡ Packet f
+pub nibbles_back : (f : Fields) → fitting f ≡ true → read_nibbles (nibbles_of f) ≡ Ok f
 unfolding read_nibbles
 nibbles_back f t =
     let b = bounds f t in
@@ -73,17 +72,17 @@ pub record WrittenAs (f : Fields) (s : List ℕ) : Type 0 where
   pub fits : fitting f ≡ true
   pub bytes : write_bytes f s ≡ h4_of (nibbles_of f)
 
-pub written_as : (f : Fields) (s : List ℕ) → write_answer f s ≡ Done → WrittenAs f s
+pub written_as : (f : Fields) (s : List ℕ) → write_answer f s ≡ Ok tt → WrittenAs f s
 unfolding write_answer write_bytes
 written_as f s e = go (length s == 16) (fitting f) refl refl
   where
     go : (l t : Bool) → (length s == 16) ≡ l → fitting f ≡ t → WrittenAs f s
     go true true hl ht = record { fits = ht; bytes = rw (hl, ht) refl }
-    go true false hl ht = absurd (let z : ◌≡◌ {A = ℕ} 0 1 = (let w : Field ≡ Done = rw (hl, ht) at e in cc) in omega arith)
-    go false t hl ht = absurd (let z : ◌≡◌ {A = ℕ} 0 1 = (let w : Length ≡ Done = rw hl at e in cc) in omega arith)
+    go true false hl ht = absurd (let z : ◌≡◌ {A = ℕ} 0 1 = (let w : Err Field ≡ Ok tt = rw (hl, ht) at e in cc) in omega arith)
+    go false t hl ht = absurd (let z : ◌≡◌ {A = ℕ} 0 1 = (let w : Err Length ≡ Ok tt = rw hl at e in cc) in omega arith)
 
 -- what is written reads back as given
-pub written_back : (f : Fields) (s : List ℕ) → write_answer f s ≡ Done → read_answer (write_bytes f s) ≡ Packet f
+pub written_back : (f : Fields) (s : List ℕ) → write_answer f s ≡ Ok tt → read_answer (write_bytes f s) ≡ Ok f
 unfolding read_answer h4_of
 written_back f s e =
     let w = written_as f s e in

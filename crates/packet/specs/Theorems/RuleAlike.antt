@@ -1,5 +1,5 @@
 -- Packets that differ in reserved bits alone rule alike (request 2026-08): two with a right CRC that agree in every bit that is neither reserved nor the CRC's, which are all but H4's 26 and VC-12's four, rule by the same word, number and GID, or both rule nothing.
-use Rattle.std.specs.Prelude.{◌≡◌, ℕ, zero, suc, ◌+◌, ◌*◌, ◌<◌, ◌≤◌, Bool, true, false, cond, ◌≢◌, List, [], ◌∷◌, length, take, drop, slice_index_or, refl, if◌then◌else◌, ◌==◌}
+use Rattle.std.specs.Prelude.{◌≡◌, ℕ, zero, suc, ◌+◌, ◌*◌, ◌<◌, ◌≤◌, Bool, true, false, cond, ◌≢◌, List, [], ◌∷◌, length, take, drop, slice_index_or, refl, if◌then◌else◌, ◌==◌, Ok, Err}
 use Rattle.std.proofs.Common.{sym, ap, ◌∙◌, arith}
 use Rattle.std.proofs.Math.Nat.{suc_inj}
 use Rattle.ground.specs.Bits.{number}
@@ -9,15 +9,13 @@ use Rattle.ground.specs.Truth.{cond_by}
 use Rattle.packet.specs.Reserved.{SameBeside, SameBesideBy, SameBesideVc12, with_reserved}
 use Rattle.packet.specs.Theorems.Sent.{sent_as}
 use Rattle.packet.specs.declared.layout.Fields.{Fields}
-use Rattle.packet.specs.declared.reader.Reading.{Reading}
-use Rattle.packet.specs.declared.reader.Reading.TheVariants.{Packet, Crc, Fixed, Unassigned}
-use Rattle.packet.specs.declared.writer.Writing.TheVariants.{Done}
+use Rattle.packet.specs.declared.reader.Unread.TheVariants.{Crc, Fixed, Unassigned}
 use Rattle.packet.specs.Crc.{crc_of}
 use Rattle.packet.specs.Fixed.{fixed_ruling_of, read_fixed_nibbles}
 use Rattle.packet.specs.Kinds.{vc12_kind}
 use Rattle.packet.specs.Laws.Vc12.{length_row}
 use Rattle.packet.specs.Layout.{carried_in, fields_of}
-use Rattle.packet.specs.Reading.{read_fields, read_nibbles}
+use Rattle.packet.specs.Reading.{read_fields, read_nibbles, Reading}
 use Rattle.packet.specs.Ruling.{read_row, ruling_by, ruling_of}
 use Rattle.packet.specs.Sent.{sent_answer, sent_bytes}
 use Rattle.packet.specs.Symbols.{packet_row}
@@ -73,21 +71,21 @@ same_vc12 row other s =
 
 -- Under a right CRC the fields are read, and the reserved number among them is not.
 
-right_h4 : (row : List ℕ) → read_nibbles row ≢ Crc → read_nibbles row ≡ read_fields (fields_of row)
+right_h4 : (row : List ℕ) → read_nibbles row ≢ Err Crc → read_nibbles row ≡ read_fields (fields_of row)
 unfolding read_nibbles
 right_h4 row =
-    cond_by (λ (q : Reading). q ≢ Crc → q ≡ read_fields (fields_of row)) (crc_of (take 14 row) == carried_in row) (read_fields (fields_of row)) Crc (λ e h. refl) (λ e h. absurd (h refl))
+    cond_by (λ (q : Reading). q ≢ Err Crc → q ≡ read_fields (fields_of row)) (crc_of (take 14 row) == carried_in row) (read_fields (fields_of row)) (Err Crc) (λ e h. refl) (λ e h. absurd (h refl))
 
-right_vc12 : (row : List ℕ) → read_vc12_row row ≢ Crc → read_vc12_row row ≡ read_fields (vc12_fields (row_bits row))
+right_vc12 : (row : List ℕ) → read_vc12_row row ≢ Err Crc → read_vc12_row row ≡ read_fields (vc12_fields (row_bits row))
 unfolding read_vc12_row read_vc12_bits
 right_vc12 row =
-    cond_by (λ (q : Reading). q ≢ Crc → q ≡ read_fields (vc12_fields (row_bits row))) (same_bits (check vc12_divisor (take 29 (row_bits row))) (drop 29 (row_bits row))) (read_fields (vc12_fields (row_bits row))) Crc
+    cond_by (λ (q : Reading). q ≢ Err Crc → q ≡ read_fields (vc12_fields (row_bits row))) (same_bits (check vc12_divisor (take 29 (row_bits row))) (drop 29 (row_bits row))) (read_fields (vc12_fields (row_bits row))) (Err Crc)
     (λ e h. refl) (λ e h. absurd (h refl))
 
 without : (f : Fields) → ruling_by (read_fields f) ≡ ruling_by (read_fields (with_reserved 0 f))
 without f = go (f.word.0 == FIXED) (assigned f.word)
   where
-    go : (a b : Bool) → ruling_by (if a then Fixed else if b then Packet f else Unassigned) ≡ ruling_by (if a then Fixed else if b then Packet (with_reserved 0 f) else Unassigned)
+    go : (a b : Bool) → ruling_by (if a then Err Fixed else if b then Ok f else Err Unassigned) ≡ ruling_by (if a then Err Fixed else if b then Ok (with_reserved 0 f) else Err Unassigned)
     go true b = refl
     go false true = refl
     go false false = refl
@@ -95,11 +93,11 @@ without f = go (f.word.0 == FIXED) (assigned f.word)
 by_fields : (f g : Fields) → with_reserved 0 f ≡ with_reserved 0 g → ruling_by (read_fields f) ≡ ruling_by (read_fields g)
 by_fields f g e = without f ∙ ap (λ (h : Fields). ruling_by (read_fields h)) e ∙ sym (without g)
 
-pub rule_alike : (kind epoch : ℕ) (row other : List ℕ) → SameBesideBy kind row other → read_row kind row ≢ Crc → read_row kind other ≢ Crc → ruling_of kind epoch row ≡ ruling_of kind epoch other
+pub rule_alike : (kind epoch : ℕ) (row other : List ℕ) → SameBesideBy kind row other → read_row kind row ≢ Err Crc → read_row kind other ≢ Err Crc → ruling_of kind epoch row ≡ ruling_of kind epoch other
 unfolding ruling_of read_row
 rule_alike kind epoch row other = go (kind == vc12_kind)
   where
-    go : (b : Bool) → cond b (SameBesideVc12 row other) (SameBeside row other) → (if b then read_vc12_row row else read_nibbles row) ≢ Crc → (if b then read_vc12_row other else read_nibbles other) ≢ Crc
+    go : (b : Bool) → cond b (SameBesideVc12 row other) (SameBeside row other) → (if b then read_vc12_row row else read_nibbles row) ≢ Err Crc → (if b then read_vc12_row other else read_nibbles other) ≢ (Err Crc)
         → ruling_by (if b then read_vc12_row row else read_nibbles row) ≡ ruling_by (if b then read_vc12_row other else read_nibbles other)
     go true s one two = ap ruling_by (right_vc12 row one) ∙ by_fields (vc12_fields (row_bits row)) (vc12_fields (row_bits other)) (same_vc12 row other s) ∙ sym (ap ruling_by (right_vc12 other two))
     go false s one two = ap ruling_by (right_h4 row one) ∙ by_fields (fields_of row) (fields_of other) (same_h4 row other s) ∙ sym (ap ruling_by (right_h4 other two))
@@ -114,7 +112,7 @@ unfolding fixed_ruling_of read_fixed_nibbles
 fixed_alike row other s = rw (s.mfi1_14, s.mfi1_15, s.mfi1_0, s.mfi1_1, s.mfi1_2) refl
 
 -- so do packets that are written with the same fields but for the reserved number
-pub written_alike : (kind epoch : ℕ) (f : Fields) (r : ℕ) (s t : List ℕ) → sent_answer kind f s ≡ Done → sent_answer kind (with_reserved r f) t ≡ Done
+pub written_alike : (kind epoch : ℕ) (f : Fields) (r : ℕ) (s t : List ℕ) → sent_answer kind f s ≡ Ok tt → sent_answer kind (with_reserved r f) t ≡ Ok tt
     → ruling_of kind epoch (packet_row kind (sent_bytes kind f s)) ≡ ruling_of kind epoch (packet_row kind (sent_bytes kind (with_reserved r f) t))
 unfolding ruling_of
 written_alike kind epoch f r s t one two = ap ruling_by (sent_as kind f s one).reads ∙ sym (ap ruling_by (sent_as kind (with_reserved r f) t two).reads)

@@ -1,5 +1,5 @@
 -- A packet as our sender writes it, over the kind of packet: it has a byte for each frame of its epoch, these count as their tags say, it reads back as its fields, and one that came changed is refused with 5. Each law goes by H4's layout and by VC-12's.
-use Rattle.std.specs.Prelude.{◌≡◌, ℕ, zero, suc, ◌+◌, ◌-◌, ◌*◌, ◌/◌, ◌%◌, ◌^◌, ◌<◌, ◌≤◌, Bool, true, false, cond, List, length, get_or, ◌==◌, nat_eq, slice_index, slice_index_or}
+use Rattle.std.specs.Prelude.{◌≡◌, ℕ, zero, suc, ◌+◌, ◌-◌, ◌*◌, ◌/◌, ◌%◌, ◌^◌, ◌<◌, ◌≤◌, Bool, true, false, cond, List, length, get_or, ◌==◌, nat_eq, slice_index, slice_index_or, Ok, Err}
 use Rattle.std.proofs.Math.Path.{refl}
 use Rattle.std.proofs.Common.{◌∙◌, sym, ap}
 use native.Mathlib.Omega.{arith}
@@ -24,8 +24,7 @@ use Rattle.packet.specs.Theorems.Vc12.{bits_back, vc12_bits_lem, vc12_written}
 use Rattle.packet.specs.Vc12.{frame_byte, lowest_of, read_vc12_bits, read_vc12_row, row_bits, vc12_bits, vc12_bytes, vc12_data, write_vc12_answer, write_vc12_bytes}
 use Rattle.packet.specs.Writing.{write_answer, write_bytes}
 use Rattle.packet.specs.declared.layout.Fields.{Fields}
-use Rattle.packet.specs.declared.reader.Reading.TheVariants.{Crc, Packet}
-use Rattle.packet.specs.declared.writer.Writing.TheVariants.{Done}
+use Rattle.packet.specs.declared.reader.Unread.TheVariants.{Crc}
 
 -- The entries of a packet's row: of H4 the high nibbles, of VC-12 the lowest bits.
 
@@ -93,11 +92,11 @@ vc12_counted x f e =
 
 -- The laws, one kind after the other.
 
-damaged_vc12 : (f : Fields) (came : List ℕ) → bits_apart (vc12_bits f) (lowest_of came) ≡ 1 → read_vc12_bits (lowest_of came) ≡ Crc
+damaged_vc12 : (f : Fields) (came : List ℕ) → bits_apart (vc12_bits f) (lowest_of came) ≡ 1 → read_vc12_bits (lowest_of came) ≡ Err Crc
 unfolding vc12_bits
 damaged_vc12 f came one = bits_damaged (vc12_data f) (lowest_of came) (length_bits f) (length_lowest came) one
 
-of_vc12_lem : (f : Fields) (s : List ℕ) → write_vc12_answer f s ≡ Done → Sent vc12_kind f s
+of_vc12_lem : (f : Fields) (s : List ℕ) → write_vc12_answer f s ≡ Ok tt → Sent vc12_kind f s
 unfolding sent_fits sent_bytes frames read_row read_vc12_row changed most_changes epoch_of place_of tags lead vc12_bytes
 of_vc12_lem f s done =
     let w = vc12_written f s done in
@@ -110,7 +109,7 @@ of_vc12_lem f s done =
       refused = λ came one most. let single : bits_apart (lowest_of (write_vc12_bytes f s)) (lowest_of came) ≡ 1 = omega arith in rw (row_lowest came) (damaged_vc12 f came (rw low at single));
     }
 
-module _ (kind : ℕ) (f : Fields) (s : List ℕ) (clock : nat_eq kind vc12_kind ≡ false) (done : write_answer f s ≡ Done) where
+module _ (kind : ℕ) (f : Fields) (s : List ℕ) (clock : nat_eq kind vc12_kind ≡ false) (done : write_answer f s ≡ Ok tt) where
   h4_fits : sent_fits kind f ≡ true
   unfolding sent_fits
   h4_fits = rw clock (written_as f s done).fits
@@ -132,7 +131,7 @@ module _ (kind : ℕ) (f : Fields) (s : List ℕ) (clock : nat_eq kind vc12_kind
   unfolding nibbles_of
   row = row_highs kind (sent_bytes kind f s) clock ∙ rw bytes (sent f s done)
 
-  h4_reads : read_row kind (packet_row kind (sent_bytes kind f s)) ≡ Packet f
+  h4_reads : read_row kind (packet_row kind (sent_bytes kind f s)) ≡ Ok f
   unfolding read_row
   h4_reads = rw (clock, row) (nibbles_back f (written_as f s done).fits)
 
@@ -148,7 +147,7 @@ module _ (kind : ℕ) (f : Fields) (s : List ℕ) (clock : nat_eq kind vc12_kind
   unfolding changed
   apart_is came = rw (clock, bytes) refl
 
-  h4_refused : (came : List ℕ) → 1 ≤ changed kind (sent_bytes kind f s) came → changed kind (sent_bytes kind f s) came ≤ most_changes kind → read_row kind (packet_row kind came) ≡ Crc
+  h4_refused : (came : List ℕ) → 1 ≤ changed kind (sent_bytes kind f s) came → changed kind (sent_bytes kind f s) came ≤ most_changes kind → read_row kind (packet_row kind came) ≡ Err Crc
   unfolding read_row
   h4_refused came low high =
       let few = most_three in
@@ -160,9 +159,9 @@ module _ (kind : ℕ) (f : Fields) (s : List ℕ) (clock : nat_eq kind vc12_kind
   of_h4 : Sent kind f s
   of_h4 = record { fits = h4_fits; long = h4_long; told = h4_told; reads = h4_reads; refused = h4_refused }
 
-pub sent_as : (kind : ℕ) (f : Fields) (s : List ℕ) → sent_answer kind f s ≡ Done → Sent kind f s
+pub sent_as : (kind : ℕ) (f : Fields) (s : List ℕ) → sent_answer kind f s ≡ Ok tt → Sent kind f s
 unfolding sent_answer
-sent_as kind f s = by_kind (λ k. sent_answer k f s ≡ Done → Sent k f s) (λ done. of_vc12_lem f s done) (λ k clock done. of_h4 k f s clock (rw clock at done)) kind
+sent_as kind f s = by_kind (λ k. sent_answer k f s ≡ Ok tt → Sent k f s) (λ done. of_vc12_lem f s done) (λ k clock done. of_h4 k f s clock (rw clock at done)) kind
 
 -- Of H4's kind and of VC-12's.
 
@@ -175,11 +174,11 @@ unfolding sent_answer sent_bytes
 sent_vc12 f s = (refl, refl)
 
 -- the lent bytes do not matter
-pub sent_same : (kind : ℕ) (f : Fields) (s t : List ℕ) → sent_answer kind f s ≡ Done → sent_answer kind f t ≡ Done → sent_bytes kind f s ≡ sent_bytes kind f t
+pub sent_same : (kind : ℕ) (f : Fields) (s t : List ℕ) → sent_answer kind f s ≡ Ok tt → sent_answer kind f t ≡ Ok tt → sent_bytes kind f s ≡ sent_bytes kind f t
 unfolding sent_answer sent_bytes
 sent_same kind f s t = go (kind == vc12_kind)
   where
-    go : (b : Bool) → cond b (write_vc12_answer f s) (write_answer f s) ≡ Done → cond b (write_vc12_answer f t) (write_answer f t) ≡ Done
+    go : (b : Bool) → cond b (write_vc12_answer f s) (write_answer f s) ≡ Ok tt → cond b (write_vc12_answer f t) (write_answer f t) ≡ Ok tt
         → cond b (write_vc12_bytes f s) (write_bytes f s) ≡ cond b (write_vc12_bytes f t) (write_bytes f t)
     go true done other = (vc12_written f s done).bytes ∙ sym (vc12_written f t other).bytes
     go false done other = (written_as f s done).bytes ∙ sym (written_as f t other).bytes

@@ -1,5 +1,5 @@
 -- VC-12's packets (request 2026-01): what is written reads as given, and what reads well is written again identically, over all 29 data bits (request 2026-08). One changed bit of the 32 is refused with 5, and two can pass.
-use Rattle.std.specs.Prelude.{◌≡◌, ℕ, ◌+◌, ◌/◌, ◌^◌, ◌<◌, Bool, true, false, cond, ◌≢◌, List, ◌++◌, length, take, drop, replicate, ◌==◌, nat_eq, slice_index}
+use Rattle.std.specs.Prelude.{◌≡◌, ℕ, ◌+◌, ◌/◌, ◌^◌, ◌<◌, Bool, true, false, cond, ◌≢◌, List, ◌++◌, length, take, drop, replicate, ◌==◌, nat_eq, slice_index, Ok, Err}
 use Rattle.std.proofs.Math.Path.{refl, ap}
 use Rattle.std.proofs.Common.{◌∙◌, sym, ⊎_elim, arith}
 use borrow.Author.Tests.{eq-eqb, eqb-true, lt-ltb, ne_eqb}
@@ -12,15 +12,14 @@ use Rattle.ground.specs.Truth.{eq_or_ne}
 use Rattle.packet.specs.Again.{Started, Vc12Again}
 use Rattle.packet.specs.Samples.{nine, sent_of}
 use Rattle.packet.specs.declared.layout.Fields.{Fields}
-use Rattle.packet.specs.declared.reader.Reading.{Reading}
-use Rattle.packet.specs.declared.reader.Reading.TheVariants.{Packet, Length, Crc, Fixed, Unassigned}
-use Rattle.packet.specs.declared.writer.Writing.{Writing}
-use Rattle.packet.specs.declared.writer.Writing.TheVariants.{Done, Field, Length as Short}
+use Rattle.packet.specs.declared.reader.Unread.TheVariants.{Length, Crc, Fixed, Unassigned}
+use Rattle.packet.specs.declared.writer.Unwritten.TheVariants.{Field, Length as Short}
 use Rattle.packet.specs.Laws.Bounds.{vc12_bounds}
 use Rattle.packet.specs.Laws.Vc12.{behind, bits_damaged, data_again, fields_back, front, length_data, length_lowest, length_packet, lowest_back, right_read}
-use Rattle.packet.specs.Reading.{read_fields, reading_number}
+use Rattle.packet.specs.Reading.{read_fields, reading_number, Reading}
 use Rattle.packet.specs.Vc12.{frame_byte, lowest_of, read_vc12_answer, read_vc12_bits, vc12_bits, vc12_bytes, vc12_data, vc12_divisor, vc12_fields, vc12_fits, write_vc12_answer, write_vc12_bytes}
 use Rattle.packet.specs.Words.{EOS, FIXED, NORM, assigned}
+use Rattle.packet.specs.Writing.{Writing}
 
 -- What is written reads as given.
 
@@ -28,7 +27,7 @@ ends : (f : Fields) → check vc12_divisor (take 29 (vc12_bits f)) ≡ drop 29 (
 unfolding vc12_bits
 ends f = rw (front (vc12_data f) (length_data f), behind (vc12_data f) (length_data f)) refl
 
-pub bits_back : (f : Fields) → vc12_fits f ≡ true → read_vc12_bits (vc12_bits f) ≡ Packet f
+pub bits_back : (f : Fields) → vc12_fits f ≡ true → read_vc12_bits (vc12_bits f) ≡ Ok f
 bits_back f t =
     let b = vc12_bounds f t in
     right_read (vc12_bits f) (ends f) ∙ rw (fields_back f b, b.not_fixed, b.word) refl
@@ -38,27 +37,27 @@ pub record Vc12Written (f : Fields) (s : List ℕ) : Type 0 where
   pub fits : vc12_fits f ≡ true
   pub bytes : write_vc12_bytes f s ≡ vc12_bytes (vc12_bits f)
 
-pub vc12_written : (f : Fields) (s : List ℕ) → write_vc12_answer f s ≡ Done → Vc12Written f s
+pub vc12_written : (f : Fields) (s : List ℕ) → write_vc12_answer f s ≡ Ok tt → Vc12Written f s
 unfolding write_vc12_answer write_vc12_bytes
 vc12_written f s e = go (length s == 32) (vc12_fits f) refl refl
   where
     go : (l t : Bool) → (length s == 32) ≡ l → vc12_fits f ≡ t → Vc12Written f s
     go true true hl ht = record { fits = ht; bytes = rw (hl, ht) refl }
-    go true false hl ht = absurd (let z : ◌≡◌ {A = ℕ} 0 1 = (let w : Field ≡ Done = rw (hl, ht) at e in cc) in omega arith)
-    go false t hl ht = absurd (let z : ◌≡◌ {A = ℕ} 0 1 = (let w : Short ≡ Done = rw hl at e in cc) in omega arith)
+    go true false hl ht = absurd (let z : ◌≡◌ {A = ℕ} 0 1 = (let w : Err Field ≡ Ok tt = rw (hl, ht) at e in cc) in omega arith)
+    go false t hl ht = absurd (let z : ◌≡◌ {A = ℕ} 0 1 = (let w : Err Short ≡ Ok tt = rw hl at e in cc) in omega arith)
 
 -- and its bits are in the lowest of each
-pub vc12_bits_lem : (f : Fields) (s : List ℕ) → write_vc12_answer f s ≡ Done → lowest_of (write_vc12_bytes f s) ≡ vc12_bits f
+pub vc12_bits_lem : (f : Fields) (s : List ℕ) → write_vc12_answer f s ≡ Ok tt → lowest_of (write_vc12_bytes f s) ≡ vc12_bits f
 vc12_bits_lem f s e = ap lowest_of (vc12_written f s e).bytes ∙ lowest_back (vc12_bits f) (length_packet f)
 
 length_bytes : (l : List Bool) → length (vc12_bytes l) ≡ 32
 unfolding vc12_bytes
 length_bytes l = refl
 
-length_written : (f : Fields) (s : List ℕ) → write_vc12_answer f s ≡ Done → length (write_vc12_bytes f s) ≡ 32
+length_written : (f : Fields) (s : List ℕ) → write_vc12_answer f s ≡ Ok tt → length (write_vc12_bytes f s) ≡ 32
 length_written f s e = ap length (vc12_written f s e).bytes ∙ length_bytes (vc12_bits f)
 
-pub vc12_back : (f : Fields) (s : List ℕ) → write_vc12_answer f s ≡ Done → read_vc12_answer (write_vc12_bytes f s) ≡ Packet f
+pub vc12_back : (f : Fields) (s : List ℕ) → write_vc12_answer f s ≡ Ok tt → read_vc12_answer (write_vc12_bytes f s) ≡ Ok f
 unfolding read_vc12_answer
 vc12_back f s e = rw (eq-eqb (length (write_vc12_bytes f s)) 32 (length_written f s e), vc12_bits_lem f s e) (bits_back f (vc12_written f s e).fits)
 
@@ -72,24 +71,24 @@ record Reads (s : List ℕ) (f : Fields) : Type 0 where
   not_fixed : nat_eq f.word.0 FIXED ≡ false
   known : assigned f.word ≡ true
 
-fields_read : (f g : Fields) → read_fields g ≡ Packet f → (g ≡ f) × ((f.word.0 == FIXED) ≡ false) × (assigned f.word ≡ true)
+fields_read : (f g : Fields) → read_fields g ≡ Ok f → (g ≡ f) × ((f.word.0 == FIXED) ≡ false) × (assigned f.word ≡ true)
 fields_read f g e = go (g.word.0 == FIXED) (assigned g.word) refl refl
   where
     go : (x a : Bool) → (g.word.0 == FIXED) ≡ x → assigned g.word ≡ a → (g ≡ f) × ((f.word.0 == FIXED) ≡ false) × (assigned f.word ≡ true)
-    go true a hx ha = absurd (let w : Fixed ≡ Packet f = rw hx at e in let n = ap reading_number w in omega arith)
-    go false false hx ha = absurd (let w : Unassigned ≡ Packet f = rw (hx, ha) at e in let n = ap reading_number w in omega arith)
+    go true a hx ha = absurd (let w : Err Fixed ≡ Ok f = rw hx at e in let n = ap reading_number w in omega arith)
+    go false false hx ha = absurd (let w : Err Unassigned ≡ Ok f = rw (hx, ha) at e in let n = ap reading_number w in omega arith)
     go false true hx ha =
-        let w : Packet g ≡ Packet f = rw (hx, ha) at e in
+        let w : Ok g ≡ Ok f = rw (hx, ha) at e in
         let same : g ≡ f = cc in
         (same, rw same at hx, rw same at ha)
 
-reads : (s : List ℕ) (f : Fields) → read_vc12_answer s ≡ Packet f → Reads s f
+reads : (s : List ℕ) (f : Fields) → read_vc12_answer s ≡ Ok f → Reads s f
 unfolding read_vc12_answer read_vc12_bits
 reads s f e = go (length s == 32) (same_bits (check vc12_divisor (take 29 (lowest_of s))) (drop 29 (lowest_of s))) refl refl
   where
     go : (l c : Bool) → (length s == 32) ≡ l → same_bits (check vc12_divisor (take 29 (lowest_of s))) (drop 29 (lowest_of s)) ≡ c → Reads s f
     go true true hl hc =
-        let w : read_fields (vc12_fields (lowest_of s)) ≡ Packet f = rw (hl, hc) at e in
+        let w : read_fields (vc12_fields (lowest_of s)) ≡ Ok f = rw (hl, hc) at e in
         let r = fields_read f (vc12_fields (lowest_of s)) w in
         record {
           sized = eqb-true (length s) 32 hl;
@@ -98,10 +97,10 @@ reads s f e = go (length s == 32) (same_bits (check vc12_divisor (take 29 (lowes
           not_fixed = r.1;
           known = r.2;
         }
-    go true false hl hc = absurd (let w : Crc ≡ Packet f = rw (hl, hc) at e in let n = ap reading_number w in omega arith)
-    go false c hl hc = absurd (let w : Length ≡ Packet f = rw hl at e in let n = ap reading_number w in omega arith)
+    go true false hl hc = absurd (let w : Err Crc ≡ Ok f = rw (hl, hc) at e in let n = ap reading_number w in omega arith)
+    go false c hl hc = absurd (let w : Err Length ≡ Ok f = rw hl at e in let n = ap reading_number w in omega arith)
 
-module _ (s t : List ℕ) (f : Fields) (e : read_vc12_answer s ≡ Packet f) (room : length t ≡ 32) where
+module _ (s t : List ℕ) (f : Fields) (e : read_vc12_answer s ≡ Ok f) (room : length t ≡ 32) where
   read : Reads s f
   read = reads s f e
 
@@ -123,7 +122,7 @@ module _ (s t : List ℕ) (f : Fields) (e : read_vc12_answer s ≡ Packet f) (ro
       small : (of : Fields → ℕ) (k : ℕ) (l : List Bool) → of (vc12_fields (lowest_of s)) ≡ number l → length l ≡ k → of f < 2 ^ k
       small of k l is h = rw (sym (ap of read.is) ∙ is) (rw h at (number_lt l))
 
-  done : write_vc12_answer f t ≡ Done
+  done : write_vc12_answer f t ≡ Ok tt
   unfolding write_vc12_answer
   done = rw (eq-eqb (length t) 32 room, fit) refl
 
@@ -156,14 +155,14 @@ module _ (s t : List ℕ) (f : Fields) (e : read_vc12_answer s ≡ Packet f) (ro
 
 -- One changed bit is refused with 5, and two can pass.
 
-pub vc12_damaged : (f : Fields) (s came : List ℕ) → write_vc12_answer f s ≡ Done → length came ≡ 32
-    → bits_apart (lowest_of (write_vc12_bytes f s)) (lowest_of came) ≡ 1 → read_vc12_answer came ≡ Crc
+pub vc12_damaged : (f : Fields) (s came : List ℕ) → write_vc12_answer f s ≡ Ok tt → length came ≡ 32
+    → bits_apart (lowest_of (write_vc12_bytes f s)) (lowest_of came) ≡ 1 → read_vc12_answer came ≡ Err Crc
 unfolding read_vc12_answer vc12_bits
 vc12_damaged f s came e h one =
     rw (eq-eqb (length came) 32 h)
     (bits_damaged (vc12_data f) (lowest_of came) (length_data f) (length_lowest came) (rw (vc12_bits_lem f s e) at one))
 
-pub two_bits : (read_vc12_answer (sent_of (nine NORM 0)) ≡ Packet (nine NORM 0)) × (read_vc12_answer (sent_of (nine EOS 0x80)) ≡ Packet (nine EOS 0x80))
+pub two_bits : (read_vc12_answer (sent_of (nine NORM 0)) ≡ Ok (nine NORM 0)) × (read_vc12_answer (sent_of (nine EOS 0x80)) ≡ Ok (nine EOS 0x80))
     × (bits_apart (lowest_of (sent_of (nine NORM 0))) (lowest_of (sent_of (nine EOS 0x80))) ≡ 2)
 unfolding write_vc12_bytes vc12_fits vc12_bytes vc12_bits vc12_data vc12_divisor read_vc12_answer read_vc12_bits vc12_fields lowest_of assigned
 two_bits = (refl, refl, refl)
@@ -182,7 +181,7 @@ one_vc12_reading frames r q a b = a ∙ sym b
 
 -- Shut out by name: a reader that refuses all. It breaks on every packet that is written.
 
-written : write_vc12_answer (nine NORM 0) (replicate 32 0) ≡ Done
+written : write_vc12_answer (nine NORM 0) (replicate 32 0) ≡ Ok tt
 unfolding write_vc12_answer vc12_fits assigned
 written = refl
 

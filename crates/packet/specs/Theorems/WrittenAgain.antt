@@ -1,5 +1,5 @@
 -- 'any 64 bits that read well are written again identically' (request 2026-08). The 64 bits are those of the high nibbles; where the low nibbles came as the count MFI1 of their places, the sixteen bytes are identical too.
-use Rattle.std.specs.Prelude.{◌≡◌, ℕ, zero, suc, ◌+◌, ◌*◌, ◌/◌, ◌%◌, ◌^◌, ◌<◌, Bool, true, false, List, [], ◌∷◌, ◌++◌, length, take, ◌==◌, nat_eq, slice_index, slice_index_or}
+use Rattle.std.specs.Prelude.{◌≡◌, ℕ, zero, suc, ◌+◌, ◌*◌, ◌/◌, ◌%◌, ◌^◌, ◌<◌, Bool, true, false, List, [], ◌∷◌, ◌++◌, length, take, ◌==◌, nat_eq, slice_index, slice_index_or, Ok, Err}
 use Rattle.std.proofs.Math.Path.{refl, ap, ap₂}
 use Rattle.std.proofs.Common.{◌∙◌, sym, arith, eq-eqb, eqb-true, lt-ltb}
 use Rattle.ground.specs.Bits.{bits_mod, number}
@@ -7,14 +7,12 @@ use Rattle.ground.specs.Polynomial.{check}
 use Rattle.ground.specs.Table.{tabulate, tabulate_ext, tabulate_self, get_or_tabulate}
 use Rattle.packet.specs.Again.{Again, Counted}
 use Rattle.packet.specs.declared.layout.Fields.{Fields}
-use Rattle.packet.specs.declared.reader.Reading.{Reading}
-use Rattle.packet.specs.declared.reader.Reading.TheVariants.{Packet, Length, Crc, Fixed, Unassigned}
-use Rattle.packet.specs.declared.writer.Writing.TheVariants.{Done}
+use Rattle.packet.specs.declared.reader.Unread.TheVariants.{Length, Crc, Fixed, Unassigned}
 use Rattle.packet.specs.Crc.{bits_of, crc_of, divisor, nibble_bits}
 use Rattle.packet.specs.Laws.Bounds.{bounds}
 use Rattle.packet.specs.Laws.Nibbles.{highs_back, packet_nibbles}
 use Rattle.packet.specs.Layout.{byte_of, carried_in, data_of, fields_of, h4_of, highs_of, nibbles_of, reserved_of, sealed_of}
-use Rattle.packet.specs.Reading.{read_answer, read_nibbles, reading_number}
+use Rattle.packet.specs.Reading.{read_answer, read_nibbles, reading_number, Reading}
 use Rattle.packet.specs.Theorems.ReadBack.{length_nibbles, written_as}
 use Rattle.packet.specs.Words.{FIXED, assigned}
 use Rattle.packet.specs.Writing.{fitting, write_answer, write_bytes}
@@ -124,13 +122,10 @@ record Reads (s : List ℕ) (f : Fields) : Type 0 where
   known : assigned (fields_of (highs_of s)).word ≡ true
 
 fields_in : Fields → Reading → Fields
-fields_in g (Packet f) = f
-fields_in g Length = g
-fields_in g Crc = g
-fields_in g Fixed = g
-fields_in g Unassigned = g
+fields_in g (Ok f) = f
+fields_in g (Err u) = g
 
-reads : (s : List ℕ) (f : Fields) → read_answer s ≡ Packet f → Reads s f
+reads : (s : List ℕ) (f : Fields) → read_answer s ≡ Ok f → Reads s f
 unfolding read_answer read_nibbles fields_in
 reads s f e = go (length s == 16) (crc_of (take 14 (highs_of s)) == carried_in (highs_of s)) ((fields_of (highs_of s)).word.0 == FIXED) (assigned (fields_of (highs_of s)).word) refl refl refl refl
   where
@@ -139,14 +134,14 @@ reads s f e = go (length s == 16) (crc_of (take 14 (highs_of s)) == carried_in (
         record {
           sized = eqb-true (length s) 16 hl;
           right = eqb-true (crc_of (take 14 (highs_of s))) (carried_in (highs_of s)) hc;
-          is = let w : Packet (fields_of (highs_of s)) ≡ Packet f = rw (hl, hc, hx, ha) at e in ap (fields_in f) w;
+          is = let w : Ok (fields_of (highs_of s)) ≡ Ok f = rw (hl, hc, hx, ha) at e in ap (fields_in f) w;
           not_fixed = hx;
           known = ha;
         }
-    go true true false false hl hc hx ha = absurd (let w : Unassigned ≡ Packet f = rw (hl, hc, hx, ha) at e in let n = ap reading_number w in omega arith)
-    go true true true a hl hc hx ha = absurd (let w : Fixed ≡ Packet f = rw (hl, hc, hx) at e in let n = ap reading_number w in omega arith)
-    go true false x a hl hc hx ha = absurd (let w : Crc ≡ Packet f = rw (hl, hc) at e in let n = ap reading_number w in omega arith)
-    go false c x a hl hc hx ha = absurd (let w : Length ≡ Packet f = rw hl at e in let n = ap reading_number w in omega arith)
+    go true true false false hl hc hx ha = absurd (let w : Err Unassigned ≡ Ok f = rw (hl, hc, hx, ha) at e in let n = ap reading_number w in omega arith)
+    go true true true a hl hc hx ha = absurd (let w : Err Fixed ≡ Ok f = rw (hl, hc, hx) at e in let n = ap reading_number w in omega arith)
+    go true false x a hl hc hx ha = absurd (let w : Err Crc ≡ Ok f = rw (hl, hc) at e in let n = ap reading_number w in omega arith)
+    go false c x a hl hc hx ha = absurd (let w : Err Length ≡ Ok f = rw hl at e in let n = ap reading_number w in omega arith)
 
 -- the fields of such a packet fit: nobody need ask before he writes them
 fields_fit : (s : List ℕ) → ((fields_of (highs_of s)).word.0 == FIXED) ≡ false → assigned (fields_of (highs_of s)).word ≡ true → fitting (fields_of (highs_of s)) ≡ true
@@ -166,14 +161,14 @@ fields_fit s w a =
     h : ℕ → ℕ
     h k = slice_index s k / 16
 
-module _ (s t : List ℕ) (f : Fields) (e : read_answer s ≡ Packet f) (room : length t ≡ 16) where
+module _ (s t : List ℕ) (f : Fields) (e : read_answer s ≡ Ok f) (room : length t ≡ 16) where
   read : Reads s f
   read = reads s f e
 
   fit : fitting f ≡ true
   fit = rw read.is at (fields_fit s read.not_fixed read.known)
 
-  done : write_answer f t ≡ Done
+  done : write_answer f t ≡ Ok tt
   unfolding write_answer
   done = rw (eq-eqb (length t) 16 room, fit) refl
 

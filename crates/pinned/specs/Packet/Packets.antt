@@ -1,11 +1,10 @@
 -- The control packet's numbers (01, 'The control packet'; requests 2026-04 and 2026-08): tags, epochs, counts, words and fields, at their limits.
-use Rattle.std.specs.Prelude.{true, false, List, [], ◌∷◌, ◌++◌, ℕ, ◌+◌, ◌-◌, ◌*◌, get_or, replicate}
+use Rattle.std.specs.Prelude.{true, false, List, [], ◌∷◌, ◌++◌, ℕ, ◌+◌, ◌-◌, ◌*◌, get_or, replicate, Ok}
 use Rattle.ground.specs.Table.{tabulate}
 use Rattle.ground.specs.Types.{Epoch}
 use Rattle.packet.specs.Changes.{brings_mfi2, changed, kept_part, most_changes}
 use Rattle.packet.specs.Counts.{counts, tag_by_high, tag_by_low}
 use Rattle.packet.specs.declared.layout.Fields.{Fields}
-use Rattle.packet.specs.declared.reader.Reading.TheVariants.{Packet}
 use Rattle.packet.specs.Kinds.{ends_epoch, epoch_of, epochs_in, first_tag, mst_fails, mst_first, mst_numbers, place_of, tag_after, tag_before}
 use Rattle.packet.specs.Layout.{carried_in, data_of, fields_of, h4_of}
 use Rattle.packet.specs.Reading.{read_answer, reading_number}
@@ -105,7 +104,7 @@ packet =
     pins "A packet is MST, RS-Ack, reserved bits, SQ, MFI2, word, GID, reserved bits, CRC-8, a nibble a frame; nibbles count by their low four bits; 9 for a length in reading and writing (01, 'The control packet'; request 2026-08)."
     (row "its fourteen nibbles" (data_of fields) nibbles same
     ∷ row "written as sixteen bytes of H4" (write_bytes fields (replicate 16 7)) h4 same
-    ∷ row "read back" (read_answer h4) (Packet fields) same
+    ∷ row "read back" (read_answer h4) (Ok fields) same
     ∷ row "fields from nibbles with other high bits" (fields_of (tabulate 16 (λ i. 48 + get_or nibbles i 0))) fields same
     ∷ row "GID 0 and RS-Ack 0 with every other bit set" (data_of (record { epoch = 200; word = record { 0 = 2 }; gid = 0; mst = 0xA5; rs_ack = 0; sq = 77; reserved = 0x3FFFFFF })) (10 ∷ 5 ∷ 14 ∷ 15 ∷ 15 ∷ 15 ∷ 4 ∷ 13 ∷ 12 ∷ 8 ∷ 2 ∷ 14 ∷ 15 ∷ 15 ∷ []) same
     ∷ row "the CRC that a packet carries" (carried_in (replicate 16 0x5A)) 0xAA same

@@ -1,5 +1,5 @@
 -- What the host reads of a ruling packet is what a fetch judges by; and a good one that is read carries its epoch's number where the fields in its row do.
-use Rattle.std.specs.Prelude.{◌≡◌, refl, Bool, true, false, cond, not, ◌&&◌, eqb}
+use Rattle.std.specs.Prelude.{◌≡◌, refl, Bool, true, false, cond, not, ◌&&◌, eqb, Ok, Err}
 use Rattle.std.proofs.Common.{sym, ◌∙◌, arith, eqb-true}
 use Rattle.std.proofs.Math.Path.{ap}
 use Rattle.std.proofs.lemmas.Bool.{false≢true}
@@ -8,10 +8,9 @@ use Prim.Native.Nat.{ℕ}
 use Rattle.std.proofs.Math.ListN.{get_or}
 use Rattle.ground.specs.Truth.{and_right}
 use Rattle.packet.specs.declared.layout.Fields.{Fields}
-use Rattle.packet.specs.declared.reader.Reading.{Reading}
-use Rattle.packet.specs.declared.reader.Reading.TheVariants.{Packet, Length, Crc, Fixed, Unassigned}
+use Rattle.packet.specs.declared.reader.Unread.TheVariants.{Length, Crc, Fixed, Unassigned}
 use Rattle.packet.specs.declared.ruling.Ruling.{Ruling}
-use Rattle.packet.specs.Reading.{read_fields}
+use Rattle.packet.specs.Reading.{read_fields, Reading}
 use Rattle.packet.specs.Ruling.{fields_in, refused, ruling_by}
 use Rattle.packet.specs.Words.{FIXED, assigned}
 use Rattle.receiver.specs.declared.seeing.Carried.{Carried}
@@ -28,11 +27,11 @@ judged other r = cond other refused (ruling_by r)
 
 judged_good : (other : Bool) (r : Reading) → (judged other r).good ≡ (not other && eqb (carried_by r).answer 0)
 judged_good true r = refl
-judged_good false (Packet f) = refl
-judged_good false Length = refl
-judged_good false Crc = refl
-judged_good false Fixed = refl
-judged_good false Unassigned = refl
+judged_good false (Ok f) = refl
+judged_good false (Err Length) = refl
+judged_good false (Err Crc) = refl
+judged_good false (Err Fixed) = refl
+judged_good false (Err Unassigned) = refl
 
 -- of a good one: word, number and GID
 record Same (q : Ruling) (c : Carried) : Type 0 where
@@ -42,11 +41,8 @@ record Same (q : Ruling) (c : Carried) : Type 0 where
 
 judged_same : (other : Bool) (r : Reading) → (judged other r).good ≡ true → Same (judged other r) (carried_by r)
 judged_same true r e = absurd (false≢true e)
-judged_same false (Packet f) e = record { word = refl; number = refl; gid = refl }
-judged_same false Length e = absurd (false≢true e)
-judged_same false Crc e = absurd (false≢true e)
-judged_same false Fixed e = absurd (false≢true e)
-judged_same false Unassigned e = absurd (false≢true e)
+judged_same false (Ok f) e = record { word = refl; number = refl; gid = refl }
+judged_same false (Err u) e = absurd (false≢true e)
 
 -- a packet that rules was read with 0
 pub read_good : (kind epoch : ℕ) (row : List ℕ) → (own_ruling kind epoch row).good ≡ true → (carried_by (reading_in kind row)).answer ≡ 0
@@ -91,12 +87,12 @@ Numbered epoch r = (carried_by r).answer ≡ 0 → (carried_by r).epoch ≡ epoc
 fields_numbered : (f : Fields) → Numbered f.epoch (read_fields f)
 fields_numbered f = go (eqb f.word.0 FIXED) (assigned f.word)
   where
-    go : (a b : Bool) → Numbered f.epoch (cond a Fixed (cond b (Packet f) Unassigned))
+    go : (a b : Bool) → Numbered f.epoch (cond a (Err Fixed) (cond b (Ok f) (Err Unassigned)))
     go true b e = absurd (omega arith)
     go false true e = refl
     go false false e = absurd (omega arith)
 
-crc_numbered : (epoch : ℕ) → Numbered epoch Crc
+crc_numbered : (epoch : ℕ) → Numbered epoch (Err Crc)
 crc_numbered epoch e = absurd (omega arith)
 
 pub carried_epoch : (kind : ℕ) (row : List ℕ) → (carried_by (reading_in kind row)).answer ≡ 0 → (carried_by (reading_in kind row)).epoch ≡ (fields_in kind row).epoch

@@ -1,5 +1,5 @@
 -- The packet of a slot is never refused for its fields: after any calls from a start, each given bytes, it is written once an epoch has started and the lent bytes are as many as a packet has. Its reserved bits are 0.
-use Rattle.std.specs.Prelude.{◌≡◌, refl, ◌⊎◌, Bool, true, false, cond, not, ◌&&◌, List, [], ◌∷◌, ℕ, ◌<◌, eqb, ltb, length}
+use Rattle.std.specs.Prelude.{◌≡◌, refl, ◌⊎◌, Bool, true, false, cond, not, ◌&&◌, List, [], ◌∷◌, ℕ, ◌<◌, eqb, ltb, length, Ok, Err}
 use Rattle.std.proofs.Common.{◌∙◌, ap, inl, inr, ⊎_elim, arith, lit<}
 use borrow.Author.Tests.{eq-eqb, lt-ltb, ltb-true}
 use Rattle.ground.specs.Truth.{and_left, and_right}
@@ -9,11 +9,11 @@ use Rattle.packet.specs.Laws.Reading.{lcas_assigned}
 use Rattle.packet.specs.Laws.Writing.{answer_sized, fields_fit as sent-fit}
 use Rattle.packet.specs.Reserved.{NoneReservedBy}
 use Rattle.packet.specs.Theorems.Reserved.{none_reserved_by}
-use Rattle.packet.specs.declared.writer.Writing.{Writing}
-use Rattle.packet.specs.declared.writer.Writing.TheVariants as W
+use Rattle.packet.specs.declared.writer.Unwritten.TheVariants as W
 use Rattle.packet.specs.Sent.{sent_answer, sent_fits}
 use Rattle.packet.specs.Theorems.Tags.{epoch_after_lt}
 use Rattle.packet.specs.Words.{ADD, DNU, EOS, FIXED, IDLE, NORM, assigned}
+use Rattle.packet.specs.Writing.{Writing}
 use Rattle.sender.specs.Epochs.{SenderCall, begin_of, fresh_sender, packet_answer, packet_bytes, packet_fields, sender_after, sender_outcome_of, sender_run, start_epoch_of, started_epoch, started_sender}
 use Rattle.sender.specs.SenderRuns.{AllGiven, Given}
 use Rattle.sender.specs.Theorems.Epochs.{SoundSender, sender_sound}
@@ -138,10 +138,10 @@ packet_done kind count e cs h g b i l h4 k =
     let s = sender_after kind count e cs in
     all_right s i h4 l k b (fields_fit s (fit_run (begin_of kind count e).sender cs g (fit_fresh kind count e h)) (sender_sound kind count e cs) i l)
 
-pub written_done : (w : Writing) → written w ≡ Done → w ≡ W.Done
-written_done W.Done e = refl
-written_done W.Length e = absurd (let n = ap answer_number e in omega arith)
-written_done W.Field e = absurd (let n = ap answer_number e in omega arith)
+pub written_done : (w : Writing) → written w ≡ Done → w ≡ Ok tt
+written_done (Ok u) e = refl
+written_done (Err W.Length) e = absurd (let n = ap answer_number e in omega arith)
+written_done (Err W.Field) e = absurd (let n = ap answer_number e in omega arith)
 
 module _ (s : Sender) (i : ℕ) (h4 : List ℕ) (below : i < slots_in s.table) (room : length h4 ≡ frames s.table.kind) (begun : s.begun ≡ true) where
   zeros_in : packet_answer s i h4 ≡ Done → NoneReservedBy s.table.kind (packet_bytes s i h4)

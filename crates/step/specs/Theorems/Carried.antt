@@ -1,17 +1,16 @@
 -- A packet rules as it is read, but where it carries another number.
-use Rattle.std.specs.Prelude.{◌≡◌, refl, Bool, true, false, cond, not, ◌||◌, List, ℕ, ◌%◌, eqb, drop, get_or, take}
+use Rattle.std.specs.Prelude.{◌≡◌, refl, Bool, true, false, cond, not, ◌||◌, List, ℕ, ◌%◌, eqb, drop, get_or, take, Ok, Err}
 use Rattle.std.proofs.Common.{eqb-true}
 use Rattle.ground.specs.Finite.{same_bits}
 use Rattle.ground.specs.Polynomial.{check}
 use Rattle.ground.specs.Truth.{cond_by}
 use Rattle.packet.specs.Crc.{crc_of}
 use Rattle.packet.specs.declared.layout.Fields.{Fields}
-use Rattle.packet.specs.declared.reader.Reading.{Reading}
-use Rattle.packet.specs.declared.reader.Reading.TheVariants.{Crc, Packet, Unassigned}
+use Rattle.packet.specs.declared.reader.Unread.TheVariants.{Crc, Unassigned}
 use Rattle.packet.specs.Fixed.{fixed_fields, fixed_ruling_of, read_fixed_nibbles}
 use Rattle.packet.specs.Kinds.{fixed_kind, vc12_kind}
 use Rattle.packet.specs.Layout.{byte_of, carried_in, fields_of}
-use Rattle.packet.specs.Reading.{read_fields, read_nibbles}
+use Rattle.packet.specs.Reading.{read_fields, read_nibbles, Reading}
 use Rattle.packet.specs.Ruling.{fields_in, read_row, refused, ruling_by, ruling_of}
 use Rattle.packet.specs.Vc12.{read_vc12_bits, read_vc12_row, row_bits, vc12_divisor, vc12_fields}
 use Rattle.packet.specs.Words.{FIXED}
@@ -29,7 +28,7 @@ ruled_as_read kind epoch row = go (without_mfi2 kind || own_number epoch row) (e
     go false fixed = refl
 
 -- What holds of a wrong CRC and of another word than FIXED under any number, of the fields of a right CRC under their own, and of a fixed group's packet under its own, holds of every reading under the number that stands in the row.
-pub read_as : (P : ℕ → Reading → Type 0) → ((epoch : ℕ) → P epoch Crc) → ((epoch : ℕ) → P epoch Unassigned) → ((f : Fields) → P f.epoch (read_fields f)) → ((epoch sq : ℕ) → P epoch (Packet (fixed_fields epoch sq)))
+pub read_as : (P : ℕ → Reading → Type 0) → ((epoch : ℕ) → P epoch (Err Crc)) → ((epoch : ℕ) → P epoch (Err Unassigned)) → ((f : Fields) → P f.epoch (read_fields f)) → ((epoch sq : ℕ) → P epoch (Ok (fixed_fields epoch sq)))
     → (kind : ℕ) (row : List ℕ) → P (fields_in kind row).epoch (reading_in kind row)
 unfolding reading_in read_row read_vc12_row read_vc12_bits read_nibbles read_fixed_nibbles fields_in fields_of
 read_as P crc other right fixed kind row =
@@ -38,15 +37,15 @@ read_as P crc other right fixed kind row =
     let z = eqb-true kind fixed_kind e in
     rw z
     (cond_by (P (byte_of (get_or row 8 0) (get_or row 9 0))) (eqb (get_or row 10 0 % 16) FIXED)
-    (Packet (fixed_fields (byte_of (get_or row 8 0) (get_or row 9 0)) (byte_of (get_or row 6 0) (get_or row 7 0)))) Unassigned
+    (Ok (fixed_fields (byte_of (get_or row 8 0) (get_or row 9 0)) (byte_of (get_or row 6 0) (get_or row 7 0)))) (Err Unassigned)
     (λ w. fixed (byte_of (get_or row 8 0) (get_or row 9 0)) (byte_of (get_or row 6 0) (get_or row 7 0))) (λ w. other (byte_of (get_or row 8 0) (get_or row 9 0)))))
     (λ e. by_row (eqb kind vc12_kind))
   where
     by_row : (b : Bool)
         → P (cond b (vc12_fields (row_bits row)) (fields_of row)).epoch (cond b (read_vc12_row row) (read_nibbles row))
     by_row true =
-        cond_by (P (vc12_fields (row_bits row)).epoch) (same_bits (check vc12_divisor (take 29 (row_bits row))) (drop 29 (row_bits row))) (read_fields (vc12_fields (row_bits row))) Crc
+        cond_by (P (vc12_fields (row_bits row)).epoch) (same_bits (check vc12_divisor (take 29 (row_bits row))) (drop 29 (row_bits row))) (read_fields (vc12_fields (row_bits row))) (Err Crc)
         (λ w. right (vc12_fields (row_bits row))) (λ w. crc (vc12_fields (row_bits row)).epoch)
     by_row false =
-        cond_by (P (fields_of row).epoch) (eqb (crc_of (take 14 row)) (carried_in row)) (read_fields (fields_of row)) Crc
+        cond_by (P (fields_of row).epoch) (eqb (crc_of (take 14 row)) (carried_in row)) (read_fields (fields_of row)) (Err Crc)
         (λ w. right (fields_of row)) (λ w. crc (fields_of row).epoch)

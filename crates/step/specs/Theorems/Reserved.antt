@@ -1,11 +1,11 @@
 -- What a report sees of a packet does not depend on its reserved bits (request 2026-08): by the receiver's own count, two that differ in those bits and the CRC alone rule alike, or both rule nothing. Of every kind; the CRC is right, where it is looked at.
-use Rattle.std.specs.Prelude.{◌≡◌, ◌≢◌, Bool, ◌||◌, List, ℕ, cond, if◌then◌else◌, ◌==◌}
+use Rattle.std.specs.Prelude.{◌≡◌, ◌≢◌, Bool, ◌||◌, List, ℕ, cond, if◌then◌else◌, ◌==◌, Err}
 use Rattle.std.proofs.Math.Path.{refl, ap, ap₂}
 use Rattle.std.proofs.Common.{subst, eqb-true}
 use Rattle.std.proofs.Math.Bool.{true, false}
 use Rattle.packet.specs.Reserved.{SameBeside, SameBesideBy, SameBesideVc12}
 use Rattle.packet.specs.Theorems.RuleAlike.{epoch_alike, fixed_alike, rule_alike}
-use Rattle.packet.specs.declared.reader.Reading.TheVariants.{Crc}
+use Rattle.packet.specs.declared.reader.Unread.TheVariants.{Crc}
 use Rattle.packet.specs.declared.ruling.Ruling.{Ruling}
 use Rattle.packet.specs.Kinds.{fixed_kind, vc12_kind}
 use Rattle.packet.specs.Ruling.{read_row, refused}
@@ -20,7 +20,7 @@ module _ (kind epoch : ℕ) (row other : List ℕ) (same : SameBesideBy kind row
       go true s = refl
       go false s = ap (λ (n : ℕ). n == epoch) (epoch_alike row other s)
 
-  pub own_alike : ((kind == fixed_kind) ≡ false → read_row kind row ≢ Crc) → ((kind == fixed_kind) ≡ false → read_row kind other ≢ Crc) → own_ruling kind epoch row ≡ own_ruling kind epoch other
+  pub own_alike : ((kind == fixed_kind) ≡ false → read_row kind row ≢ Err Crc) → ((kind == fixed_kind) ≡ false → read_row kind other ≢ Err Crc) → own_ruling kind epoch row ≡ own_ruling kind epoch other
   unfolding own_ruling ruling_in
   own_alike one two = ap₂ (λ (own : Bool) (r : Ruling). if own then r else refused) own_same (inside (kind == fixed_kind) refl)
     where

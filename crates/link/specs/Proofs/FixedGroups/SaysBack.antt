@@ -1,10 +1,9 @@
 -- A fixed group says back nothing: its packets carry their epoch's number, and 0 for MST and RS-Ack.
-use Rattle.std.specs.Prelude.{◌≡◌, refl, true, List, ℕ, ◌%◌, eqb, get_or}
+use Rattle.std.specs.Prelude.{◌≡◌, refl, true, List, ℕ, ◌%◌, eqb, get_or, Ok, Err}
 use Rattle.std.proofs.Common.{ap, ◌∙◌, eqb-true}
 use Rattle.std.proofs.lemmas.Bool.{false≢true}
 use Rattle.ground.specs.Truth.{cond_by}
-use Rattle.packet.specs.declared.reader.Reading.{Reading}
-use Rattle.packet.specs.declared.reader.Reading.TheVariants.{Packet, Unassigned}
+use Rattle.packet.specs.declared.reader.Unread.TheVariants.{Unassigned}
 use Rattle.packet.specs.declared.ruling.Ruling.{Ruling}
 use Rattle.packet.specs.Fixed.{fixed_fields, read_fixed_nibbles}
 use Rattle.packet.specs.Kinds.{fixed_kind}
@@ -12,6 +11,7 @@ use Rattle.packet.specs.Layout.{byte_of, fields_of}
 use Rattle.packet.specs.Ruling.{fields_in, refused}
 use Rattle.packet.specs.Symbols.{packet_row}
 use Rattle.packet.specs.Words.{FIXED}
+use Rattle.packet.specs.Reading.{Reading}
 use Rattle.receiver.specs.Laws.Carried.{carried_epoch, read_good}
 use Rattle.receiver.specs.Seen.{carried_by}
 use Rattle.step.specs.Carried.{reading_in}
@@ -26,7 +26,7 @@ none_read : (P : ℕ → Type 0) → P 0 → (row : List ℕ) → P (carried_by 
 unfolding read_fixed_nibbles
 none_read P z row =
     cond_by (λ (q : Reading). P (carried_by q).mst × P (carried_by q).rs_ack) (eqb (get_or row 10 0 % 16) FIXED)
-    (Packet (fixed_fields (byte_of (get_or row 8 0) (get_or row 9 0)) (byte_of (get_or row 6 0) (get_or row 7 0)))) Unassigned (λ e. (z, z)) (λ e. (z, z))
+    (Ok (fixed_fields (byte_of (get_or row 8 0) (get_or row 9 0)) (byte_of (get_or row 6 0) (get_or row 7 0)))) (Err Unassigned) (λ e. (z, z)) (λ e. (z, z))
 
 none_mst : (row : List ℕ) → (carried_by (reading_in fixed_kind row)).mst ≡ 0
 unfolding reading_in

@@ -1,7 +1,6 @@
 -- A history that our sender allows is a lawful sending side. Of its packets four laws over the kind are cited: they are as long as the epoch, count, read back, and are refused where they came changed.
-use Rattle.std.specs.Prelude.{◌≡◌, false, List, ℕ, ◌≤◌, ◌<◌, length, replicate}
+use Rattle.std.specs.Prelude.{◌≡◌, false, List, ℕ, ◌≤◌, ◌<◌, length, replicate, Ok}
 use Rattle.packet.specs.Changes.{changed, most_changes}
-use Rattle.packet.specs.declared.reader.Reading.TheVariants.{Packet}
 use Rattle.packet.specs.Kinds.{frames}
 use Rattle.packet.specs.Ruling.{ruling_by}
 use Rattle.packet.specs.Symbols.{packet_row}
@@ -17,7 +16,7 @@ module _ (h : History) (a : Allowed h) (i slot : ℕ) (b : slot < h.slots) where
   abbrev epoch : ℕ
   epoch = epoch_number h.kind h.first i
 
-  reads : own_ruling h.kind epoch (packet_row h.kind (packet_sent h i slot)) ≡ ruling_by (Packet (fields_sent h i slot))
+  reads : own_ruling h.kind epoch (packet_row h.kind (packet_sent h i slot)) ≡ ruling_by (Ok (fields_sent h i slot))
   reads =
       rw (packet_is h a i slot b)
       (sent_reads h.kind a.lcas (fields_sent h i slot) (replicate (frames h.kind) 0) (packet_wrote h a i slot b) epoch (packet_epoch h a i slot))

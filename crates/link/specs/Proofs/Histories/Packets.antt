@@ -1,11 +1,11 @@
 -- Every packet of a history is written. So it counts, reads back and is refused where it came changed, by the laws of what is sent.
-use Rattle.std.specs.Prelude.{◌≡◌, true, List, ℕ, ◌+◌, ◌<◌, get_or, length, replicate}
+use Rattle.std.specs.Prelude.{◌≡◌, true, List, ℕ, ◌+◌, ◌<◌, get_or, length, replicate, Ok}
 use Rattle.std.proofs.Math.Path.{refl}
 use Rattle.std.proofs.Common.{◌∙◌, sym, ap}
 use Rattle.std.proofs.lemmas.List.{length-replicate}
 use borrow.Author.Tests.{eq-eqb, lt-ltb}
 use Rattle.packet.specs.Theorems.Sent as laws
-use Rattle.packet.specs.declared.writer.Writing.TheVariants as W
+use Rattle.packet.specs.declared.writer.Unwritten.TheVariants as W
 use Rattle.packet.specs.Kinds.{first_tag, frames}
 use Rattle.packet.specs.Sent.{sent_answer, sent_bytes}
 use Rattle.sender.specs.declared.epochs.Sender.{Sender}
@@ -54,7 +54,7 @@ module _ (h : History) (a : Allowed h) (i slot : ℕ) (b : slot < h.slots) where
         (rw (sender_run_lem h i) at below) h4 (rw (sender_run_lem h i) at room))
 
     -- written as the kind's packets are
-    sent_done : sent_answer h.kind (fields_sent h i slot) h4 ≡ W.Done
+    sent_done : sent_answer h.kind (fields_sent h i slot) h4 ≡ Ok tt
     sent_done =
         ap (λ (kind : ℕ). sent_answer kind (fields_sent h i slot) h4) (sym (sender_in h a i).kind)
         ∙ written_done (sent_answer (sender_at h i).table.kind (fields_sent h i slot) h4) (sym (answer_is (sender_at h i) slot h4 below room (sender_in h a i).begun) ∙ packet_answered)
@@ -66,7 +66,7 @@ module _ (h : History) (a : Allowed h) (i slot : ℕ) (b : slot < h.slots) where
   blank_long : length {A = ℕ} (replicate (frames h.kind) 0) ≡ frames h.kind
   blank_long = length-replicate (frames h.kind) 0
 
-  pub packet_wrote : sent_answer h.kind (fields_sent h i slot) (replicate (frames h.kind) 0) ≡ W.Done
+  pub packet_wrote : sent_answer h.kind (fields_sent h i slot) (replicate (frames h.kind) 0) ≡ Ok tt
   packet_wrote = sent_done (replicate (frames h.kind) 0) blank_long
 
   pub packet_is : packet_sent h i slot ≡ sent_bytes h.kind (fields_sent h i slot) (replicate (frames h.kind) 0)

@@ -1,8 +1,7 @@
 -- Every packet of a history carries the number of its epoch, and the MST and RS-Ack that were lent to its start.
-use Rattle.std.specs.Prelude.{◌≡◌, List, ℕ, ◌<◌, replicate}
+use Rattle.std.specs.Prelude.{◌≡◌, List, ℕ, ◌<◌, replicate, Ok}
 use Rattle.std.proofs.Common.{sym, ap, subst, ◌∙◌}
 use Rattle.packet.specs.Theorems.Sent.{sent_as}
-use Rattle.packet.specs.declared.reader.Reading.TheVariants.{Packet}
 use Rattle.packet.specs.Kinds.{frames}
 use Rattle.packet.specs.Symbols.{packet_row}
 use Rattle.receiver.specs.declared.seeing.Carried.{Carried}
@@ -18,11 +17,11 @@ use Rattle.link.specs.Proofs.Histories.Senders.{sender_in}
 use Rattle.link.specs.Sending.{Client, Sending}
 
 module _ (h : History) (a : Allowed h) (i slot : ℕ) (b : slot < h.slots) where
-  reads : reading_in h.kind (packet_row h.kind (packet_sent h i slot)) ≡ Packet (fields_sent h i slot)
+  reads : reading_in h.kind (packet_row h.kind (packet_sent h i slot)) ≡ Ok (fields_sent h i slot)
   unfolding reading_in
   reads = rw (a.lcas, packet_is h a i slot b) (sent_as h.kind (fields_sent h i slot) (replicate (frames h.kind) 0) (packet_wrote h a i slot b)).reads
 
-  pub packet_carries : carried_in h.kind (packet_sent h i slot) ≡ carried_by (Packet (fields_sent h i slot))
+  pub packet_carries : carried_in h.kind (packet_sent h i slot) ≡ carried_by (Ok (fields_sent h i slot))
   packet_carries = ap carried_by reads
 
   packet_mst : (fields_sent h i slot).mst ≡ h.mst i

@@ -1,10 +1,9 @@
 -- The tables of a history: each is made of the one before by the calls before its epoch's start, and its board goes out in that epoch's packets.
-use Rattle.std.specs.Prelude.{◌≡◌, List, [], ◌∷◌, replicate}
+use Rattle.std.specs.Prelude.{◌≡◌, List, [], ◌∷◌, replicate, Ok}
 use Rattle.std.proofs.Math.Path.{refl, ap}
 use Rattle.std.proofs.Common.{◌∙◌}
 use Prim.Native.Nat.{ℕ, zero, suc, ◌<◌}
 use Rattle.packet.specs.Theorems.Sent.{sent_as}
-use Rattle.packet.specs.declared.reader.Reading.TheVariants.{Packet}
 use Rattle.packet.specs.Kinds.{frames}
 use Rattle.packet.specs.Ruling.{read_row}
 use Rattle.packet.specs.Symbols.{packet_row}
@@ -56,7 +55,7 @@ module _ (h : History) (al : Allowed h) where
   number_at_lem i slot b = ap (λ (d : Board). (row_at d.rows slot).number) (board_at_lem i) ∙ row_number (sender_at h i).table slot b
 
   -- a packet is read as it was written, with the MST and the RS-Ack lent to its epoch
-  pub packet_read : (i slot : ℕ) → slot < h.slots → read_row h.kind (packet_row h.kind (packet_sent h i slot)) ≡ Packet (fields_sent h i slot)
+  pub packet_read : (i slot : ℕ) → slot < h.slots → read_row h.kind (packet_row h.kind (packet_sent h i slot)) ≡ Ok (fields_sent h i slot)
   packet_read i slot b = ap (λ (s : List ℕ). read_row h.kind (packet_row h.kind s)) (packet_is h al i slot b) ∙ (sent_as h.kind (fields_sent h i slot) (replicate (frames h.kind) 0) (packet_wrote h al i slot b)).reads
 
   pub mst_at : (i slot : ℕ) → (fields_sent h i slot).mst ≡ h.mst i

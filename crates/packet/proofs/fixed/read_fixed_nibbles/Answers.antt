@@ -9,4 +9,4 @@ unfolding read_fixed_nibbles
 returns-then-word c = rw (ne_eqb _ 0 c.if-word.true) refl
 
 pub returns : goal.returns
-returns c = fixed_packet c.args.nibbles _ _ _ c.if-word.false c.byte_of-epoch.ensures c.byte_of-sq.ensures c.fixed_fields-fields.ensures
+returns c = fixed_packet c.args.nibbles _ _ _ c.if-word.false c.byte_of-epoch.ensures c.byte_of-sq.ensures c.fixed_fields.ensures
