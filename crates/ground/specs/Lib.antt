@@ -12,6 +12,7 @@ pub mod Flags
 pub mod Opened
 pub mod Plain
 pub mod Polynomial
+pub mod Refusals
 pub mod Sizes
 pub mod Sums
 pub mod Table

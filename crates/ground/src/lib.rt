@@ -3,7 +3,9 @@
 #![tactic(auto)]
 
 mod flags;
+mod refusals;
 mod sizes;
 
 pub use flags::{is_set, one_if};
+pub use refusals::{Refusal, number_told};
 pub use sizes::{size_byte, size_of};
