@@ -11,26 +11,32 @@ pub(crate) fn run(rt: &impl Print) {
     vc3_by_three(rt, 2, 1);
 }
 
-// 260 columns, so 1,300 in the group's rows.
+// 260 columns.
 fn vc4_by_five(rt: &impl Print, row: usize, column: usize) {
-    let mut frame = [0u8; 11700];
-    let mut members = [0u8; 11700];
-    let at = from_zero(row) * 1300 + from_zero(column);
-    mark(&mut frame, at);
-    let found = spread(5, 2340, &frame, &mut members);
     show::text(rt, b"column\tVC-4\tX 5");
-    line(rt, row, column, found / 2340, found % 2340);
+    place_in::<5, 2340, 11700>(rt, row, column);
 }
 
-// 84 columns, so 252 in the group's rows.
+// 84 columns.
 fn vc3_by_three(rt: &impl Print, row: usize, column: usize) {
-    let mut frame = [0u8; 2268];
-    let mut members = [0u8; 2268];
-    let at = from_zero(row) * 252 + from_zero(column);
-    mark(&mut frame, at);
-    let found = spread(3, 756, &frame, &mut members);
     show::text(rt, b"column\tVC-3\tX 3");
-    line(rt, row, column, found / 756, found % 756);
+    place_in::<3, 756, 2268>(rt, row, column);
+}
+
+// A group of X members of P bytes each, and so of ALL: nine rows, each of a ninth.
+fn place_in<const X: usize, const P: usize, const ALL: usize>(
+    rt: &impl Print,
+    row: usize,
+    column: usize,
+)
+    requires { (0 < P) × (ALL < 65536) }
+{
+    let mut frame = [0u8; ALL];
+    let mut members = [0u8; ALL];
+    let at = from_zero(row) * (ALL / 9) + from_zero(column);
+    mark(&mut frame, at);
+    let found = spread(X, P, &frame, &mut members);
+    line(rt, row, column, found / P, found % P);
 }
 
 // One less, for a count from 1 that is below 4,096.

@@ -36,26 +36,45 @@ fn h4_at(sent: Sent, tag: u16) -> u8 {
     byte
 }
 
-// A port's frame with a tag: the answer.
-pub(crate) fn frame(
-    port: u8,
-    sent: Sent,
-    tag: u16,
-    state: &mut [[u8; 16]],
-    store: &mut [u8],
-) -> u8 {
-    let payload = [
-        port % 16 * 16 + kinds::place_of(H4, tag) % 16,
-        ((tag % 256 + port as u16) % 256) as u8,
-    ];
-    receiver::frame(
-        state,
-        port as u32,
-        sent.failed,
-        h4_at(sent, tag),
-        &payload,
-        store,
-    )
+fn fetch(state: &mut [[u8; 16]], store: &mut [u8], out: &mut [u8], report: &mut [u8]) {
+    receiver::fetch(state, store, out, report);
+}
+
+// The rows and the store that the receiver is lent.
+#[derive(Drop)]
+pub(crate) struct Lent<'a> {
+    pub state: &'a mut [[u8; 16]],
+    pub store: &'a mut [u8],
+}
+
+impl Lent<'_> {
+    // A port's frame with a tag: the answer.
+    pub(crate) fn frame(&mut self, port: u8, sent: Sent, tag: u16) -> u8 {
+        let payload = [
+            port % 16 * 16 + kinds::place_of(H4, tag) % 16,
+            ((tag % 256 + port as u16) % 256) as u8,
+        ];
+        receiver::frame(
+            self.state,
+            port as u32,
+            sent.failed,
+            h4_at(sent, tag),
+            &payload,
+            self.store,
+        )
+    }
+
+    // The oldest epoch's report.
+    pub(crate) fn fetch(&mut self, out: &mut [u8], report: &mut [u8]) {
+        fetch(self.state, self.store, out, report);
+    }
+
+    // The reply of an epoch: MST, then RS-Ack.
+    pub(crate) fn reply(&self, epoch: u8) -> [u8; 2] {
+        let mut out = [0u8; 2];
+        receiver::reply(self.state, epoch, &mut out);
+        out
+    }
 }
 
 pub(crate) fn tag_after(tag: u16, by: u16) -> u16 {

@@ -1,7 +1,7 @@
 // The rows of data/receiver.txt: what ports send in some epochs, and what the receiver then says of the last one, of the ports and to the far end.
 ghost use Rattle.std.specs.Prelude.{◌≤◌};
 
-use crate::link::Sent;
+use crate::link::{Lent, Sent};
 use crate::{link, show, text};
 use packet::kinds::H4;
 use packet::{Word, kinds};
@@ -30,18 +30,19 @@ fn lines(rt: &impl Print, file: &[u8], state: &mut [[u8; 16]], store: &mut [u8])
     }
 }
 
+// A group is lent as many rows and as much store as it asks for.
 fn line(rt: &impl Print, line: &[u8], before: At, state: &mut [[u8; 16]], store: &mut [u8]) -> At {
     let at = at_line(line, before);
-    let ports = at.ports as usize;
     let rows = group::rows_for(at.ports);
-    let bytes = ports * 48;
-    if state.len() < rows {
+    let bytes = at.ports as usize * 48;
+    if state.len() < rows || store.len() < bytes {
         return before;
     }
-    if store.len() < bytes {
-        return before;
-    }
-    row(rt, line, at, &mut state[0..rows], &mut store[0..bytes]);
+    let mut lent = Lent {
+        state: &mut state[..rows],
+        store: &mut store[..bytes],
+    };
+    row(rt, line, at, &mut lent);
     counted_on(line, at)
 }
 
@@ -60,53 +61,53 @@ fn at_line(line: &[u8], before: At) -> At {
 fn counted_on(line: &[u8], at: At) -> At {
     if text::column(line, 0) == b'e' {
         return At {
-            ports: at.ports,
-            epoch: std::num::wrapping_add_u8(at.epoch, text::number_at(line, 7)),
+            epoch: at.epoch.wrapping_add(text::number_at(line, 7)),
+            ..at
         };
     }
     at
 }
 
 // A line that begins otherwise is passed over.
-fn row(rt: &impl Print, line: &[u8], at: At, state: &mut [[u8; 16]], store: &mut [u8]) {
+fn row(rt: &impl Print, line: &[u8], at: At, lent: &mut Lent<'_>) {
     match text::column(line, 0) {
-        b'p' => start(rt, line, at.ports, state, store.len()),
-        b'e' => epochs(rt, line, at, state, store),
-        b'r' => reply(rt, line, state),
+        b'p' => start(rt, line, at.ports, lent),
+        b'e' => epochs(rt, line, at, lent),
+        b'r' => reply(rt, line, lent),
         _ => {}
     }
 }
 
-fn start(rt: &impl Print, line: &[u8], ports: u8, state: &mut [[u8; 16]], store: usize) {
+fn start(rt: &impl Print, line: &[u8], ports: u8, lent: &mut Lent<'_>) {
     show::text(rt, line);
-    let answer = receiver::start(H4, ports as u32, link::PAYLOAD, 16, store, state);
+    let answer = receiver::start(
+        H4,
+        ports as u32,
+        link::PAYLOAD,
+        16,
+        lent.store.len(),
+        lent.state,
+    );
     show::named(rt, b"\tstart ", answer as u16);
     show::end_line(rt);
 }
 
-// The reply of an epoch: MST, then RS-Ack.
-fn reply_of(state: &[[u8; 16]], epoch: u8) -> [u8; 2] {
-    let mut out = [0u8; 2];
-    receiver::reply(state, epoch, &mut out);
-    out
-}
-
-fn reply(rt: &impl Print, line: &[u8], state: &[[u8; 16]]) {
+fn reply(rt: &impl Print, line: &[u8], lent: &Lent<'_>) {
     show::text(rt, line);
-    let out = reply_of(state, text::number_at(line, 7));
-    show::byte(rt, b"\tMST ", out[0]);
-    show::named(rt, b"\tRS-Ack ", out[1] as u16);
+    let [mst, rs_ack] = lent.reply(text::number_at(line, 7));
+    show::byte(rt, b"\tMST ", mst);
+    show::named(rt, b"\tRS-Ack ", rs_ack as u16);
     show::end_line(rt);
 }
 
-fn epochs(rt: &impl Print, line: &[u8], at: At, state: &mut [[u8; 16]], store: &mut [u8]) {
+fn epochs(rt: &impl Print, line: &[u8], at: At, lent: &mut Lent<'_>) {
     show::text(rt, line);
     let mut out = [0u8; 320];
     let mut report = [0u8; 8];
-    let turns = turns_in(line, at, state, store, &mut out, &mut report);
-    show_states(rt, state, at.ports);
-    let told = reply_of(state, 0);
-    show::byte(rt, b"\tMST ", told[0]);
+    let turns = turns_in(line, at, lent, &mut out, &mut report);
+    show_states(rt, lent.state, at.ports);
+    let [mst, _] = lent.reply(0);
+    show::byte(rt, b"\tMST ", mst);
     show::named(rt, b"\tturns ", turns as u16);
     show::report(rt, report);
     show_frame(rt, report[2], &out);
@@ -114,52 +115,43 @@ fn epochs(rt: &impl Print, line: &[u8], at: At, state: &mut [[u8; 16]], store: &
 }
 
 // The epochs of a line, each one fetched: how often RS-Ack turned.
-fn turns_in(
-    line: &[u8],
-    at: At,
-    state: &mut [[u8; 16]],
-    store: &mut [u8],
-    out: &mut [u8],
-    report: &mut [u8],
-) -> u8 {
-    let count = text::number_at(line, 7);
-    let mut turns: u8 = 0;
-    for i in 0..count {
-        let epoch = std::num::wrapping_add_u8(at.epoch, i);
-        turns += turns_at(line, at.ports, epoch, state, store, out, report);
+fn turns_in(line: &[u8], at: At, lent: &mut Lent<'_>, out: &mut [u8], report: &mut [u8]) -> u8 {
+    let mut turns = 0;
+    for i in 0..text::number_at(line, 7) {
+        let epoch = at.epoch.wrapping_add(i);
+        if has_turned(line, at.ports, epoch, lent, out, report) {
+            turns += 1;
+        }
     }
     turns
 }
 
-fn turns_at(
+fn has_turned(
     line: &[u8],
     ports: u8,
     epoch: u8,
-    state: &mut [[u8; 16]],
-    store: &mut [u8],
+    lent: &mut Lent<'_>,
     out: &mut [u8],
     report: &mut [u8],
-) -> u8
-    ensures { result ≤ 1 }
-{
-    let before = reply_of(state, 0);
-    send(line, ports, epoch, state, store);
-    receiver::fetch(state, store, out, report);
-    let after = reply_of(state, 0);
-    if before[1] == after[1] { 0 } else { 1 }
+) -> bool {
+    let [_, before] = lent.reply(0);
+    send(line, ports, epoch, lent);
+    lent.fetch(out, report);
+    let [_, after] = lent.reply(0);
+    before != after
 }
 
 // An epoch's frames, each tag to every port.
-fn send(line: &[u8], ports: u8, epoch: u8, state: &mut [[u8; 16]], store: &mut [u8]) {
+fn send(line: &[u8], ports: u8, epoch: u8, lent: &mut Lent<'_>) {
     let first = kinds::first_tag(H4, epoch);
     for i in 0..16 {
-        send_tag(line, ports, link::tag_after(first, i), state, store);
+        send_tag(line, ports, link::tag_after(first, i), lent);
     }
 }
 
-fn send_tag(line: &[u8], ports: u8, tag: u16, state: &mut [[u8; 16]], store: &mut [u8]) {
+fn send_tag(line: &[u8], ports: u8, tag: u16, lent: &mut Lent<'_>) {
     for port in 0..ports {
-        link::frame(port, sent_in(line, port), tag, state, store);
+        lent.frame(port, sent_in(line, port), tag);
     }
 }
 
@@ -187,7 +179,7 @@ fn show_states(rt: &impl Print, state: &[[u8; 16]], ports: u8) {
     let mut seen = [[0u8; 8]; 10];
     let n = ports as usize;
     if n <= 10 {
-        show_seen(rt, state, &mut seen[0..n]);
+        show_seen(rt, state, &mut seen[..n]);
     }
 }
 
@@ -200,11 +192,12 @@ fn show_seen(rt: &impl Print, state: &[[u8; 16]], seen: &mut [[u8; 8]]) {
 }
 
 fn show_state(rt: &impl Print, state: u8) {
-    match state {
-        Port::OK => show::text(rt, b" OK"),
-        Port::FAIL => show::text(rt, b" FAIL"),
-        _ => show::text(rt, b" IDLE"),
-    }
+    let word: &[u8] = match state {
+        Port::OK => b" OK",
+        Port::FAIL => b" FAIL",
+        _ => b" IDLE",
+    };
+    show::text(rt, word);
 }
 
 // The last one of the sixteen group frames.

@@ -43,11 +43,7 @@ pub(crate) fn bytes(rt: &impl Print, all: &[u8]) {
 
 // One of two words, by what a test found.
 pub(crate) fn either(rt: &impl Print, found: bool, yes: &[u8], no: &[u8]) {
-    if found {
-        text(rt, yes);
-    } else {
-        text(rt, no);
-    }
+    text(rt, if found { yes } else { no });
 }
 
 // Numbers below ten, each as its digit.
@@ -60,11 +56,11 @@ pub(crate) fn small(rt: &impl Print, all: &[u8]) {
 // The epoch and the mark of a report.
 pub(crate) fn report(rt: &impl Print, report: [u8; 8]) {
     named(rt, b"\tepoch ", report[1] as u16);
-    let mark = report[0];
-    match mark {
-        0 => text(rt, b"\tnone due"),
-        1 => text(rt, b"\theld"),
-        2 => text(rt, b"\tdoubtful"),
-        _ => text(rt, b"\tsure"),
-    }
+    let mark: &[u8] = match report[0] {
+        0 => b"\tnone due",
+        1 => b"\theld",
+        2 => b"\tdoubtful",
+        _ => b"\tsure",
+    };
+    text(rt, mark);
 }

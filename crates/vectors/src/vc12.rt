@@ -72,7 +72,7 @@ fn receive(rt: &impl Print) {
 fn send(rt: &impl Print, state: &mut [[u8; 16]], store: &mut [u8]) -> u16 {
     let mut steady: u16 = 0;
     for i in 0..130 {
-        steady = std::num::wrapping_add_u16(steady, frame(160 + i, state, store));
+        steady = steady.wrapping_add(frame(160 + i, state, store));
         fetch(rt, i + 1, state, store);
     }
     steady
@@ -87,7 +87,7 @@ fn frame(tag: u16, state: &mut [[u8; 16]], store: &mut [u8]) -> u16 {
     let told = (tag % 256) as u8;
     let payload = [told; 136];
     let answer = receiver::frame(state, 0, false, byte, &payload, store);
-    if answer == 0 { 1 } else { 0 }
+    u16::from(answer == 0)
 }
 
 fn fetch(rt: &impl Print, frames: u16, state: &mut [[u8; 16]], store: &[u8]) {
