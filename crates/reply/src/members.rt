@@ -1,8 +1,7 @@
 // A port as its member state is worked out.
-ghost use Rattle.std.specs.Prelude.{◌≡◌};
-ghost use Rattle.reply.specs.Members.{has_hold_off, is_candidate, is_idle, is_restoring, was_ok};
+ghost use Rattle.std.specs.Prelude.{◌≡◌, ◌≤◌, length, take};
+ghost use Rattle.reply.specs.Members.{has_hold_off, is_candidate, is_idle, is_restoring, size_of, was_ok};
 
-pub(crate) use ground::size_of;
 use packet::Word;
 
 #[derive(Clone, Copy)]
@@ -33,39 +32,67 @@ impl Port {
     pub const FAIL: u8 = 1;
 
     pub const OK: u8 = 2;
+
+    pub(crate) fn is_idle(self) -> bool
+        ensures { result ≡ is_idle self }
+    {
+        self.word == Port::NO_WORD || self.word == Word::IDLE.0
+    }
+
+    pub(crate) fn is_candidate(self) -> bool
+        ensures { result ≡ is_candidate self }
+    {
+        !self.is_idle() && self.readable && self.number < 64
+    }
+
+    pub(crate) fn was_ok(self) -> bool
+        ensures { result ≡ was_ok self }
+    {
+        self.state == Port::OK && self.state_number == self.number
+    }
+
+    // A FAIL port whose claim has not stood long enough.
+    pub(crate) fn is_restoring(self) -> bool
+        ensures { result ≡ is_restoring self }
+    {
+        self.state == Port::FAIL && self.elapsed < self.restore
+    }
+
+    // An OK port that can lose its claim and not go FAIL yet.
+    pub(crate) fn has_hold_off(self) -> bool
+        ensures { result ≡ has_hold_off self }
+    {
+        self.state == Port::OK
+            && self.elapsed < self.hold_off
+            && self.state_number < 64
+            && !self.is_idle()
+    }
 }
 
-pub(crate) fn is_idle(port: Port) -> bool
-    ensures { result ≡ is_idle port }
-{
-    (port.word == Port::NO_WORD) | (port.word == Word::IDLE.0)
+// A group's ports: so many of a table, its first.
+#[derive(Clone, Copy)]
+pub(crate) struct Ports<'a> {
+    pub(crate) table: &'a [Port; 64],
+    pub(crate) count: usize,
+    ghost is_within: { count ≤ 64 },
 }
 
-pub(crate) fn is_candidate(port: Port) -> bool
-    ensures { result ≡ is_candidate port }
-{
-    !is_idle(port) & port.readable & (port.number < 64)
-}
+impl<'a> Ports<'a> {
+    pub(crate) fn of(table: &'a [Port; 64], count: u8) -> Ports<'a>
+        ensures { (result.table.now ≡ table.now) × (result.count ≡ size_of count) }
+    {
+        Ports {
+            table,
+            count: ground::size_of(count),
+        }
+    }
 
-pub(crate) fn was_ok(port: Port) -> bool
-    ensures { result ≡ was_ok port }
-{
-    (port.state == Port::OK) & (port.state_number == port.number)
-}
-
-// A FAIL port whose claim has not stood long enough.
-pub(crate) fn is_restoring(port: Port) -> bool
-    ensures { result ≡ is_restoring port }
-{
-    (port.state == Port::FAIL) & (port.elapsed < port.restore)
-}
-
-// An OK port that can lose its claim and not go FAIL yet.
-pub(crate) fn has_hold_off(port: Port) -> bool
-    ensures { result ≡ has_hold_off port }
-{
-    (port.state == Port::OK)
-        & (port.elapsed < port.hold_off)
-        & (port.state_number < 64)
-        & !is_idle(port)
+    pub(crate) fn all(&self) -> &'a [Port]
+        ensures first { result.now ≡ take self.now.count self.now.table.now }
+        ensures many { length result.now ≡ self.now.count }
+        ensures room { self.now.count ≤ length self.now.table.now }
+    {
+        let table = self.table;
+        &table[..self.count]
+    }
 }

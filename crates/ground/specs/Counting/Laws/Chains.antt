@@ -1,0 +1,36 @@
+-- What a chain of iterators over the first n of a list says, as counting over the numbers below n.
+use Rattle.std.specs.Prelude.{◌≡◌, refl, Bool, true, false, cond, ◌&&◌, ◌||◌, List, ℕ, zero, suc, ◌+◌, ◌≤◌, ◌<◌, length, get_or, take, count_by}
+use Rattle.std.specs.List.{list_all, list_any}
+use Rattle.std.proofs.Common.{ap, ◌∙◌, add-one, arith}
+use Rattle.std.proofs.lemmas.List.Folds.{list_all_more, list_any_more}
+use Rattle.std.proofs.lemmas.List.Sums.{count_by_more_no, count_by_more_yes}
+use Rattle.ground.specs.Counting.Words.{count, every, some}
+
+module _ {A : Type 0} (test : A → Bool) (xs : List A) (d : A) where
+  pub any_first : (n : ℕ) → n ≤ length xs → list_any test (take n xs) ≡ some n (λ i. test (get_or xs i d))
+  any_first zero h = refl
+  any_first (suc n) h =
+      let rest : list_any test (take n xs) ≡ some n (λ i. test (get_or xs i d)) = any_first n (omega arith) in
+      let next : list_any test (take (suc n) xs) ≡ (list_any test (take n xs) || test (get_or xs n d)) = rw add-one at (list_any_more test xs n d (omega arith)) in
+      next ∙ ap (λ b. b || test (get_or xs n d)) rest
+
+  pub all_first : (n : ℕ) → n ≤ length xs → list_all test (take n xs) ≡ every n (λ i. test (get_or xs i d))
+  all_first zero h = refl
+  all_first (suc n) h =
+      let rest : list_all test (take n xs) ≡ every n (λ i. test (get_or xs i d)) = all_first n (omega arith) in
+      let next : list_all test (take (suc n) xs) ≡ (list_all test (take n xs) && test (get_or xs n d)) = rw add-one at (list_all_more test xs n d (omega arith)) in
+      next ∙ ap (λ b. b && test (get_or xs n d)) rest
+
+  count_next : (n : ℕ) → n < length xs → count_by test (take (n + 1) xs) ≡ count_by test (take n xs) + cond (test (get_or xs n d)) 1 0
+  count_next n h = go (test (get_or xs n d)) refl
+    where
+      go : (b : Bool) → test (get_or xs n d) ≡ b → count_by test (take (n + 1) xs) ≡ count_by test (take n xs) + cond b 1 0
+      go true e = count_by_more_yes test xs n d h e
+      go false e = count_by_more_no test xs n d h e ∙ (omega arith)
+
+  pub count_first : (n : ℕ) → n ≤ length xs → count_by test (take n xs) ≡ count n (λ i. test (get_or xs i d))
+  count_first zero h = refl
+  count_first (suc n) h =
+      let rest : count_by test (take n xs) ≡ count n (λ i. test (get_or xs i d)) = count_first n (omega arith) in
+      let next : count_by test (take (suc n) xs) ≡ count_by test (take n xs) + cond (test (get_or xs n d)) 1 0 = rw add-one at (count_next n (omega arith)) in
+      next ∙ ap (λ m. m + cond (test (get_or xs n d)) 1 0) rest
