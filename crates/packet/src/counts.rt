@@ -37,7 +37,7 @@ pub fn is_counted(tag: u16, h4: u8) -> bool
     let high = (tag / 256 % 16) as u8;
     let low = (tag / 16 % 16) as u8;
     let nibble = h4 / 16;
-    (h4 % 16 == count) & (!(count == 0) | (nibble == high)) & (!(count == 1) | (nibble == low))
+    (h4 % 16 == count) & ((count != 0) | (nibble == high)) & ((count != 1) | (nibble == low))
 }
 
 // Whether a VC-12 frame is said to start a packet.

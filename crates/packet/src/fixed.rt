@@ -39,15 +39,13 @@ pub fn write_fixed(epoch: u32, sq: u32, h4: &mut [u8]) -> Result<(), Unwritten>
     if h4.len() != 16 {
         return Err(Unwritten::Length);
     }
-    if epoch >= 256 {
+    let Ok(epoch) = u8::try_from(epoch) else {
         return Err(Unwritten::Field);
-    }
-    if sq >= 256 {
+    };
+    let Ok(sq) = u8::try_from(sq) else {
         return Err(Unwritten::Field);
-    }
-    let nibbles = fixed_nibbles(epoch as u8, sq as u8);
-    let image = layout::h4_of(nibbles);
-    h4.copy_from_slice(&image);
+    };
+    h4.copy_from_slice(&layout::h4_of(fixed_nibbles(epoch, sq)));
     Ok(())
 }
 
@@ -56,7 +54,7 @@ fn fixed_fields(epoch: u8, sq: u8) -> Fields
 {
     Fields {
         epoch,
-        word: Word(0),
+        word: Word::FIXED,
         gid: 0,
         mst: 0,
         rs_ack: 0,
@@ -69,12 +67,11 @@ fn fixed_fields(epoch: u8, sq: u8) -> Fields
 pub fn read_fixed_nibbles(nibbles: [u8; 16]) -> Result<Fields, Unread>
     ensures { result ≡ read_fixed_nibbles nibbles }
 {
-    let word = nibbles[10] % 16;
-    let epoch = layout::byte_of(nibbles[8], nibbles[9]);
-    let sq = layout::byte_of(nibbles[6], nibbles[7]);
-    if word != Word::FIXED.0 {
+    if nibbles[10] % 16 != Word::FIXED.0 {
         return Err(Unread::Unassigned);
     }
+    let epoch = layout::byte_of(nibbles[8], nibbles[9]);
+    let sq = layout::byte_of(nibbles[6], nibbles[7]);
     Ok(fixed_fields(epoch, sq))
 }
 
@@ -85,8 +82,7 @@ pub fn read_fixed(h4: &[u8]) -> Result<Fields, Unread>
     if h4.len() != 16 {
         return Err(Unread::Length);
     }
-    let nibbles = reader::highs_of(h4);
-    read_fixed_nibbles(nibbles)
+    read_fixed_nibbles(reader::highs_of(h4))
 }
 
 // A packet read for what it rules. Whether it is of the receiver's own epoch is the step rule's to judge.

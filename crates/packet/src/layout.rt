@@ -7,6 +7,7 @@ ghost use Rattle.packet.specs.Shares.{halves_of, shares_of};
 use crate::crc::crc;
 use crate::words::Word;
 
+// Bytes where a bit would do: any may be given for writing, which refuses what is too large.
 #[derive(Clone, Copy, PartialEq, Eq)]
 pub struct Fields {
     pub epoch: u8,
@@ -140,22 +141,9 @@ pub(crate) fn nibbles_of(table: &[[u8; 256]; 7], fields: Fields) -> [u8; 16]
 pub(crate) fn h4_of(nibbles: [u8; 16]) -> [u8; 16]
     ensures { result ≡ h4_of nibbles }
 {
-    [
-        nibbles[0] % 16 * 16 + 8,
-        nibbles[1] % 16 * 16 + 9,
-        nibbles[2] % 16 * 16 + 10,
-        nibbles[3] % 16 * 16 + 11,
-        nibbles[4] % 16 * 16 + 12,
-        nibbles[5] % 16 * 16 + 13,
-        nibbles[6] % 16 * 16 + 14,
-        nibbles[7] % 16 * 16 + 15,
-        nibbles[8] % 16 * 16 + 0,
-        nibbles[9] % 16 * 16 + 1,
-        nibbles[10] % 16 * 16 + 2,
-        nibbles[11] % 16 * 16 + 3,
-        nibbles[12] % 16 * 16 + 4,
-        nibbles[13] % 16 * 16 + 5,
-        nibbles[14] % 16 * 16 + 6,
-        nibbles[15] % 16 * 16 + 7,
-    ]
+    let mut bytes = [0; 16];
+    for (place, byte) in bytes.iter_mut().enumerate() {
+        *byte = nibbles[place] % 16 * 16 + ((place + 8) % 16) as u8;
+    }
+    bytes
 }

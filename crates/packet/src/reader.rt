@@ -99,24 +99,11 @@ pub(crate) fn highs_of(h4: &[u8]) -> [u8; 16]
     requires { length h4.now ≡ 16 }
     ensures { result ≡ highs_of h4.now }
 {
-    [
-        h4[0] / 16,
-        h4[1] / 16,
-        h4[2] / 16,
-        h4[3] / 16,
-        h4[4] / 16,
-        h4[5] / 16,
-        h4[6] / 16,
-        h4[7] / 16,
-        h4[8] / 16,
-        h4[9] / 16,
-        h4[10] / 16,
-        h4[11] / 16,
-        h4[12] / 16,
-        h4[13] / 16,
-        h4[14] / 16,
-        h4[15] / 16,
-    ]
+    let mut nibbles = [0; 16];
+    for (place, nibble) in nibbles.iter_mut().enumerate() {
+        *nibble = h4[place] / 16;
+    }
+    nibbles
 }
 
 // Sixteen H4 bytes read. It goes by no array of nibbles: the compiler would lay that in memory.

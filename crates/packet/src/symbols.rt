@@ -38,11 +38,10 @@ pub fn entry_with(kind: u8, entry: u8, place: u8, h4: u8) -> u8
 pub fn with_symbol(kind: u8, row: [u8; 16], place: u8, h4: u8) -> [u8; 16]
     ensures { result ≡ with_symbol kind row place h4 }
 {
-    let at = entry_at(kind, place);
+    let at = entry_at(kind, place) as usize;
     let mut entries = row;
     if at < 16 {
-        let entry = row[at as usize];
-        entries[at as usize] = entry_with(kind, entry, place, h4);
+        entries[at] = entry_with(kind, row[at], place, h4);
     }
     entries
 }

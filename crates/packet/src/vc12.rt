@@ -4,13 +4,13 @@ ghost use Rattle.ground.specs.Bits.{bits, number, odd};
 ghost use Rattle.ground.specs.Polynomial.{bring};
 ghost use Rattle.packet.specs.Bounds.{Vc12Bounds};
 ghost use Rattle.packet.specs.Laws.Vc12.{left_of};
-ghost use Rattle.packet.specs.Vc12.{frame_byte, lowest_of, read_vc12_answer, read_vc12_bits, read_vc12_row, row_bits, vc12_bits, vc12_bytes, vc12_data, vc12_divisor, vc12_fields, vc12_fits, write_vc12_answer, write_vc12_bytes};
+ghost use Rattle.packet.specs.Vc12.{frame_byte, lowest_of, read_vc12_answer, read_vc12_bits, read_vc12_row, row_bits, vc12_bits, vc12_bytes, vc12_data, vc12_divisor, vc12_fields, write_vc12_answer, write_vc12_bytes};
 
 use crate::layout::Fields;
-use crate::reader;
 use crate::reader::Unread;
 use crate::words::Word;
 use crate::writer::Unwritten;
+use crate::{reader, writer};
 
 // One bit more of a division by x^3+x+1.
 fn brought(left: u8, bit: u8) -> u8
@@ -95,26 +95,12 @@ pub fn read_vc12_row(row: [u8; 16]) -> Result<Fields, Unread>
     read_number(number_in(row))
 }
 
-fn fits(fields: Fields) -> bool
-    ensures { result ≡ vc12_fits fields }
-{
-    let word = fields.word;
-    let assigned = word.is_assigned();
-    (fields.epoch < 32)
-        & (fields.sq < 64)
-        & (fields.gid < 2)
-        & (fields.rs_ack < 2)
-        & (fields.reserved < 16)
-        & (word.0 != Word::FIXED.0)
-        & assigned
-}
-
 fn data_of(fields: Fields) -> u32
     requires { Vc12Bounds fields }
     ensures { result ≡ number (vc12_data fields) }
 {
-    let word = fields.word;
-    (((((fields.epoch as u32 * 64 + fields.sq as u32) * 16 + word.0 as u32) * 2 + fields.gid as u32)
+    (((((fields.epoch as u32 * 64 + fields.sq as u32) * 16 + fields.word.0 as u32) * 2
+        + fields.gid as u32)
         * 16
         + fields.reserved)
         * 2
@@ -158,7 +144,7 @@ pub fn write_vc12(fields: Fields, frames: &mut [u8]) -> Result<(), Unwritten>
     if frames.len() != 32 {
         return Err(Unwritten::Length);
     }
-    if !fits(fields) {
+    if !writer::fits_within(fields, 32, 64, 16) {
         return Err(Unwritten::Field);
     }
     put_bytes(packet_of(fields), frames);

@@ -1,6 +1,6 @@
 // A packet written (01, 'Answer numbers': for writing 9, then 8).
 ghost use Rattle.std.specs.Prelude.{◌≡◌};
-ghost use Rattle.packet.specs.Writing.{fitting, write_answer, write_bytes, unwritten_number, writing_number};
+ghost use Rattle.packet.specs.Writing.{fits_within, write_answer, write_bytes, unwritten_number, writing_number};
 
 use crate::layout;
 use crate::layout::Fields;
@@ -35,16 +35,17 @@ pub fn writing_number(writing: Result<(), Unwritten>) -> u8
     }
 }
 
-fn fits(fields: Fields) -> bool
-    ensures { result ≡ fitting fields }
+// Whether fields fit a packet that has room for so many epochs, numbers and values of the reserved bits.
+pub(crate) fn fits_within(fields: Fields, epochs: u16, numbers: u16, values: u32) -> bool
+    ensures { result ≡ fits_within epochs numbers values fields }
 {
-    let word = fields.word;
-    let assigned = word.is_assigned();
-    (fields.gid < 2)
+    (u16::from(fields.epoch) < epochs)
+        & (u16::from(fields.sq) < numbers)
+        & (fields.gid < 2)
         & (fields.rs_ack < 2)
-        & (fields.reserved < 67108864)
-        & (word.0 != Word::FIXED.0)
-        & assigned
+        & (fields.reserved < values)
+        & (fields.word != Word::FIXED)
+        & fields.word.is_assigned()
 }
 
 pub fn write(fields: Fields, h4: &mut [u8]) -> Result<(), Unwritten>
@@ -53,12 +54,10 @@ pub fn write(fields: Fields, h4: &mut [u8]) -> Result<(), Unwritten>
     if h4.len() != 16 {
         return Err(Unwritten::Length);
     }
-    if !fits(fields) {
+    if !fits_within(fields, 256, 256, 67108864) {
         return Err(Unwritten::Field);
     }
     let table = share_table();
-    let nibbles = layout::nibbles_of(&table, fields);
-    let image = layout::h4_of(nibbles);
-    h4.copy_from_slice(&image);
+    h4.copy_from_slice(&layout::h4_of(layout::nibbles_of(&table, fields)));
     Ok(())
 }

@@ -8,4 +8,4 @@ returns-then-h4-ne16 c = rw (ne_eqb _ 16 c.if-h4-ne16.true) refl
 
 pub returns : goal.returns
 unfolding read_fixed_answer
-returns c = rw (eq-eqb _ 16 c.if-h4-ne16.false, ← c.highs_of-nibbles.ensures) c.read_fixed_nibbles.ensures
+returns c = rw (eq-eqb _ 16 c.if-h4-ne16.false, ← c.highs_of.ensures) c.read_fixed_nibbles.ensures

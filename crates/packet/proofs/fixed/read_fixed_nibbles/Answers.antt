@@ -4,9 +4,9 @@ use Rattle.packet.specs.Fixed.{read_fixed_nibbles}
 use Rattle.packet.proofs.Answers.{fixed_packet}
 use Rattle.packet.proofs.fixed.read_fixed_nibbles.Goals as goal
 
-pub returns-then-word : goal.returns-then-word
+pub returns-then-nibbles : goal.returns-then-nibbles
 unfolding read_fixed_nibbles
-returns-then-word c = rw (ne_eqb _ 0 c.if-word.true) refl
+returns-then-nibbles c = rw (ne_eqb _ 0 c.if-nibbles.true) refl
 
 pub returns : goal.returns
-returns c = fixed_packet c.args.nibbles _ _ _ c.if-word.false c.byte_of-epoch.ensures c.byte_of-sq.ensures c.fixed_fields.ensures
+returns c = fixed_packet c.args.nibbles _ _ _ c.if-nibbles.false c.byte_of-epoch.ensures c.byte_of-sq.ensures c.fixed_fields.ensures

@@ -1,8 +1,17 @@
--- `h4_of` meets its contract: sixteen bytes, each a nibble above the MFI1 of its place; what is asked for is that places lie in the row and sums fit a byte.
-use Rattle.std.proofs.Common.{refl}
+use Rattle.std.proofs.Common.{◌≡◌, refl, arith}
+use Rattle.ground.specs.Drawn.{filling_all, filling_none}
 use Rattle.packet.specs.Layout.{h4_of}
+use Rattle.packet.proofs.OneNumber.{filling_next}
 use Rattle.packet.proofs.layout.h4_of.Goals as goal
+
+pub loop-place-init : goal.loop-place-init
+loop-place-init c = filling_none _ _ _
+
+pub loop-place-preserved : goal.loop-place-preserved
+loop-place-preserved c = filling_next _ c.loop-place.invariant refl
 
 pub returns : goal.returns
 unfolding h4_of
-returns c = refl
+returns c =
+    let e : c.loop-place.place ≡ 16 = omega arith in
+    filling_all (rw e at c.loop-place.invariant) refl

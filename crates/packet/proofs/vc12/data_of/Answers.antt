@@ -4,4 +4,4 @@ use Rattle.packet.specs.Laws.Vc12.{data_number}
 use Rattle.packet.proofs.vc12.data_of.Goals as goal
 
 pub returns : goal.returns
-returns c = let start = c.before.before.before.before.before.before.before.before in sym (data_number start.args.fields start.requires)
+returns c = sym (data_number c.args.fields c.requires)
