@@ -26,10 +26,8 @@ fn flag_port(port: u8, store: &[u8], state: &mut [[u8; 16]])
 fn flag_ports(ports: u8, store: &[u8], state: &mut [[u8; 16]])
     ensures { state.new ≡ flagged_ports store.now ports state.old }
 {
-    let mut i = 0;
-    while i < ports {
-        flag_port(i, store, state);
-        i += 1;
+    for port in 0..ports {
+        flag_port(port, store, state);
     }
 }
 

@@ -19,13 +19,11 @@ fn heard_of(table: &[[u8; 256]; 7], group: Group, state: &[[u8; 16]], ports: u8)
     requires { table.now ≡ shares_of }
     ensures { result ≡ heard_of group state.now ports }
 {
-    let mut i = 0;
-    while i < ports {
-        let one = report::seen_of(table, group, state, i);
+    for port in 0..ports {
+        let one = report::seen_of(table, group, state, port);
         if one.whole & one.good {
-            return said_at(group, state, i);
+            return said_at(group, state, port);
         }
-        i += 1;
     }
     [0, 0, 0, 0]
 }

@@ -20,13 +20,10 @@ fn ring_at(group: Group, port: u8) -> usize
 fn rings_of(group: Group, ports: [u8; 64], x: u8) -> [usize; 64]
     ensures { result ≡ rings_of group ports x }
 {
-    let n = ground::size_byte(x);
+    let n = ground::size_of(x);
     let mut rings = [0; 64];
-    let mut rank = 0;
-    while rank < n {
-        let port = ports[rank as usize];
-        rings[rank as usize] = ring_at(group, port);
-        rank += 1;
+    for rank in 0..n {
+        rings[rank] = ring_at(group, ports[rank]);
     }
     rings
 }
@@ -47,12 +44,9 @@ fn frame_into(group: Group, order: Order, rings: &[usize; 64], store: &[u8], k: 
 fn frames_joined(group: Group, order: Order, store: &[u8], count: u8, out: &mut [u8])
     ensures { out.new ≡ frames_into group order store.now count out.old }
 {
-    let ports = order.ports;
-    let rings = rings_of(group, ports, order.x);
-    let mut k = 0;
-    while k < count {
+    let rings = rings_of(group, order.ports, order.x);
+    for k in 0..count {
         frame_into(group, order, &rings, store, k, out);
-        k += 1;
     }
 }
 
@@ -72,12 +66,9 @@ fn frames_alone(group: Group, order: Order, store: &[u8], count: u8, out: &mut [
     requires { order.x ≡ 1 }
     ensures { out.new ≡ frames_into group order store.now count out.old }
 {
-    let ports = order.ports;
-    let port = ports[0];
-    let mut k = 0;
-    while k < count {
+    let port = order.ports[0];
+    for k in 0..count {
         alone_into(group, order, port, store, k, out);
-        k += 1;
     }
 }
 

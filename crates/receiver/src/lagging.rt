@@ -1,10 +1,9 @@
 // How far each port lies behind the foremost.
-ghost use Rattle.std.specs.Prelude.{◌≡◌, ◌≤◌, length};
-ghost use Rattle.ground.specs.Counting.Each.{each};
+ghost use Rattle.std.specs.Prelude.{◌≡◌, length};
 ghost use Rattle.receiver.specs.Behind.{behind_answer, behind_by, behind_out};
 ghost use Rattle.rows.specs.Step.{step_at};
 
-use crate::shown;
+use crate::{each, shown};
 use packet::kinds;
 use rows::{Group, Step};
 use step::answers;
@@ -29,18 +28,6 @@ fn behind_at(group: Group, fore: u16, state: &[[u8; 16]], port: u8) -> u32
     behind_by(group, fore, step)
 }
 
-fn show_behind(group: Group, fore: u16, count: u8, state: &[[u8; 16]], out: &mut [u32])
-    requires { count ≤ length out.old }
-    ensures { out.new ≡ each count (λ i. behind_by group fore (step_at state.now i)) out.old }
-{
-    let mut i = 0;
-    while i < count {
-        let one = behind_at(group, fore, state, i);
-        out[i as usize] = one;
-        i += 1;
-    }
-}
-
 // A number for each port.
 pub fn behind(state: &[[u8; 16]], out: &mut [u32]) -> u8
     ensures { (result ≡ behind_answer state.now (length out.old))
@@ -52,6 +39,6 @@ pub fn behind(state: &[[u8; 16]], out: &mut [u32]) -> u8
         return answers::LENGTH;
     }
     let fore = phases::foremost(group, state, count);
-    show_behind(group, fore, count, state, out);
+    each::put_each(count, out, |port| behind_at(group, fore, state, port));
     answers::DONE
 }

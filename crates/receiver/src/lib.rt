@@ -4,6 +4,7 @@
 
 mod arrival;
 mod blaming;
+mod each;
 mod fetching;
 mod flagging;
 mod flags;

@@ -4,7 +4,7 @@ ghost use Rattle.packet.specs.Shares.{shares_of};
 ghost use Rattle.step.specs.OwnCount.{own_ruling};
 ghost use Rattle.receiver.specs.Report.{no_seen, ruling_epoch, seen_all, seen_of};
 
-use crate::flags;
+use crate::{each, flags};
 use judge::Seen;
 use packet::{Ruling, kinds};
 use rows::Group;
@@ -80,14 +80,9 @@ pub(crate) fn seen_all(
     requires { table.now ≡ shares_of }
     ensures { result ≡ seen_all group state.now ports }
 {
-    let none = no_seen();
-    let mut seen = [none; 64];
-    let n = ground::size_byte(ports);
-    let mut i = 0;
-    while i < n {
-        let one = seen_of(table, group, state, i);
-        seen[i as usize] = one;
-        i += 1;
-    }
+    let mut seen = [no_seen(); 64];
+    each::put_each(ground::size_byte(ports), &mut seen, |port| {
+        seen_of(table, group, state, port)
+    });
     seen
 }

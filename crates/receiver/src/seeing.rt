@@ -1,12 +1,11 @@
 // What the receiver saw: of each port the packet that rules the oldest epoch not yet reported.
-ghost use Rattle.std.specs.Prelude.{◌≡◌, [], ◌≤◌, get_or, length};
-ghost use Rattle.ground.specs.Counting.Each.{each};
+ghost use Rattle.std.specs.Prelude.{◌≡◌, [], get_or, length};
 ghost use Rattle.receiver.specs.Report.{ruling_epoch};
 ghost use Rattle.receiver.specs.Seen.{carried_at, carried_by, nothing_carried, seen_answer, seen_in, seen_out, seen_row};
 ghost use Rattle.rows.specs.Packets.{packets_at};
 ghost use Rattle.step.specs.Carried.{other_number};
 
-use crate::{flags, report, shown};
+use crate::{each, flags, report, shown};
 use packet::{Fields, Unread};
 use rows::Group;
 use step::answers;
@@ -107,18 +106,6 @@ fn seen_in(group: Group, state: &[[u8; 16]], port: u8) -> [u8; 10]
     seen_row(whole, other, carried, here)
 }
 
-fn show_seen(group: Group, count: u8, state: &[[u8; 16]], out: &mut [[u8; 10]])
-    requires { count ≤ length out.old }
-    ensures { out.new ≡ each count (seen_in group state.now) out.old }
-{
-    let mut i = 0;
-    while i < count {
-        let row = seen_in(group, state, i);
-        out[i as usize] = row;
-        i += 1;
-    }
-}
-
 // Ten bytes a port.
 pub fn seen(state: &[[u8; 16]], out: &mut [[u8; 10]]) -> u8
     ensures { (result ≡ seen_answer state.now (length out.old))
@@ -129,6 +116,10 @@ pub fn seen(state: &[[u8; 16]], out: &mut [[u8; 10]]) -> u8
     if !shown::is_shown(count, state.len(), out.len()) {
         return answers::LENGTH;
     }
-    show_seen(group, count, state, out);
+    // The clause stands here since none is found for a closure that returns an array.
+    let row = |port|
+        ensures { result ≡ seen_in group state.entry.now port }
+    { seen_in(group, state, port) };
+    each::put_each(count, out, row);
     answers::DONE
 }

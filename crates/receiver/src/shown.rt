@@ -1,9 +1,8 @@
 // What the host reads out: the ports, and the reply (01, 'Member states and reply').
-ghost use Rattle.std.specs.Prelude.{◌≡◌, [], ◌∷◌, ◌≤◌, length};
-ghost use Rattle.ground.specs.Counting.Each.{each};
+ghost use Rattle.std.specs.Prelude.{◌≡◌, [], ◌∷◌, length};
 ghost use Rattle.receiver.specs.Shown.{port_in, port_shown, ports_answer, ports_out, reply_answer, reply_byte, reply_fit, reply_out, shown_fit, shown_number, waiting_byte};
 
-use crate::{flags, lengths, states};
+use crate::{each, flags, lengths, states};
 use packet::kinds;
 use reply::Port;
 use rows::{Group, Member, Step};
@@ -56,18 +55,6 @@ fn port_in(group: Group, state: &[[u8; 16]], port: u8) -> [u8; 8]
     port_shown(group, step, member)
 }
 
-fn show_ports(group: Group, count: u8, state: &[[u8; 16]], out: &mut [[u8; 8]])
-    requires { count ≤ length out.old }
-    ensures { out.new ≡ each count (port_in group state.now) out.old }
-{
-    let mut i = 0;
-    while i < count {
-        let row = port_in(group, state, i);
-        out[i as usize] = row;
-        i += 1;
-    }
-}
-
 pub(crate) fn is_shown(count: u8, rows: usize, out: usize) -> bool
     ensures { result ≡ shown_fit count rows out }
 {
@@ -85,7 +72,11 @@ pub fn ports(state: &[[u8; 16]], out: &mut [[u8; 8]]) -> u8
     if !is_shown(count, state.len(), out.len()) {
         return answers::LENGTH;
     }
-    show_ports(group, count, state, out);
+    // The clause stands here since none is found for a closure that returns an array.
+    let row = |port|
+        ensures { result ≡ port_in group state.entry.now port }
+    { port_in(group, state, port) };
+    each::put_each(count, out, row);
     answers::DONE
 }
 

@@ -101,23 +101,15 @@ fn put_port(kind: u8, hold_off: &[u32], restore: &[u32], port: u8, state: &mut [
 fn put_ports(kind: u8, hold_off: &[u32], restore: &[u32], ports: u8, state: &mut [[u8; 16]])
     ensures { state.new ≡ fresh_ports kind hold_off.now restore.now ports state.old }
 {
-    let mut i = 0;
-    while i < ports {
-        put_port(kind, hold_off, restore, i, state);
-        i += 1;
+    for port in 0..ports {
+        put_port(kind, hold_off, restore, port, state);
     }
 }
 
 pub fn times_within(counts: &[u32]) -> bool
     ensures { result ≡ times_within counts.now }
 {
-    let mut all = true;
-    let mut i = 0;
-    while i < counts.len() {
-        all = all & (counts[i] <= TIMER_MOST);
-        i += 1;
-    }
-    all
+    counts.iter().all(|&count| count <= TIMER_MOST)
 }
 
 fn is_list(counts: usize, ports: u8) -> bool

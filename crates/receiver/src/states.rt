@@ -6,6 +6,7 @@ ghost use Rattle.phases.specs.Passing.{group_to};
 ghost use Rattle.rows.specs.Member.{member_at, put_member};
 ghost use Rattle.receiver.specs.Report.{no_port, reply_port, reply_ports, reported_of, with_state, states_worked_out, state_put, states_put};
 
+use crate::each;
 use reply::{Port, Standing};
 use rows::{Group, Member};
 
@@ -49,15 +50,10 @@ fn no_port() -> Port
 pub(crate) fn reply_ports(group: Group, state: &[[u8; 16]], ports: u8) -> [Port; 64]
     ensures { result ≡ reply_ports group state.now ports }
 {
-    let none = no_port();
-    let mut all = [none; 64];
-    let n = ground::size_byte(ports);
-    let mut i = 0;
-    while i < n {
-        let one = reply_port(group, state, i);
-        all[i as usize] = one;
-        i += 1;
-    }
+    let mut all = [no_port(); 64];
+    each::put_each(ground::size_byte(ports), &mut all, |port| {
+        reply_port(group, state, port)
+    });
     all
 }
 
@@ -111,10 +107,8 @@ fn put_state(states: [Standing; 64], port: u8, state: &mut [[u8; 16]])
 fn put_states(states: [Standing; 64], ports: u8, state: &mut [[u8; 16]])
     ensures { state.new ≡ states_put states ports state.old }
 {
-    let mut i = 0;
-    while i < ports {
-        put_state(states, i, state);
-        i += 1;
+    for port in 0..ports {
+        put_state(states, port, state);
     }
 }
 

@@ -8,17 +8,17 @@ use Rattle.receiver.proofs.joining.frames_alone.Goals as goal
 
 pub loop-k-init : goal.loop-k-init
 unfolding frames_into
-loop-k-init c = (omega arith, refl)
+loop-k-init c = refl
 
 pub alone_into-requires : goal.alone_into-requires
 alone_into-requires c = (c.requires, refl)
 
 pub loop-k-preserved : goal.loop-k-preserved
 unfolding frames_into
-loop-k-preserved c = (omega arith, rw (add-one, ← c.loop-k.invariant.1) c.alone_into.ensures)
+loop-k-preserved c = rw (add-one, ← c.loop-k.invariant) c.alone_into.ensures
 
 pub shape_of-out : goal.shape_of-out
-shape_of-out c = ap length c.loop-k.invariant.1 ∙ length_frames_into _ _ _ _ _
+shape_of-out c = ap length c.loop-k.invariant ∙ length_frames_into _ _ _ _ _
 
 pub returns : goal.returns
-returns c = let e : c.loop-k.k ≡ c.args.count = omega arith in rw e at c.loop-k.invariant.1
+returns c = let e : c.loop-k.k ≡ c.args.count = omega arith in rw e at c.loop-k.invariant

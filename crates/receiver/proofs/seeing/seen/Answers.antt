@@ -1,14 +1,16 @@
+use Rattle.std.proofs.Common.{rules}
 use mathlib.Core.Path.{sym, ◌∙◌}
 use native.Mathlib.Omega.{arith}
 use Rattle.receiver.proofs.Reading.{seen_unfit, seen_shown}
+use Rattle.receiver.specs.Seen.{seen_in}
 use Rattle.receiver.proofs.Sizes.{shown_length_lem}
 use Rattle.receiver.proofs.seeing.seen.Goals as goal
 
 pub returns-then-not-is_shown : goal.returns-then-not-is_shown
 returns-then-not-is_shown c = seen_unfit _ _ _ _ c.get-group.ensures c.ports_in-count.ensures _ c.is_shown.ensures (c.if-not-is_shown.true)
 
-pub show_seen-requires : goal.show_seen-requires
-show_seen-requires c = let e = shown_length_lem _ _ _ (sym c.is_shown.ensures ∙ c.if-not-is_shown.false) in omega arith
+pub put_each-requires-clause-fits : goal.put_each-requires-clause-fits
+put_each-requires-clause-fits c = let e = shown_length_lem _ _ _ (sym c.is_shown.ensures ∙ c.if-not-is_shown.false) in omega arith
 
 pub returns : goal.returns
-returns c = seen_shown _ _ _ _ c.get-group.ensures c.ports_in-count.ensures _ c.is_shown.ensures _ (c.if-not-is_shown.false) c.show_seen.ensures
+returns c = seen_shown _ _ _ _ c.get-group.ensures c.ports_in-count.ensures _ c.is_shown.ensures _ (c.if-not-is_shown.false) (c.put_each.ensures (seen_in c.get-group.result c.args.state.now) (search rules))
