@@ -1,5 +1,7 @@
 // What a frame does (01, 'Beginning', 'Window'), decided on the group's and the port's records.
-ghost use Rattle.std.specs.Prelude.{◌≡◌};
+#![tactic(auto, unfolding(crate::specs::Arrival::in_step, crate::specs::Arrival::readable, crate::specs::Arrival::distance_in, crate::specs::Arrival::flagged, crate::specs::Arrival::counts_on, crate::specs::Arrival::frame_dropped, crate::specs::Arrival::outside, crate::specs::Arrival::keeps, crate::specs::Arrival::joining, crate::specs::Arrival::by_window, crate::specs::Arrival::by_start, crate::specs::Arrival::arrives, crate::specs::Arrival::taken_of))]
+
+ghost use Rattle.std.specs.Prelude.{◌≡◌, false};
 ghost use Rattle.step.specs.Arrival.{arrives, frame_dropped, by_start, by_window, counts_on, distance_in, flagged, in_step, joining, keeps, outside, readable, settles_at, step_to, taken_of};
 
 use crate::run::Run;
@@ -33,8 +35,7 @@ pub fn in_step(group: Group, step: Step) -> bool
 pub fn is_readable(group: Group, step: Step) -> bool
     ensures { result ≡ readable group step }
 {
-    let in_step = in_step(group, step);
-    is_set(group.begun) & in_step & (is_set(step.joined) | is_set(step.ever_since))
+    is_set(group.begun) & in_step(group, step) & (is_set(step.joined) | is_set(step.ever_since))
 }
 
 // How far a tag lies after the window's first.
@@ -48,9 +49,7 @@ pub fn distance_in(group: Group, tag: u16) -> u16
 fn step_to(step: Step, failed: u8, run: Run, joined: u8, since: u8, later: u8) -> Step
     ensures { result ≡ step_to step failed run joined since later }
 {
-    let spare = step.spare;
     Step {
-        spare,
         heard: 1,
         failed,
         count: run.count,
@@ -58,82 +57,26 @@ fn step_to(step: Step, failed: u8, run: Run, joined: u8, since: u8, later: u8) -
         joined,
         ever_since: since,
         joined_at: later,
-        whole: step.whole,
         breaks: run.breaks,
         odd: run.odd,
         bits: run.bits,
+        ..step
     }
 }
 
 fn settles_at(group: Group, before: Step, now: Step) -> bool
     ensures { result ≡ settles_at group before now }
 {
-    let was = in_step(group, before);
-    let is = in_step(group, now);
-    !is_set(group.begun) | was & !is
+    !is_set(group.begun) | in_step(group, before) & !in_step(group, now)
 }
 
-fn flagged(group: Group, step: Step) -> Taken
-    ensures { result ≡ flagged group step }
-{
-    let run = Run {
-        count: 0,
-        next: 0,
-        breaks: 0,
-        odd: 0,
-        bits: step.bits,
-    };
-    let now = step_to(step, 1, run, 0, 0, 0);
-    let settles = settles_at(group, step, now);
-    Taken {
-        step: now,
-        answer: answers::FLAGGED,
-        counted: false,
-        kept: false,
-        at: 0,
-        joins: false,
-        settles,
-    }
-}
-
-fn counts_on(group: Group, step: Step, run: Run) -> Taken
-    ensures { result ≡ counts_on group step run }
-{
-    let now = step_to(step, 0, run, 0, 0, 0);
-    let settles = settles_at(group, step, now);
-    Taken {
-        step: now,
-        answer: answers::NOT_IN_STEP,
-        counted: !(run.count == 0),
-        kept: false,
-        at: 0,
-        joins: false,
-        settles,
-    }
-}
-
-fn frame_dropped(group: Group, step: Step, run: Run) -> Taken
-    ensures { result ≡ frame_dropped group step run }
-{
-    let now = step_to(step, 0, run, step.joined, step.ever_since, step.joined_at);
-    let settles = !is_set(group.begun);
-    Taken {
-        step: now,
-        answer: answers::DONE,
-        counted: true,
-        kept: false,
-        at: 0,
-        joins: false,
-        settles,
-    }
-}
-
-fn outside(step: Step) -> Taken
-    ensures { result ≡ outside step }
+// A frame that counts for nothing, is not stored and lets nothing follow.
+fn nothing_kept(step: Step, answer: u8) -> Taken
+    ensures { result ≡ (record { step = step; answer = answer; counted = false; kept = false; at = 0; joins = false; settles = false }) }
 {
     Taken {
         step,
-        answer: answers::OUTSIDE,
+        answer,
         counted: false,
         kept: false,
         at: 0,
@@ -142,21 +85,60 @@ fn outside(step: Step) -> Taken
     }
 }
 
+fn flagged(group: Group, step: Step) -> Taken
+    ensures { result ≡ flagged group step }
+{
+    let run = Run {
+        bits: step.bits,
+        ..run::NO_RUN
+    };
+    let now = step_to(step, 1, run, 0, 0, 0);
+    Taken {
+        settles: settles_at(group, step, now),
+        ..nothing_kept(now, answers::FLAGGED)
+    }
+}
+
+fn counts_on(group: Group, step: Step, run: Run) -> Taken
+    ensures { result ≡ counts_on group step run }
+{
+    let now = step_to(step, 0, run, 0, 0, 0);
+    Taken {
+        counted: run.count != 0,
+        settles: settles_at(group, step, now),
+        ..nothing_kept(now, answers::NOT_IN_STEP)
+    }
+}
+
+fn frame_dropped(group: Group, step: Step, run: Run) -> Taken
+    ensures { result ≡ frame_dropped group step run }
+{
+    let now = step_to(step, 0, run, step.joined, step.ever_since, step.joined_at);
+    Taken {
+        counted: true,
+        settles: !is_set(group.begun),
+        ..nothing_kept(now, answers::DONE)
+    }
+}
+
+fn outside(step: Step) -> Taken
+    ensures { result ≡ outside step }
+{
+    nothing_kept(step, answers::OUTSIDE)
+}
+
 fn keeps(group: Group, step: Step, run: Run, at: u16) -> Taken
     ensures { result ≡ keeps group step run at }
 {
     let now = step_to(step, 0, run, step.joined, step.ever_since, step.joined_at);
-    let ends = kinds::ends_epoch(group.kind, at);
-    let epoch = kinds::epochs_in(group.kind, at);
-    let settles = !is_set(group.gathered) & ends & (epoch == 0);
     Taken {
-        step: now,
-        answer: answers::DONE,
         counted: true,
         kept: true,
         at,
-        joins: false,
-        settles,
+        settles: !is_set(group.gathered)
+            & kinds::ends_epoch(group.kind, at)
+            & (kinds::epochs_in(group.kind, at) == 0),
+        ..nothing_kept(now, answers::DONE)
     }
 }
 
@@ -166,13 +148,11 @@ fn joining(group: Group, step: Step, run: Run, at: u16) -> Taken
     let later = kinds::epochs_in(group.kind, at);
     let now = step_to(step, 0, run, 1, step.ever_since, later);
     Taken {
-        step: now,
-        answer: answers::DONE,
         counted: true,
         kept: true,
         at,
         joins: true,
-        settles: false,
+        ..nothing_kept(now, answers::DONE)
     }
 }
 
@@ -181,9 +161,10 @@ fn by_window(group: Group, step: Step, run: Run, at: u16) -> Taken
     ensures { result ≡ by_window group step run at }
 {
     if at < group.window {
-        return keeps(group, step, run, at);
+        keeps(group, step, run, at)
+    } else {
+        outside(step)
     }
-    outside(step)
 }
 
 // A frame in step of a port that has not joined.
@@ -192,9 +173,10 @@ fn by_start(group: Group, step: Step, run: Run, at: u16) -> Taken
 {
     let starts = kinds::starts_epoch(group.kind, step.next);
     if starts & (at < group.window) {
-        return joining(group, step, run, at);
+        joining(group, step, run, at)
+    } else {
+        frame_dropped(group, step, run)
     }
-    frame_dropped(group, step, run)
 }
 
 fn arrives(group: Group, step: Step, run: Run) -> Taken
@@ -217,14 +199,7 @@ pub fn decide(group: Group, step: Step, failed: bool, odd: bool, h4: u8) -> Take
     if failed {
         return flagged(group, step);
     }
-    let before = Run {
-        count: step.count,
-        next: step.next,
-        breaks: step.breaks,
-        odd: step.odd,
-        bits: step.bits,
-    };
-    let run = run::run_on(group.kind, before, odd, h4);
+    let run = run::run_on(group.kind, Run::from(step), odd, h4);
     if run::is_step(group.kind, run.count) {
         return arrives(group, step, run);
     }

@@ -17,9 +17,9 @@ pub fn reading_of(kind: u8, row: [u8; 16]) -> Result<Fields, Unread>
 }
 
 // Whether it carries another number than the epoch's.
+#[tactic(auto, unfolding(crate::specs::Carried::other_number))]
 pub fn is_other(kind: u8, epoch: u8, row: [u8; 16]) -> bool
     ensures { result ≡ other_number kind epoch row }
 {
-    let own = own::is_own(epoch, row);
-    !((kind == kinds::VC12) | own)
+    !((kind == kinds::VC12) | own::is_own(epoch, row))
 }

@@ -49,6 +49,7 @@ fn is_right(kind: u8, nibbles: [u8; 16]) -> bool
 }
 
 // A right CRC, and another MFI2, which is looked at first: the CRC takes longer than all else of a frame.
+#[tactic(auto, unfolding(crate::specs::OwnCount::odd_packet))]
 fn is_odd_packet(kind: u8, epoch: u8, nibbles: [u8; 16]) -> bool
     ensures { result ≡ odd_packet kind epoch nibbles }
 {
@@ -59,6 +60,7 @@ fn is_odd_packet(kind: u8, epoch: u8, nibbles: [u8; 16]) -> bool
 }
 
 // Whether the frame with this tag ends an odd packet: the one being gathered, with the frame's symbol put in.
+#[tactic(auto, unfolding(crate::specs::OwnCount::ends_odd))]
 pub fn is_odd(kind: u8, gathering: [u8; 16], tag: u16, h4: u8) -> bool
     ensures { result ≡ ends_odd kind gathering tag h4 }
 {

@@ -1,9 +1,13 @@
 // The step rule (01, 'Step'; request 2026-04): frames that count rightly in a row, from one with MFI1 0 on, and in step the receiver's own count.
+#![tactic(auto, unfolding(crate::specs::Run::in_step_at, crate::specs::Run::begun_run, crate::specs::Run::second_run, crate::specs::Run::further_run, crate::specs::Run::gained_run, crate::specs::Run::ends_packet, crate::specs::Run::breaks_after, crate::specs::Run::odd_after, crate::specs::Run::loses, crate::specs::Run::stayed_run, crate::specs::Run::h4_run_on, crate::specs::Run::run_on))]
+
 ghost use Rattle.std.specs.Prelude.{◌≡◌, false, ◌<◌};
+ghost use Rattle.step.specs.Arrival.{run_of};
 ghost use Rattle.step.specs.Run.{begun_run, breaks_after, ends_packet, further_run, gained_run, h4_run_on, in_step_at, loses, odd_after, run_on, second_run, stayed_run};
 
 use crate::starts;
 use packet::{counts, kinds};
+use rows::Step;
 
 #[derive(Clone, Copy)]
 pub struct Run {
@@ -19,12 +23,34 @@ pub struct Run {
     pub bits: u8,
 }
 
+impl From<Step> for Run {
+    fn from(step: Step) -> Run
+        ensures { result ≡ run_of step }
+    {
+        Run {
+            count: step.count,
+            next: step.next,
+            breaks: step.breaks,
+            odd: step.odd,
+            bits: step.bits,
+        }
+    }
+}
+
+// No frame counts.
+pub(crate) const NO_RUN: Run = Run {
+    count: 0,
+    next: 0,
+    breaks: 0,
+    odd: 0,
+    bits: 0,
+};
+
 // How many frames in a row bring a port into step: two multiframes.
 pub(crate) fn is_step(kind: u8, count: u8) -> bool
     ensures { result ≡ in_step_at kind count }
 {
-    let frames = kinds::epoch_frames(kind);
-    frames as u16 * 2 <= count as u16
+    kinds::epoch_frames(kind) as u16 * 2 <= count as u16
 }
 
 // A frame as the first of a new run, if it can be.
@@ -35,18 +61,10 @@ pub(crate) fn begun_run(kind: u8, h4: u8) -> Run
         return Run {
             count: 1,
             next: counts::tag_by_high(kind, h4),
-            breaks: 0,
-            odd: 0,
-            bits: 0,
+            ..NO_RUN
         };
     }
-    Run {
-        count: 0,
-        next: 0,
-        breaks: 0,
-        odd: 0,
-        bits: 0,
-    }
+    NO_RUN
 }
 
 fn second(kind: u8, run: Run, h4: u8) -> Run
@@ -56,9 +74,7 @@ fn second(kind: u8, run: Run, h4: u8) -> Run
         return Run {
             count: 2,
             next: counts::tag_by_low(kind, run.next, h4),
-            breaks: 0,
-            odd: 0,
-            bits: 0,
+            ..NO_RUN
         };
     }
     begun_run(kind, h4)
@@ -72,9 +88,7 @@ fn further(kind: u8, run: Run, h4: u8) -> Run
         return Run {
             count: run.count + 1,
             next: kinds::next_tag(kind, run.next),
-            breaks: 0,
-            odd: 0,
-            bits: 0,
+            ..NO_RUN
         };
     }
     begun_run(kind, h4)
@@ -85,14 +99,11 @@ fn gains(kind: u8, run: Run, h4: u8) -> Run
     requires { in_step_at kind run.count ≡ false }
     ensures { result ≡ gained_run kind run h4 }
 {
-    let count = run.count;
-    if count == 0 {
-        return begun_run(kind, h4);
+    match run.count {
+        0 => begun_run(kind, h4),
+        1 => second(kind, run, h4),
+        _ => further(kind, run, h4),
     }
-    if count == 1 {
-        return second(kind, run, h4);
-    }
-    further(kind, run, h4)
 }
 
 // The last frame of an epoch ends its packet.
@@ -117,7 +128,7 @@ fn odd_after(kind: u8, run: Run, odd: bool) -> u8
     ensures { result ≡ odd_after kind run odd }
 {
     if ends_packet(kind, run.next) {
-        return ground::one_if(odd);
+        return u8::from(odd);
     }
     run.odd
 }
@@ -126,7 +137,7 @@ fn odd_after(kind: u8, run: Run, odd: bool) -> u8
 fn is_lost(counted: bool, run: Run, odd: bool) -> bool
     ensures { result ≡ loses counted run odd }
 {
-    !counted & (3 <= run.breaks) | odd & !(run.odd == 0)
+    !counted & (3 <= run.breaks) | odd & (run.odd != 0)
 }
 
 // In step.
@@ -138,11 +149,10 @@ fn stays(kind: u8, run: Run, odd: bool, h4: u8) -> Run
         return begun_run(kind, h4);
     }
     Run {
-        count: run.count,
         next: kinds::next_tag(kind, run.next),
         breaks: breaks_after(counted, run.breaks),
         odd: odd_after(kind, run, odd),
-        bits: run.bits,
+        ..run
     }
 }
 
@@ -163,12 +173,8 @@ pub(crate) fn run_on(kind: u8, run: Run, odd: bool, h4: u8) -> Run
     if kind == kinds::VC12 {
         return starts::starts_run(run, h4);
     }
-    let after = h4_run_on(kind, run, odd, h4);
     Run {
-        count: after.count,
-        next: after.next,
-        breaks: after.breaks,
-        odd: after.odd,
         bits: run.bits,
+        ..h4_run_on(kind, run, odd, h4)
     }
 }

@@ -1,8 +1,10 @@
 // VC-12's step rule (request 2026-01): two whole packets in a row whose counts differ by one, each start said where it is due.
+#![tactic(auto, unfolding(crate::specs::Starts::begun_packet, crate::specs::Starts::count_after, crate::specs::Starts::bits_after, crate::specs::Starts::goes_on, crate::specs::Starts::first_of_two, crate::specs::Starts::fifth_bit, crate::specs::Starts::starts_run))]
+
 ghost use Rattle.std.specs.Prelude.{◌≡◌, ◌%◌};
 ghost use Rattle.step.specs.Starts.{begun_packet, bits_after, count_after, fifth_bit, first_of_two, goes_on, starts_run};
 
-use crate::run::Run;
+use crate::run::{self, Run};
 use packet::counts;
 
 fn begun_packet(byte: u8) -> Run
@@ -12,18 +14,11 @@ fn begun_packet(byte: u8) -> Run
         return Run {
             count: 1,
             next: 1,
-            breaks: 0,
-            odd: 0,
             bits: byte % 2,
+            ..run::NO_RUN
         };
     }
-    Run {
-        count: 0,
-        next: 0,
-        breaks: 0,
-        odd: 0,
-        bits: 0,
-    }
+    run::NO_RUN
 }
 
 fn count_after(count: u8) -> u8
@@ -36,13 +31,11 @@ fn count_after(count: u8) -> u8
 fn bits_after(bits: u8, place: u16, byte: u8) -> u8
     ensures { result ≡ bits_after bits place (byte % 2) }
 {
-    if place == 0 {
-        return byte % 2;
+    match place {
+        0 => byte % 2,
+        1..=4 => bits % 16 * 2 + byte % 2,
+        _ => bits,
     }
-    if place < 5 {
-        return bits % 16 * 2 + byte % 2;
-    }
-    bits
 }
 
 fn goes_on(run: Run, bits: u8) -> Run
@@ -51,9 +44,8 @@ fn goes_on(run: Run, bits: u8) -> Run
     Run {
         count: count_after(run.count),
         next: (run.next % 1024 + 1) % 1024,
-        breaks: 0,
-        odd: 0,
         bits,
+        ..run::NO_RUN
     }
 }
 
@@ -64,9 +56,8 @@ fn first_of_two(bits: u8) -> Run
     Run {
         count: 5,
         next: bits as u16 % 32 * 32 + 5,
-        breaks: 0,
-        odd: 0,
         bits,
+        ..run::NO_RUN
     }
 }
 
@@ -80,14 +71,13 @@ fn fifth_bit(run: Run, bits: u8) -> Run
     goes_on(run, bits)
 }
 
-#[tactic(auto, unfolding(crate::specs::Starts::starts_run))]
 pub(crate) fn starts_run(run: Run, byte: u8) -> Run
     ensures { result ≡ starts_run run byte }
 {
     let place = run.next % 32;
     let start = counts::says_start(byte);
     let due = place == 0;
-    if (run.count == 0) | !((start & due) | (!start & !due)) {
+    if (run.count == 0) | (start != due) {
         return begun_packet(byte);
     }
     let bits = bits_after(run.bits, place, byte);

@@ -1,4 +1,6 @@
 // The frame of H4 that comes most often: it changes a port's next tag and one nibble alone.
+#![tactic(auto, unfolding(crate::specs::Steady::mid_epoch, crate::specs::Steady::steady))]
+
 ghost use Rattle.std.specs.Prelude.{◌≡◌, ◌&&◌, ◌==◌};
 ghost use Rattle.packet.specs.Counts.{h4_counts};
 ghost use Rattle.step.specs.Arrival.{flag_of, in_step};
@@ -13,12 +15,11 @@ use rows::{Group, Step};
 fn is_undisturbed(group: Group, step: Step) -> bool
     ensures { result ≡ (flag_of group.begun && step.heard == 1 && step.failed == 0 && step.breaks == 0 && in_step group step && flag_of step.joined) }
 {
-    let in_step = arrival::in_step(group, step);
     arrival::is_set(group.begun)
         & (step.heard == 1)
         & (step.failed == 0)
         & (step.breaks == 0)
-        & in_step
+        & arrival::in_step(group, step)
         & arrival::is_set(step.joined)
 }
 
