@@ -1,4 +1,4 @@
--- A run of bytes copied by way of another list, and what a copy is of a member alone.
+-- What a copy is of a member alone.
 use mathlib.Core.Path.{◌≡◌, sym, ap, ap₂, ◌∙◌}
 use mathlib.Core.List.{List}
 use Prim.Native.Nat.{ℕ, ◌+◌, ◌*◌, ◌/◌, ◌%◌, ◌≤◌, ◌<◌}
@@ -6,19 +6,12 @@ use native.Mathlib.Omega.{arith}
 use lib.Arith.{digits_div, digits_mod}
 use lib.ListN.{length, get_or}
 use borrow.Author.Tests.{le-leb, lt-leb}
-use Rattle.ground.specs.Drawn.{fill_at, fill_at_all, fill_at_ext, get_or_fill_at}
+use Rattle.ground.specs.Drawn.{fill_at, fill_at_all, fill_at_ext}
 use Rattle.ground.specs.Table.{tabulate_ext}
 use Rattle.payload.specs.Joining.{ranked_byte, started_byte}
 use Rattle.payload.specs.Laying.{laid}
 use Rattle.payload.specs.Order.{group_byte, group_frame, member_byte}
 use Rattle.payload.specs.Spreading.{all_members}
-
--- what goes through a list of its own comes out as it went in
-pub by_way : (place n : ℕ) (f : ℕ → ℕ) (way mid d out : List ℕ) → n ≤ length way → mid ≡ fill_at 0 n f way → out ≡ fill_at place n (λ j. get_or mid (0 + j) 0) d
-    → out ≡ fill_at place n f d
-by_way place n f way mid d out h first second =
-    second ∙ fill_at_ext place n (λ j. get_or mid (0 + j) 0) f d
-    (λ j b. ap (λ (l : List ℕ). get_or l (0 + j) 0) first ∙ get_or_fill_at 0 n f way j 0 b (omega arith))
 
 -- bytes that end within the slice, and those that do not
 pub laid_in : (from : List ℕ) (place : ℕ) (to out : List ℕ) → place + length from ≤ length to → out ≡ fill_at place (length from) (λ j. get_or from (0 + j) 0) to

@@ -5,5 +5,6 @@ pub mod Deals
 pub mod Evens
 pub mod Frames
 pub mod Fronts
+pub mod Parts
 pub mod Shuffles
 pub mod Starts

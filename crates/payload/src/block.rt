@@ -99,7 +99,7 @@ fn lay_eight(q: [u8; 128], x: usize, place: usize, j: usize, r: usize, out: &mut
     requires { (r + 8 ≤ x) × (place + (j + 16) * x ≤ length out.old) }
     ensures { out.new ≡ drawn (area x place j 16 r 8) (row_byte 16 x place j r q) out.old }
 {
-    let t = shuffle::eight_rows(q);
+    let t = shuffle::turned(3, q);
     write(&t, 8, 16, x, place, j, r, out);
 }
 
@@ -107,7 +107,7 @@ fn lay_sixteen(q: [u8; 128], x: usize, place: usize, j: usize, r: usize, out: &m
     requires { (r + 16 ≤ x) × (place + (j + 8) * x ≤ length out.old) }
     ensures { out.new ≡ drawn (area x place j 8 r 16) (row_byte 8 x place j r q) out.old }
 {
-    let t = shuffle::sixteen_rows(q);
+    let t = shuffle::turned(4, q);
     write(&t, 16, 8, x, place, j, r, out);
 }
 
@@ -115,7 +115,7 @@ fn lay_wide(q: [u8; 256], x: usize, place: usize, j: usize, r: usize, out: &mut 
     requires { (r + 16 ≤ x) × (place + (j + 16) * x ≤ length out.old) }
     ensures { out.new ≡ drawn (area x place j 16 r 16) (row_byte 16 x place j r q) out.old }
 {
-    let t = shuffle::sixteen_wide(q);
+    let t = shuffle::turned(4, q);
     write(&t, 16, 16, x, place, j, r, out);
 }
 

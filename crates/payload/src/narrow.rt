@@ -7,18 +7,18 @@ ghost use Rattle.payload.specs.Joining.{ranked_byte, started_byte};
 ghost use Rattle.payload.specs.Order.{group_byte, group_frame};
 ghost use Rattle.payload.specs.Spreading.{all_members};
 
-use crate::{block, copy, shuffle};
+use crate::{block, copy, deal, shuffle};
 
 fn lines_of(x: usize, w: usize, q: [u8; 128]) -> [u8; 128]
     requires { Even x w }
     ensures { result ≡ turned x w q }
 {
     if x == 2 {
-        shuffle::shuffled(q)
+        shuffle::turned(1, q)
     } else if x == 4 {
-        shuffle::four_rows(q)
+        shuffle::turned(2, q)
     } else {
-        shuffle::eight_rows(q)
+        shuffle::turned(3, q)
     }
 }
 
@@ -76,13 +76,13 @@ fn lay_rows(x: usize, h: usize, q: [u8; 128], p: usize, r: usize, members: &mut 
     ensures { members.new ≡ drawn (area p 0 0 x r h) (row_byte x p 0 0 r q) members.old }
 {
     if x == 2 {
-        let t = shuffle::most_rows(q);
+        let t = deal::dealt(64, q);
         block::write(&t, 64, 2, p, 0, 0, r, members);
     } else if x == 4 {
-        let t = shuffle::many_rows(q);
+        let t = shuffle::turned(5, q);
         block::write(&t, 32, 4, p, 0, 0, r, members);
     } else {
-        let t = shuffle::sixteen_rows(q);
+        let t = shuffle::turned(4, q);
         block::write(&t, 16, 8, p, 0, 0, r, members);
     }
 }

@@ -32,7 +32,7 @@ fn lay_rows(q: [u8; 128], x: usize, p: usize, r: usize, members: &mut [u8])
     requires { (x ≤ 8) × (r + 16 ≤ p) × (length members.old ≡ x * p) }
     ensures { members.new ≡ drawn (area p 0 0 x r 16) (row_byte 8 p 0 0 r q) members.old }
 {
-    let t = shuffle::sixteen_rows(q);
+    let t = shuffle::turned(4, q);
     block::write(&t, 16, x, p, 0, 0, r, members);
 }
 
@@ -77,11 +77,12 @@ fn write(q: &[u8], x: usize, at: usize, out: &mut [u8])
 }
 
 // The first X of eight rows, as lines of the frame.
+#[inline(always)]
 fn lay(q: [u8; 128], x: usize, at: usize, out: &mut [u8])
     requires { (1 ≤ x) × (x ≤ 8) × (at + 15 * x + 8 ≤ length out.old) }
     ensures { Front at (16 * x) (at + 15 * x + 8) (λ i. get_or q (i % x * 16 + i / x) 0) out.old out.new }
 {
-    let t = shuffle::eight_rows(q);
+    let t = shuffle::turned(3, q);
     write(&t, x, at, out);
 }
 

@@ -3,4 +3,4 @@ use Rattle.payload.proofs.block.lay_eight.Goals as goal
 
 pub returns : goal.returns
 returns c =
-    block_turned 8 16 c.args.x c.args.place c.args.j c.args.r c.args.q c.eight_rows-t.result c.args.out.now _ c.eight_rows-t.ensures c.write.ensures
+    block_turned 8 16 c.args.x c.args.place c.args.j c.args.r c.args.q c.turned-t.result c.args.out.now _ c.turned-t.ensures c.write.ensures

@@ -3,4 +3,4 @@ use Rattle.payload.proofs.block.lay_sixteen.Goals as goal
 
 pub returns : goal.returns
 returns c =
-    block_turned 16 8 c.args.x c.args.place c.args.j c.args.r c.args.q c.sixteen_rows-t.result c.args.out.now _ c.sixteen_rows-t.ensures c.write.ensures
+    block_turned 16 8 c.args.x c.args.place c.args.j c.args.r c.args.q c.turned-t.result c.args.out.now _ c.turned-t.ensures c.write.ensures

@@ -3,4 +3,4 @@ use Rattle.payload.proofs.block.lay_wide.Goals as goal
 
 pub returns : goal.returns
 returns c =
-    block_turned 16 16 c.args.x c.args.place c.args.j c.args.r c.args.q c.sixteen_wide-t.result c.args.out.now _ c.sixteen_wide-t.ensures c.write.ensures
+    block_turned 16 16 c.args.x c.args.place c.args.j c.args.r c.args.q c.turned-t.result c.args.out.now _ c.turned-t.ensures c.write.ensures

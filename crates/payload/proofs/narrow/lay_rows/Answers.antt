@@ -4,6 +4,7 @@ use mathlib.Core.Path.{ap, ◌∙◌}
 use Prim.Native.Nat.{ℕ, ◌*◌}
 use native.Mathlib.Omega.{arith}
 use Rattle.payload.proofs.Blocks.{block_turned}
+use Rattle.payload.proofs.Deals.{dealt_all}
 use Rattle.payload.proofs.Evens.{even_two, even_four, even_eight, rows_as}
 use Rattle.payload.proofs.narrow.lay_rows.Goals as goal
 
@@ -34,14 +35,14 @@ returns-then-x-eq2 c =
     let e = c.if-x-eq2.true in
     let f = even_two c.args.x c.args.h c.requires.0 e in
     rows_as c.args.x c.args.h 2 64 c.args.p c.args.r c.args.q c.args.members.now _ e f
-    (block_turned 64 2 c.args.p 0 0 c.args.r c.args.q c.most_rows-t.result c.args.members.now _ c.most_rows-t.ensures c.write.ensures)
+    (block_turned 64 2 c.args.p 0 0 c.args.r c.args.q c.dealt-t.result c.args.members.now _ (dealt_all _ _ c.dealt-t.ensures) c.write.ensures)
 
 pub returns-then-x-eq4 : goal.returns-then-x-eq4
 returns-then-x-eq4 c =
     let e = c.if-x-eq4.true in
     let f = even_four c.args.x c.args.h c.requires.0 e in
     rows_as c.args.x c.args.h 4 32 c.args.p c.args.r c.args.q c.args.members.now _ e f
-    (block_turned 32 4 c.args.p 0 0 c.args.r c.args.q c.many_rows-t.result c.args.members.now _ c.many_rows-t.ensures c.write-then-x-eq4.ensures)
+    (block_turned 32 4 c.args.p 0 0 c.args.r c.args.q c.turned-t.result c.args.members.now _ c.turned-t.ensures c.write-then-x-eq4.ensures)
 
 pub returns-else-x-eq4 : goal.returns-else-x-eq4
 returns-else-x-eq4 c =
@@ -49,4 +50,4 @@ returns-else-x-eq4 c =
     let e = g.0 in
     let f = g.1 in
     rows_as c.args.x c.args.h 8 16 c.args.p c.args.r c.args.q c.args.members.now _ e f
-    (block_turned 16 8 c.args.p 0 0 c.args.r c.args.q c.sixteen_rows-t.result c.args.members.now _ c.sixteen_rows-t.ensures c.write-else-x-eq4.ensures)
+    (block_turned 16 8 c.args.p 0 0 c.args.r c.args.q c.turned-t-else-x-eq4.result c.args.members.now _ c.turned-t-else-x-eq4.ensures c.write-else-x-eq4.ensures)

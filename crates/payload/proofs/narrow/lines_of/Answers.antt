@@ -8,14 +8,14 @@ use Rattle.payload.proofs.narrow.lines_of.Goals as goal
 pub returns-then-x-eq2 : goal.returns-then-x-eq2
 returns-then-x-eq2 c =
     let e = c.if-x-eq2.true in
-    c.shuffled.ensures ∙ sym (ap₂ (λ (h w : ℕ). turned h w c.args.q) e (even_two c.args.x c.args.w c.requires e))
+    c.turned.ensures ∙ sym (ap₂ (λ (h w : ℕ). turned h w c.args.q) e (even_two c.args.x c.args.w c.requires e))
 
 pub returns-then-x-eq4 : goal.returns-then-x-eq4
 returns-then-x-eq4 c =
     let e = c.if-x-eq4.true in
-    c.four_rows.ensures ∙ sym (ap₂ (λ (h w : ℕ). turned h w c.args.q) e (even_four c.args.x c.args.w c.requires e))
+    c.turned-then-x-eq4.ensures ∙ sym (ap₂ (λ (h w : ℕ). turned h w c.args.q) e (even_four c.args.x c.args.w c.requires e))
 
 pub returns-else-x-eq4 : goal.returns-else-x-eq4
 returns-else-x-eq4 c =
     let e = even_eight c.args.x c.args.w c.requires c.if-x-eq2.false c.if-x-eq4.false in
-    c.eight_rows.ensures ∙ sym (ap₂ (λ (h w : ℕ). turned h w c.args.q) e.0 e.1)
+    c.turned-else-x-eq4.ensures ∙ sym (ap₂ (λ (h w : ℕ). turned h w c.args.q) e.0 e.1)

@@ -9,4 +9,4 @@ shape_of-out c = c.write.ensures.len
 pub returns : goal.returns
 returns c =
     let pos : 0 < c.args.x = omega (arith, c.requires.0) in
-    over_turned c.args.x c.args.q c.eight_rows-t.result pos c.requires.1 c.eight_rows-t.ensures c.write.ensures
+    over_turned c.args.x c.args.q c.turned-t.result pos c.requires.1 c.turned-t.ensures c.write.ensures

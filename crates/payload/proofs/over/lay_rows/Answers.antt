@@ -3,4 +3,4 @@ use Rattle.payload.proofs.over.lay_rows.Goals as goal
 
 pub returns : goal.returns
 returns c =
-    some_turned c.args.x 16 8 c.args.p 0 0 c.args.r c.args.q c.sixteen_rows-t.result c.args.members.now _ c.requires.0 c.sixteen_rows-t.ensures c.write.ensures
+    some_turned c.args.x 16 8 c.args.p 0 0 c.args.r c.args.q c.turned-t.result c.args.members.now _ c.requires.0 c.turned-t.ensures c.write.ensures

@@ -1,12 +1,7 @@
 -- The invariant: the first 2 i bytes are in place.
-use mathlib.Core.Path.{◌≡◌}
-use Prim.Native.Nat.{◌≤◌, ◌+◌, ◌-◌, ◌*◌, ◌/◌, ◌%◌}
-use lib.ListN.{length, get_or}
+use Rattle.std.specs.Prelude.{◌≡◌, ◌+◌, ◌*◌, ◌/◌, ◌%◌, length, get_or}
 use Rattle.ground.specs.Drawn.{Filling}
 use Rattle.payload.proofs.shuffle.shuffled.Given as goal
 
 abbrev pub invariant-loop-i : goal.invariant-loop-i
-invariant-loop-i l = (length l.initial.s ≡ 128) × (l.i ≤ 64) × Filling 0 (2 * l.i) (λ k. get_or l.q (k % 2 * 64 + k / 2) 0) l.initial.s l.s
-
-abbrev pub decreases-loop-i : goal.decreases-loop-i
-decreases-loop-i l = 64 - l.i
+invariant-loop-i g l = (length l.initial.s ≡ g.row.N) × Filling 0 (2 * l.i) (λ k. get_or l.q (k % 2 * (g.row.N / 2) + k / 2) 0) l.initial.s l.s
