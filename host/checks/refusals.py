@@ -5,7 +5,7 @@ it, by `stateless REFUSALS ANSWER LENT LEFT` or `stateful REFUSALS ANSWER LENT L
 definition there that ends so. What is proved of it says something of the entry point only if these are the contract's
 own terms. So, with the call's parameters named by place as the function's are, and x.old and x.now of a lent one read as x:
 - the answer is the result of the `ensures`, or its part .answer or .number, under a function that a method `number` of
-  the crates promises, or bare;
+  the crates promises, or bare; a result told X, an Ok or an Err by the answer in the record X, counts as X;
 - each slice lent to be changed is in LENT, and what stands for it in LEFT is what the `ensures` has for it afterwards; or
   it is GIVEN, and RETURNED is; of several numbers that are lent so, GIVEN and RETURNED are tuples, in one order;
 - any other RETURNED, or each part of a tuple, is a part of the result, and where the answer is a part there is a RETURNED.
@@ -117,7 +117,7 @@ def contracts(top):
             for f in functions(file.read_text(), module_path(file, src)):
                 found.setdefault(short(f.name), []).append(f)
                 if f.name.endswith("::number"):
-                    numbers |= {told[0] for told in [result(f)] if isinstance(told, list) and told[1:] == ["self"] and isinstance(told[0], str)}
+                    numbers |= {told[0] for told in [result(f)] if isinstance(told, list) and len(told) == 2 and isinstance(told[0], str)}
     return found, numbers
 
 
@@ -140,7 +140,8 @@ def equations(f):
 
 
 def result(f):
-    return dict(equations(f)).get("result")
+    returned = dict(equations(f)).get("result")
+    return returned[1] if isinstance(returned, list) and len(returned) == 2 and returned[0] == "told" else returned
 
 
 def afterwards(f, name):

@@ -4,11 +4,10 @@ use Rattle.ground.specs.Flags.{one_if}
 use Rattle.ground.specs.Types.{Bytes}
 use Rattle.paths.specs.Answers.{answer_of, number_of}
 use Rattle.paths.specs.Checking.{checked_of}
-use Rattle.paths.specs.declared.planning.Proposal.{Proposal}
-use Rattle.paths.specs.Planning.{plan_of}
+use Rattle.paths.specs.Planning.{Plan, plan_of}
 
 -- how many are chosen, then their numbers
-abbrev pub plan_bytes_of : Proposal → List ℕ
+abbrev pub plan_bytes_of : Plan → List ℕ
 plan_bytes_of p = p.count ∷ p.paths
 
 unfoldable pub lent_answer : (number size : ℕ) (out : Bytes) → ℕ

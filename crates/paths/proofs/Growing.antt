@@ -1,14 +1,7 @@
--- The list of chosen candidates that takes in one more.
-use mathlib.Core.Path.{◌≡◌, sym, ap, ◌∙◌}
-use mathlib.Core.Bool.{Bool, true, false, cond, ◌&&◌}
-use mathlib.Core.List.{List, [], ◌∷◌, ◌++◌, append-nil}
-use Prim.Native.Nat.{ℕ, suc, ◌+◌, ◌-◌, ◌<◌}
-use native.Mathlib.Numerals.{add-one}
-use native.Mathlib.Omega.{arith}
-use lib.Dec.{ltb}
-use lib.ListN.{length, length-append, replicate, set}
-use lib.Seq.{append_snoc, set-append_seam}
-use borrow.Author.Tests.{lt-ltb}
+-- The list of chosen candidates that takes in one more, or not.
+use Rattle.std.proofs.Common.{◌≡◌, sym, ap, ◌∙◌, Bool, true, false, List, [], ◌∷◌, ◌++◌, append-nil, ℕ, suc, ◌+◌, ◌-◌, ◌<◌, add-one, arith, length, length-append, replicate}
+use Rattle.std.proofs.Math.ListN.{set}
+use Rattle.std.proofs.Math.Seq.{append_snoc, set-append_seam}
 use Rattle.ground.specs.Counting.Laws.Numbers.{count_le}
 use Rattle.ground.specs.Counting.Words.{count}
 use Rattle.paths.specs.Laws.Listing.{length_listed}
@@ -23,17 +16,16 @@ set_more l i h =
     ∙ set-append_seam l 255 (replicate m 255) i
     ∙ sym (append_snoc l i (replicate m 255))
 
-put_more : (l : List ℕ) (chosen : Bool) (at i : ℕ) → length l ≡ at → at < 64
-    → cond (chosen && ltb at 64) (set (padded l) at i) (padded l) ≡ padded (l ++ cond chosen (i ∷ []) [])
-put_more l true at i e h = rw (lt-ltb at 64 h, ← e) (set_more l i (rw e h))
-put_more l false at i e h = ap padded (sym (append-nil l))
-
 -- one more turn of the loop
-pub listed_more : (f : ℕ → Bool) (i at : ℕ) (paths next : List ℕ) (chosen : Bool) → i < 64 → at ≡ count i f → paths ≡ padded (listed i f)
-    → chosen ≡ f i → next ≡ cond (chosen && ltb at 64) (set paths at i) paths → next ≡ padded (listed (i + 1) f)
-listed_more f i at paths next chosen h c p t e =
-    let few : at < 64 = (let l = count_le i f in omega arith) in
-    let turn : cond (f i && ltb at 64) (set (padded (listed i f)) at i) (padded (listed i f)) ≡ padded (listed (suc i) f) =
-    put_more (listed i f) (f i) at i (length_listed i f ∙ sym c) few in
-    let one : i + 1 ≡ suc i = add-one i in
-    e ∙ rw (p, t) turn ∙ ap (λ (n : ℕ). padded (listed n f)) (sym one)
+module _ (f : ℕ → Bool) (i at : ℕ) (paths : List ℕ) (counted : at ≡ count i f) (so_far : paths ≡ padded (listed i f)) where
+  abbrev Turn : ℕ → List ℕ → Type 0
+  Turn m next = (m ≡ count (i + 1) f) × (next ≡ padded (listed (i + 1) f))
+
+  pub listed_on : i < 64 → f i ≡ true → Turn (at + 1) (set paths at i)
+  listed_on h e =
+      let few : length (listed i f) < 64 = (let l = count_le i f in let m = length_listed i f in omega arith) in
+      let long : at ≡ length (listed i f) = counted ∙ sym (length_listed i f) in
+      (rw (add-one i, e) (omega arith), rw (so_far, long, add-one i, e) (set_more (listed i f) i few))
+
+  pub listed_off : f i ≡ false → Turn at paths
+  listed_off e = (rw (add-one i, e) (omega arith), rw (so_far, add-one i, e) (ap padded (sym (append-nil (listed i f)))))

@@ -1,10 +1,13 @@
 -- What the planner and the check answer: 4, 'before any search', or 0. That there is no set is a value under 0.
-use Rattle.std.specs.Prelude.{Bool, ◌&&◌, List, ℕ, length, if◌then◌else◌}
+use Rattle.std.specs.Prelude.{Bool, ◌&&◌, List, ℕ, Result, Ok, Err, length, if◌then◌else◌}
 use Rattle.ground.specs.Plain.{◌≤?◌}
 use Rattle.ground.specs.Counting.Words.{every}
-use Rattle.paths.specs.declared.answers.Answer.{Answer}
-use Rattle.paths.specs.declared.answers.Answer.TheVariants.{Done, Range}
+use Rattle.paths.specs.declared.answers.OutOfRange.{OutOfRange}
 use Rattle.paths.specs.Paths.{delay_at}
+
+pub data Answer : Type 0 where
+  Done : Answer
+  Range : Answer
 
 -- 01's number for each answer
 abbrev pub number_of : Answer → ℕ
@@ -24,3 +27,8 @@ in_range delays k W = sized (length delays) k W && are_short delays
 
 unfoldable pub answer_of : (delays : List ℕ) (k W : ℕ) → Answer
 answer_of delays k W = if in_range delays k W then Done else Range
+
+-- what a function returns under an answer: a value, or the refusal alone
+abbrev pub told_by : {A : Type 0} → Answer → A → Result A OutOfRange
+told_by Done value = Ok value
+told_by Range value = Err record {}

@@ -1,9 +1,9 @@
 -- The small check of a proposal.
-use Rattle.std.specs.Prelude.{Bool, not, ◌&&◌, List, ℕ, ◌-◌, length, if◌then◌else◌, ◌==◌}
+use Rattle.std.specs.Prelude.{Bool, not, ◌&&◌, List, ℕ, Result, ◌-◌, length, if◌then◌else◌, ◌==◌}
 use Rattle.ground.specs.Plain.{◌<?◌, ◌≤?◌}
 use Rattle.ground.specs.Counting.Words.{every}
-use Rattle.paths.specs.declared.checking.Checked.{Checked}
-use Rattle.paths.specs.Answers.{answer_of, in_range}
+use Rattle.paths.specs.declared.answers.OutOfRange.{OutOfRange}
+use Rattle.paths.specs.Answers.{Answer, answer_of, in_range, told_by}
 use Rattle.paths.specs.Paths.{delay_at, path_at}
 
 -- how far two delays lie apart
@@ -25,5 +25,14 @@ entry_fits delays set s a = path_at set a <? length delays && agrees_with delays
 unfoldable pub accepts : (delays : List ℕ) (k spread : ℕ) (set : List ℕ) → Bool
 accepts delays k s set = length set == k && every (length set) (entry_fits delays set s)
 
+-- what the check says; under 4 no set is accepted
+pub record Checked : Type 0 where
+  pub accepted : Bool
+  pub answer : Answer
+
 unfoldable pub checked_of : (delays : List ℕ) (k W : ℕ) (set : List ℕ) → Checked
 checked_of delays k W set = record { accepted = in_range delays k W && accepts delays k (W - 16) set; answer = answer_of delays k W }
+
+-- and what `paths::check` returns of it
+abbrev pub told : Checked → Result Bool OutOfRange
+told c = told_by c.answer c.accepted

@@ -1,13 +1,12 @@
 -- The planner: of the candidates in order, the k in a row with the least spread, of several such the first.
 -- So it is always the same set, of the tightest the one with the least delays, and the receiver's window may be smallest.
-use Rattle.std.specs.Prelude.{Bool, List, [], ◌∷◌, ◌++◌, ℕ, zero, suc, ◌+◌, ◌-◌, length, get_or, replicate, take, if◌then◌else◌}
+use Rattle.std.specs.Prelude.{Bool, List, [], ◌∷◌, ◌++◌, ℕ, zero, suc, Result, ◌+◌, ◌-◌, length, get_or, replicate, take, if◌then◌else◌}
 use Rattle.ground.specs.Drawn.{within}
 use Rattle.ground.specs.Plain.{◌<?◌, ◌≤?◌}
-use Rattle.paths.specs.declared.answers.Answer.{Answer}
-use Rattle.paths.specs.declared.answers.Answer.TheVariants.{Done}
+use Rattle.paths.specs.declared.answers.OutOfRange.{OutOfRange}
 use Rattle.paths.specs.declared.planning.Proposal.{Proposal}
 use Rattle.paths.specs.declared.planning.Stretch.{Stretch}
-use Rattle.paths.specs.Answers.{answer_of, in_range}
+use Rattle.paths.specs.Answers.{Answer, Done, answer_of, in_range, told_by}
 use Rattle.paths.specs.Order.{ranks_of, sorted_by}
 
 -- from a rank to the one so far after it
@@ -42,26 +41,39 @@ proposed delays k s =
 unfoldable pub set_of : (delays : List ℕ) (k W : ℕ) → List ℕ
 set_of delays k W = if in_range delays k W then proposed delays k (W - 16) else []
 
+-- what the planner says; under 4 a plan names no candidate
+pub record Plan : Type 0 where
+  pub paths : List ℕ
+  pub count : ℕ
+  pub answer : Answer
+
+abbrev pub proposal_in : Plan → Proposal
+proposal_in p = record { paths = p.paths; count = p.count }
+
+-- and what `paths::plan` returns of it
+abbrev pub told : Plan → Result Proposal OutOfRange
+told p = told_by p.answer (proposal_in p)
+
 -- in a plan's 64 bytes the rest is 255
 abbrev pub padded : List ℕ → List ℕ
 padded set = set ++ replicate (64 - length set) 255
 
-abbrev pub plan_with : Answer → List ℕ → Proposal
+abbrev pub plan_with : Answer → List ℕ → Plan
 plan_with answer set = record { paths = padded set; count = length set; answer = answer }
 
-unfoldable pub plan_of : (delays : List ℕ) (k W : ℕ) → Proposal
+unfoldable pub plan_of : (delays : List ℕ) (k W : ℕ) → Plan
 plan_of delays k W = plan_with (answer_of delays k W) (set_of delays k W)
 
 -- the candidates that a plan names
-abbrev pub planned : Proposal → List ℕ
+abbrev pub planned : Plan → List ℕ
 planned p = take p.count p.paths
 
 -- for the functions behind it
-abbrev pub nothing : Answer → Proposal
+abbrev pub nothing : Answer → Plan
 nothing answer = plan_with answer []
 
-unfoldable pub listed_plan : (ranks : List ℕ) (n first k : ℕ) → Proposal
+unfoldable pub listed_plan : (ranks : List ℕ) (n first k : ℕ) → Plan
 listed_plan ranks n first k = plan_with Done (listed n (in_stretch ranks first k))
 
-unfoldable pub proposed_plan : (delays : List ℕ) (k spread : ℕ) → Proposal
+unfoldable pub proposed_plan : (delays : List ℕ) (k spread : ℕ) → Plan
 proposed_plan delays k s = plan_with Done (proposed delays k s)

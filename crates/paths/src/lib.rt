@@ -7,6 +7,6 @@ mod checking;
 mod order;
 mod planning;
 
-pub use answers::Answer;
-pub use checking::{Checked, check};
+pub use answers::OutOfRange;
+pub use checking::check;
 pub use planning::{Proposal, plan};

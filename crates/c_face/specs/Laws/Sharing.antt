@@ -1,11 +1,18 @@
 -- What is shared with other crates, on bytes of the right length and on others.
-use Rattle.std.specs.Prelude.{◌≡◌, refl, true, false, List, ℕ, ◌+◌, ◌-◌, ◌≤◌, ◌<◌, leb, get_or, length, replicate}
+use Rattle.std.specs.Prelude.{◌≡◌, refl, Bool, true, false, List, ℕ, ◌+◌, ◌-◌, ◌≤◌, ◌<◌, leb, get_or, length, replicate}
 use Rattle.std.proofs.Common.{arith, eq-eqb, le-leb, leb-true, ne_eqb}
 use Rattle.std.proofs.lemmas.Bool.{lt-leb}
+use Rattle.std.specs.Int.{from_bool}
 use Rattle.ground.specs.Drawn.{fill_at}
+use Rattle.ground.specs.Flags.{one_if}
 use Rattle.ground.specs.Truth.{same_test}
 use Rattle.c_face.specs.Keeping.{board_in}
 use Rattle.c_face.specs.Sharing.{board_at, bytes_put, has_room, if_sized, or_zeros}
+
+-- a flag as the library's byte
+pub flag_byte : (flag : Bool) → from_bool flag ≡ one_if flag
+flag_byte true = refl
+flag_byte false = refl
 
 module _ (n : ℕ) where
   pub sized : (new out : List ℕ) → length out ≡ n → if_sized n new out ≡ new

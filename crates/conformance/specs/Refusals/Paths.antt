@@ -3,9 +3,8 @@ use Rattle.std.specs.Prelude.{◌≡◌, refl, Bool, true, false, ◌&&◌, List
 use Rattle.ground.specs.Plain.{◌≤?◌}
 use Rattle.c_cards.specs.Plans.{check_answer_c, check_byte_c, lent_answer, lent_bytes, plan_answer_c, plan_bytes_c}
 use Rattle.ground.specs.Counting.Words.{every}
-use Rattle.paths.specs.Answers.{answer_of, are_short, number_of}
+use Rattle.paths.specs.Answers.{Done, Range, answer_of, are_short, number_of}
 use Rattle.paths.specs.Checking.{checked_of}
-use Rattle.paths.specs.declared.answers.Answer.TheVariants.{Done, Range}
 use Rattle.paths.specs.Planning.{plan_of, set_of}
 use Rattle.conformance.specs.Refusals.Entries.{Call, Copes, Unless, copes, stateful, stateless}
 

@@ -3,11 +3,11 @@ use Rattle.std.specs.Prelude.{◌≡◌, Bool, true, false, List, [], ◌∷◌,
 use Rattle.std.proofs.Math.Path.{refl}
 use Rattle.std.proofs.Common.{sym, ap, ◌∙◌, arith}
 use Rattle.ground.specs.Truth.{and_left, and_right}
-use Rattle.paths.specs.Answers.{answer_of, in_range, number_of}
+use Rattle.paths.specs.Answers.{Range, answer_of, in_range, number_of}
 use Rattle.paths.specs.Checking.{accepts, checked_of}
 use Rattle.paths.specs.Laws.Answers.{asked_in_lem, in_asked, in_done, out_range}
 use Rattle.paths.specs.Paths.{Asked, Good, spread_of}
-use Rattle.paths.specs.Planning.{plan_of, planned, set_of}
+use Rattle.paths.specs.Planning.{nothing, plan_of, planned, set_of}
 use Rattle.paths.specs.Theorems.Checking.{accepts_good, good_accepts}
 use Rattle.paths.specs.Theorems.Planning.{none_says, plan_paths, says_none, sound, tightest_set}
 
@@ -42,9 +42,27 @@ module _ (delays : List ℕ) (k W : ℕ) where
     unfolding checked_of plan_of
     check_answers = refl
 
+    -- a refusal hands nothing else over, since under 4 no set is accepted
+    pub check_refused : (Asked delays k W → ⊥) → (checked_of delays k W set).accepted ≡ false
+    unfolding checked_of
+    check_refused never = go (in_range delays k W) refl
+      where
+        go : (b : Bool) → in_range delays k W ≡ b → (checked_of delays k W set).accepted ≡ false
+        go true e = absurd (never (in_asked delays k W e))
+        go false e = rw e
+
     pub check_numbers : number_of (checked_of delays k W set).answer ≡ number_of (answer_of delays k W)
     unfolding checked_of
     check_numbers = refl
+
+  -- and no candidate is named
+  pub plan_refused : (Asked delays k W → ⊥) → plan_of delays k W ≡ nothing Range
+  unfolding plan_of set_of answer_of
+  plan_refused never = go (in_range delays k W) refl
+    where
+      go : (b : Bool) → in_range delays k W ≡ b → plan_of delays k W ≡ nothing Range
+      go true e = absurd (never (in_asked delays k W e))
+      go false e = rw e
 
   out_none : in_range delays k W ≡ false → set_of delays k W ≡ []
   unfolding set_of

@@ -1,21 +1,17 @@
 -- Plans and checks (request 2026-09), whole: four candidates with delays 0, 100, 16 and 20. With W 20 the spread may be 4 frames, with W 19 it may be 3.
 use Rattle.std.specs.Prelude.{Bool, true, false, List, [], ◌∷◌, ◌++◌, ℕ, ◌-◌, length, replicate, take}
-use Rattle.paths.specs.Answers.{answer_of, number_of}
-use Rattle.paths.specs.Checking.{delays_apart, checked_of}
-use Rattle.paths.specs.declared.answers.Answer.{Answer}
-use Rattle.paths.specs.declared.answers.Answer.TheVariants.{Done, Range}
-use Rattle.paths.specs.declared.checking.Checked.{Checked}
-use Rattle.paths.specs.declared.planning.Proposal.{Proposal}
+use Rattle.paths.specs.Answers.{Answer, Done, Range, answer_of, number_of}
+use Rattle.paths.specs.Checking.{Checked, delays_apart, checked_of}
 use Rattle.paths.specs.Order.{ranks_of}
 use Rattle.paths.specs.Paths.{spread_of}
-use Rattle.paths.specs.Planning.{plan_of, set_of}
+use Rattle.paths.specs.Planning.{Plan, plan_of, set_of}
 use Rattle.pinned.specs.Opened.{all_open}
 use Rattle.tables.specs.Rows.{Pinned, pins, row, same}
 
 abbrev delays : List ℕ
 delays = 0 ∷ 100 ∷ 16 ∷ 20 ∷ []
 
-abbrev plan : List ℕ → Answer → Proposal
+abbrev plan : List ℕ → Answer → Plan
 plan paths answer = record { paths = paths ++ replicate (64 - length paths) 255; count = length paths; answer = answer }
 
 plans : Pinned

@@ -1,18 +1,25 @@
 -- The call meets its contract: what the planner refuses, then 9 for the buffer, and under 0 the plan's 65 bytes.
--- Each exit cites one law on an answer into a lent buffer (`lent_refused`, `lent_short`, `lent_done`), with the planner's number (`plan_number_lem`).
-use mathlib.Core.Path.{◌∙◌, ap}
-use Rattle.c_cards.specs.Plans.{plan_bytes_of}
-use Rattle.c_cards.proofs.Planning.{lent_done, lent_refused, lent_short, plan_number_lem}
+use Rattle.std.proofs.Common.{◌≡◌, ◌∙◌, sym, ap, ◌∷◌, arith}
+use Rattle.paths.specs.declared.planning.Proposal.{Proposal}
+use Rattle.paths.specs.Answers.{answer_of, number_of}
+use Rattle.paths.specs.Planning.{plan_of, proposal_in}
+use Rattle.paths.specs.Laws.Answers.{told_err, told_ok}
+use Rattle.c_cards.proofs.Planning.{lent_done, lent_refused, lent_short}
 use Rattle.c_cards.proofs.plans.levelspruce_paths_plan.Goals as goal
 
-pub returns-then-number-ne0 : goal.returns-then-number-ne0
-returns-then-number-ne0 c =
-    lent_refused _ _ 65 _ _ (plan_number_lem c.args.delays.now c.args.k c.args.window c.plan-proposal.result c.number-number.result c.number-number.ensures c.plan-proposal.ensures) c.if-number-ne0.true
+pub returns-in-Err : goal.returns-in-Err
+unfolding plan_of
+returns-in-Err c =
+    let four : number_of (answer_of c.args.delays.now c.args.k c.args.window) ≡ 4 = told_err _ _ c.in-Err.refusal (sym c.plan.ensures ∙ c.in-Err.is) in
+    lent_refused c.number.result _ 65 _ _ (c.number.ensures ∙ sym four) (omega arith)
 
 pub returns-then-plan-ne65 : goal.returns-then-plan-ne65
+unfolding plan_of
 returns-then-plan-ne65 c =
-    lent_short _ _ 65 _ _ (plan_number_lem c.args.delays.now c.args.k c.args.window c.plan-proposal.result c.number-number.result c.number-number.ensures c.plan-proposal.ensures) c.if-number-ne0.false c.if-plan-ne65.true
+    lent_short _ 65 _ _ (told_ok (answer_of c.args.delays.now c.args.k c.args.window) _ _ (sym c.plan.ensures ∙ c.in-Ok.is)).0 c.if-plan-ne65.true
 
 pub returns : goal.returns
+unfolding plan_of
 returns c =
-    lent_done _ _ 65 _ _ (plan_number_lem c.args.delays.now c.args.k c.args.window c.plan-proposal.result c.number-number.result c.number-number.ensures c.plan-proposal.ensures) c.if-number-ne0.false c.if-plan-ne65.false _ (c.put_plan.ensures ∙ ap plan_bytes_of c.plan-proposal.ensures)
+    let t = told_ok (answer_of c.args.delays.now c.args.k c.args.window) (proposal_in (plan_of c.args.delays.now c.args.k c.args.window)) c.in-Ok.proposal (sym c.plan.ensures ∙ c.in-Ok.is) in
+    lent_done _ 65 _ _ t.0 c.if-plan-ne65.false _ (c.put_plan.ensures ∙ ap (λ (p : Proposal). p.count ∷ p.paths) t.1)

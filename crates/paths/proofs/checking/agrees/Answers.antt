@@ -1,15 +1,15 @@
-use mathlib.Core.Path.{◌≡◌, refl}
-use native.Mathlib.Numerals.{add-one}
-use native.Mathlib.Omega.{arith}
-use Rattle.paths.specs.Checking.{agrees_with}
+use Rattle.std.proofs.Common.{rules, tests, ◌≡◌, ◌∙◌, take, arith}
+use Rattle.std.proofs.lemmas.Iterator.{YieldsList-from_slice}
+use Rattle.std.proofs.lemmas.Iterator.Search.{all_from_yields_List}
+use Rattle.std.specs.List.{list_all}
+use Rattle.paths.specs.Checking.{agree, agrees_with}
+use Rattle.paths.specs.Paths.{path_at}
+use Rattle.paths.proofs.Chains.{all_below}
 use Rattle.paths.proofs.checking.agrees.Goals as goal
-
-pub loop-b-init : goal.loop-b-init
-loop-b-init c = (omega arith, refl)
-
-pub loop-b-preserved : goal.loop-b-preserved
-loop-b-preserved c = (omega arith, rw (c.loop-b.invariant.1, c.do_agree-all.ensures, add-one))
 
 pub returns : goal.returns
 unfolding agrees_with
-returns c = let e : c.loop-b.b ≡ c.args.a = omega arith in rw e at c.loop-b.invariant.1
+returns c =
+    let chain : c.all.result ≡ list_all (λ o. agree c.args.delays.now c.args.room o (path_at c.args.set.now c.args.a)) (take c.args.a c.args.set.now) =
+    all_from_yields_List (λ o. agree c.args.delays.now c.args.room o (path_at c.args.set.now c.args.a)) _ _ c.all.result c.all.ensures.ran (YieldsList-from_slice (take c.args.a c.args.set.now) (search rules)) (λ x b q k. search (rules, tests)) in
+    chain ∙ all_below (λ o. agree c.args.delays.now c.args.room o (path_at c.args.set.now c.args.a)) c.args.set.now c.args.a (omega arith)

@@ -1,15 +1,27 @@
--- In range the answer is 0 with the check's own verdict (`check_done`), else 4 and not accepted (`check_range`).
--- In range W is 16 at least, so that W - 16 is right (`done_sizes`).
-use mathlib.Core.Path.{sym, ◌∙◌}
-use native.Mathlib.Omega.{arith}
-use Rattle.paths.proofs.Answering.{check_done, check_range, done_sizes}
+-- In range W is 16 at least, so that W - 16 is right.
+use Rattle.std.proofs.Common.{◌≡◌, true, arith, sym}
+use Rattle.std.proofs.lemmas.Result.{err_from_is_err_and}
+use Rattle.paths.proofs.Answering.{asked_in, asked_out, told_in, told_out}
+use Rattle.paths.specs.Answers.{in_range}
+use Rattle.paths.specs.Checking.{checked_of}
+use Rattle.paths.specs.Laws.Answers.{in_asked}
 use Rattle.paths.proofs.checking.check.Goals as goal
+use Rattle.paths.proofs.checking.check.Goals.{In_ok-asked}
+
+ranged : (c : In_ok-asked) → in_range c.args.delays.now c.args.k c.args.window ≡ true
+ranged c = asked_in c.args.delays.now c.args.k c.args.window c.asked.result tt c.asked.ensures c.in_ok-asked.was
 
 pub overflow_sub-window : goal.overflow_sub-window
-overflow_sub-window c = let z = done_sizes c.args.delays.now c.args.k c.args.window (sym c.in-Done.is ∙ c.answer_to.ensures) in omega arith
+overflow_sub-window c = let z = in_asked c.args.delays.now c.args.k c.args.window (ranged (goal.at.overflow_sub-window c).In_ok-asked) in omega arith
 
-pub returns-in-Done : goal.returns-in-Done
-returns-in-Done c = check_done c.args.delays.now c.args.k c.args.window c.answer_to.result c.answer_to.ensures c.in-Done.is c.args.set.now _ c.is_accepted.ensures
+pub returns : goal.returns
+unfolding checked_of
+returns c =
+    let i : in_range c.args.delays.now c.args.k c.args.window ≡ true = ranged (goal.at.returns c).In_ok-asked in
+    rw (c.is_accepted.ensures, i) (sym (told_in c.args.delays.now c.args.k c.args.window _ i))
 
-pub returns-in-Range : goal.returns-in-Range
-returns-in-Range c = check_range c.args.delays.now c.args.k c.args.window c.answer_to.result c.answer_to.ensures c.in-Range.is c.args.set.now
+pub returns-in_err-asked : goal.returns-in_err-asked
+unfolding checked_of
+returns-in_err-asked c =
+    let p = err_from_is_err_and c.from_residual.result c.from_residual.ensures.1 in
+    rw p.1 (sym (told_out c.args.delays.now c.args.k c.args.window _ (asked_out c.args.delays.now c.args.k c.args.window c.asked.result c.in_err-asked.field-0.0 c.asked.ensures c.in_err-asked.was)))

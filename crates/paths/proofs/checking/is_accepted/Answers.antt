@@ -1,21 +1,19 @@
-use mathlib.Core.Path.{◌≡◌, refl}
-use native.Mathlib.Numerals.{add-one}
-use native.Mathlib.Omega.{arith}
-use lib.ListN.{length}
-use borrow.Author.Tests.{eq-eqb, ne_eqb}
-use Rattle.paths.specs.Checking.{accepts}
+use Rattle.std.proofs.Common.{rules, tests, ◌≡◌, ◌-◌, ◌∙◌, refl, arith, eq-eqb, ne_eqb, length}
+use Rattle.std.proofs.lemmas.Iterator.{YieldsList-from_range}
+use Rattle.std.proofs.lemmas.Iterator.Search.{all_from_yields_List}
+use Rattle.std.specs.List.{list_all, range_with_len}
+use Rattle.paths.specs.Checking.{accepts, entry_fits}
+use Rattle.paths.proofs.Chains.{all_numbers}
 use Rattle.paths.proofs.checking.is_accepted.Goals as goal
 
 pub returns-then-set-k : goal.returns-then-set-k
 unfolding accepts
-returns-then-set-k c = rw (ne_eqb (length c.args.set.now) c.args.k c.if-set-k.true) refl
+returns-then-set-k c =
+    let whole : length c.args.set.now - 0 ≡ length c.args.set.now = omega arith in
+    let chain : c.all.result ≡ list_all (entry_fits c.args.delays.now c.args.set.now c.args.room) (range_with_len 0 (length c.args.set.now)) =
+    all_from_yields_List (entry_fits c.args.delays.now c.args.set.now c.args.room) _ _ c.all.result c.all.ensures.ran (YieldsList-from_range 0 (length c.args.set.now) (length c.args.set.now) refl whole) (λ x b q k. search (rules, tests)) in
+    rw (eq-eqb (length c.args.set.now) c.args.k c.if-set-k.true) (chain ∙ all_numbers (entry_fits c.args.delays.now c.args.set.now c.args.room) (length c.args.set.now))
 
-pub loop-a-init : goal.loop-a-init
-loop-a-init c = (omega arith, refl)
-
-pub loop-a-preserved : goal.loop-a-preserved
-loop-a-preserved c = (omega arith, rw (c.loop-a.invariant.1, c.is_named.ensures, c.agrees.ensures, add-one))
-
-pub returns : goal.returns
+pub returns-else-set-k : goal.returns-else-set-k
 unfolding accepts
-returns c = let e : c.loop-a.a ≡ length c.args.set.now = omega arith in rw (eq-eqb (length c.args.set.now) c.args.k c.if-set-k.false) (rw e at c.loop-a.invariant.1)
+returns-else-set-k c = rw (ne_eqb (length c.args.set.now) c.args.k c.if-set-k.false)

@@ -1,18 +1,30 @@
--- In range the answer is the proposal (`plan_done`), else 4 with no path (`plan_range`).
--- In range k is 1 to the number of delays, these are 64 at most, and W is 16 at least: all that the proposal requires (`done_sizes`).
-use mathlib.Core.Path.{sym, ◌∙◌}
-use native.Mathlib.Omega.{arith}
-use Rattle.paths.proofs.Answering.{done_sizes, plan_done, plan_range}
+-- In range k is 1 to the number of delays, these are 64 at most, and W is 16 at least: all that the proposal requires.
+use Rattle.std.proofs.Common.{◌≡◌, true, arith, sym}
+use Rattle.std.proofs.lemmas.Result.{err_from_is_err_and}
+use Rattle.paths.proofs.Answering.{asked_in, asked_out, plan_in, told_in, told_out}
+use Rattle.paths.specs.Answers.{in_range}
+use Rattle.paths.specs.Planning.{plan_of}
+use Rattle.paths.specs.Laws.Answers.{in_asked}
 use Rattle.paths.proofs.planning.plan.Goals as goal
+use Rattle.paths.proofs.planning.plan.Goals.{In_ok-asked}
+
+ranged : (c : In_ok-asked) → in_range c.args.delays.now c.args.k c.args.window ≡ true
+ranged c = asked_in c.args.delays.now c.args.k c.args.window c.asked.result tt c.asked.ensures c.in_ok-asked.was
 
 pub overflow_sub-window : goal.overflow_sub-window
-overflow_sub-window c = let z = done_sizes c.args.delays.now c.args.k c.args.window (sym c.in-Done.is ∙ c.answer_to.ensures) in omega arith
+overflow_sub-window c = let z = in_asked c.args.delays.now c.args.k c.args.window (ranged (goal.at.overflow_sub-window c).In_ok-asked) in omega arith
 
 pub proposed-requires : goal.proposed-requires
-proposed-requires c = let z = done_sizes c.args.delays.now c.args.k c.args.window (sym c.in-Done.is ∙ c.answer_to.ensures) in (z.few, z.one, z.enough)
+proposed-requires c = let z = in_asked c.args.delays.now c.args.k c.args.window (ranged (goal.at.proposed-requires c).In_ok-asked) in (z.few, z.one, z.enough)
 
-pub returns-in-Done : goal.returns-in-Done
-returns-in-Done c = plan_done c.args.delays.now c.args.k c.args.window c.answer_to.result c.answer_to.ensures c.in-Done.is _ c.proposed.ensures
+pub returns : goal.returns
+unfolding plan_of
+returns c =
+    let i : in_range c.args.delays.now c.args.k c.args.window ≡ true = ranged (goal.at.returns c).In_ok-asked in
+    rw (c.proposed.ensures, plan_in c.args.delays.now c.args.k c.args.window i) (sym (told_in c.args.delays.now c.args.k c.args.window _ i))
 
-pub returns-in-Range : goal.returns-in-Range
-returns-in-Range c = plan_range c.args.delays.now c.args.k c.args.window c.answer_to.result c.answer_to.ensures c.in-Range.is _ c.none_with.ensures
+pub returns-in_err-asked : goal.returns-in_err-asked
+unfolding plan_of
+returns-in_err-asked c =
+    let p = err_from_is_err_and c.from_residual.result c.from_residual.ensures.1 in
+    rw p.1 (sym (told_out c.args.delays.now c.args.k c.args.window _ (asked_out c.args.delays.now c.args.k c.args.window c.asked.result c.in_err-asked.field-0.0 c.asked.ensures c.in_err-asked.was)))
