@@ -1,4 +1,5 @@
 -- The pairs of a first line by their fields as they are read.
+use Rattle.std.specs.Prelude.{Option, Some, None}
 use mathlib.Core.Path.{◌≡◌, sym, ap, ◌∙◌}
 use mathlib.Core.Bool.{Bool, true, false, not, ◌&&◌}
 use mathlib.Core.List.{List}
@@ -12,8 +13,6 @@ use Rattle.recording.specs.declared.pairs.Timer.{Timer}
 use Rattle.recording.specs.declared.pairs.Timer.TheVariants.{HoldOff, Restore}
 use Rattle.recording.specs.Opening.{handed, opened, opened_by}
 use Rattle.recording.specs.Pairs.{awaiting, field_by, field_in, kind_named, kind_read, kind_to, named, settings_to, time_from, time_named, time_read, with_time}
-use Rattle.text.specs.declared.fields.Number.{Number}
-use Rattle.text.specs.declared.fields.Number.TheVariants.{Value, Unreadable}
 use Rattle.text.specs.Ascii.{ascii}
 use Rattle.text.specs.Fields.{same_bytes}
 
@@ -55,12 +54,12 @@ module _ (p : Pairs) (f : List ℕ) (a : Bool) (ea : a ≡ same_bytes f (ascii "
       unfolding kind_read
       kind_none t r h = rw (← ea, ta, ← eb, tb, ← ec, t) h
 
-module _ (p : Pairs) (t : Timer) (i : ℕ) (number : Number) where
-  pub time_none : number ≡ Unreadable → (r : Pairs) → r ≡ awaiting Nothing p → r ≡ time_read p t i number
+module _ (p : Pairs) (t : Timer) (i : ℕ) (number : Option ℕ) where
+  pub time_none : number ≡ None → (r : Pairs) → r ≡ awaiting Nothing p → r ≡ time_read p t i number
   unfolding time_read
   time_none e r h = rw e h
 
-  module _ (n : ℕ) (e : number ≡ Value n) (s : Settings) (a : Awaited) (r : Pairs) (h : r ≡ settings_to s a p) where
+  module _ (n : ℕ) (e : number ≡ Some n) (s : Settings) (a : Awaited) (r : Pairs) (h : r ≡ settings_to s a p) where
     pub time_value : s ≡ with_time p.settings t i n → a ≡ time_from t p.settings.ports (i + 1) → r ≡ time_read p t i number
     unfolding time_read
     time_value es ea = h ∙ rw (e, es, ea)

@@ -1,5 +1,5 @@
 -- The first line of a recording (2026-05): 'the group's settings in the first line'.
-use Rattle.std.specs.Prelude.{Bool, List, [], ◌∷◌, ℕ, ◌+◌, length, if◌then◌else◌}
+use Rattle.std.specs.Prelude.{Bool, List, [], ◌∷◌, ℕ, ◌+◌, length, if◌then◌else◌, Option, Some, None}
 use Rattle.ground.specs.Plain.{◌≤?◌}
 use Rattle.ground.specs.Types.{Bytes}
 use Rattle.recording.specs.declared.opening.First.{First}
@@ -14,8 +14,6 @@ use Rattle.recording.specs.declared.pairs.Pairs.{Pairs}
 use Rattle.recording.specs.declared.pairs.Settings as S
 use Rattle.recording.specs.Line.{MOST, first_line, found_of}
 use Rattle.recording.specs.Pairs.{first_pairs, pairs_from, plain_settings}
-use Rattle.text.specs.declared.fields.Number.{Number}
-use Rattle.text.specs.declared.fields.Number.TheVariants.{Value, Unreadable}
 use Rattle.text.specs.Fields.{number_of}
 use Rattle.text.specs.Text.{fields_of}
 
@@ -46,11 +44,11 @@ opened_by A.Nothing s next = Malformed
 unfoldable pub opened : Pairs → ℕ → Opening
 opened p next = opened_by p.awaited p.settings next
 
-unfoldable pub settings_by : (ports size window : Number) (pairs : List (List ℕ)) (next : ℕ) → Opening
-settings_by (Value ports) (Value size) (Value window) pairs next = opened (pairs_from (first_pairs ports size window) pairs) next
-settings_by (Value ports) (Value size) Unreadable pairs next = Malformed
-settings_by (Value ports) Unreadable window pairs next = Malformed
-settings_by Unreadable size window pairs next = Malformed
+unfoldable pub settings_by : (ports size window : Option ℕ) (pairs : List (List ℕ)) (next : ℕ) → Opening
+settings_by (Some ports) (Some size) (Some window) pairs next = opened (pairs_from (first_pairs ports size window) pairs) next
+settings_by (Some ports) (Some size) None pairs next = Malformed
+settings_by (Some ports) None window pairs next = Malformed
+settings_by None size window pairs next = Malformed
 
 -- ports, P and W in decimal, and the pairs
 abbrev pub opening_by : ℕ → List (List ℕ) → Opening

@@ -1,6 +1,6 @@
 -- Behind the three numbers of a first line stand pairs, each a name and what it says (2026-05), in any order, each at most once: `kind` with the group's
 -- kind (2026-12, 2026-01), `hold-off` and `wait-to-restore` (2026-03) with a number for each port. The fields are taken one after the other.
-use Rattle.std.specs.Prelude.{Bool, true, false, not, ◌&&◌, ◌||◌, List, [], ◌∷◌, ℕ, ◌+◌, replicate, set, if◌then◌else◌}
+use Rattle.std.specs.Prelude.{Bool, true, false, not, ◌&&◌, ◌||◌, List, [], ◌∷◌, ℕ, ◌+◌, replicate, set, if◌then◌else◌, Option, Some, None}
 use Rattle.ground.specs.Plain.{◌<?◌}
 use Rattle.ground.specs.Types.{Bytes}
 use Rattle.recording.specs.declared.pairs.Awaited.{Awaited}
@@ -10,8 +10,6 @@ use Rattle.recording.specs.declared.pairs.Settings.{Settings}
 use Rattle.recording.specs.declared.pairs.Timer.{Timer}
 use Rattle.recording.specs.declared.pairs.Timer.TheVariants.{HoldOff, Restore}
 use Rattle.packet.specs.Kinds.{fixed_kind, vc12_kind}
-use Rattle.text.specs.declared.fields.Number.{Number}
-use Rattle.text.specs.declared.fields.Number.TheVariants.{Value, Unreadable}
 use Rattle.text.specs.Ascii.{ascii}
 use Rattle.text.specs.Fields.{number_of, same_bytes}
 
@@ -94,9 +92,9 @@ kind_read p field =
     else if same_bytes field (ascii "VC12") then kind_to p vc12_kind
     else wrong_field p
 
-unfoldable pub time_read : (p : Pairs) (timer : Timer) (port : ℕ) (number : Number) → Pairs
-time_read p t i (Value n) = settings_to (with_time p.settings t i n) (time_from t p.settings.ports (i + 1)) p
-time_read p t i Unreadable = wrong_field p
+unfoldable pub time_read : (p : Pairs) (timer : Timer) (port : ℕ) (number : Option ℕ) → Pairs
+time_read p t i (Some n) = settings_to (with_time p.settings t i n) (time_from t p.settings.ports (i + 1)) p
+time_read p t i None = wrong_field p
 
 -- one field
 abbrev pub field_by : (awaited : Awaited) (p : Pairs) (field : Bytes) → Pairs

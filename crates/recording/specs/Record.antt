@@ -1,5 +1,5 @@
 -- A frame's line (2026-05): 'port, H4 in two hex digits, fail flag, payload in hex'.
-use Rattle.std.specs.Prelude.{◌≡◌, List, [], ◌∷◌, Bool, true, false, ◌&&◌, ℕ, ◌+◌, ◌-◌, ◌≤◌, length, if◌then◌else◌, ◌==◌}
+use Rattle.std.specs.Prelude.{◌≡◌, List, [], ◌∷◌, Bool, true, false, ◌&&◌, ℕ, ◌+◌, ◌-◌, ◌≤◌, length, if◌then◌else◌, ◌==◌, Option, Some, None}
 use Rattle.ground.specs.Plain.{◌<?◌, ◌≤?◌}
 use Rattle.ground.specs.Types.{Bytes}
 use Rattle.recording.specs.declared.record.Record.{Record}
@@ -7,8 +7,6 @@ use Rattle.recording.specs.declared.record.Record.TheVariants.{Frame, Malformed,
 use Rattle.recording.specs.declared.line.Found.{Found}
 use Rattle.recording.specs.declared.line.Found.TheVariants.{Nothing, Open, TooLong, Ends}
 use Rattle.recording.specs.Line.{MOST, first_line, found_of}
-use Rattle.text.specs.declared.fields.Number.{Number}
-use Rattle.text.specs.declared.fields.Number.TheVariants.{Value, Unreadable}
 use Rattle.text.specs.Ascii.{ascii}
 use Rattle.text.specs.Fields.{hex_of, is_hex, number_of, same_bytes}
 use Rattle.text.specs.Text.{fields_of}
@@ -18,11 +16,11 @@ unfoldable pub flag_in : Bytes → ℕ
 flag_in field = if same_bytes field (ascii "0") then 0 else if same_bytes field (ascii "1") then 1 else 2
 
 -- a port below the count, an H4 byte, a flag and the payload of P bytes
-unfoldable pub frame_by : (ports : ℕ) (port h4 : Number) (flag : ℕ) (payload : Bool) (place next : ℕ) → Record
-frame_by ports (Value port) (Value h4) flag payload place next =
+unfoldable pub frame_by : (ports : ℕ) (port h4 : Option ℕ) (flag : ℕ) (payload : Bool) (place next : ℕ) → Record
+frame_by ports (Some port) (Some h4) flag payload place next =
     if port <? ports && h4 <? 256 && flag <? 2 && payload then Frame port h4 flag place next else Malformed next
-frame_by ports (Value port) Unreadable flag payload place next = Malformed next
-frame_by ports Unreadable h4 flag payload place next = Malformed next
+frame_by ports (Some port) None flag payload place next = Malformed next
+frame_by ports None h4 flag payload place next = Malformed next
 
 -- four fields, the last of which ends at a place
 abbrev pub record_by : (ports size end next : ℕ) (fields : List (List ℕ)) → Record

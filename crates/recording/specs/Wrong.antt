@@ -1,22 +1,20 @@
 -- Wrong readings of 2026-05, each as a definition with a run on which it breaks what the request says.
-use Rattle.std.specs.Prelude.{◌≡◌, refl, List, [], ◌∷◌, ◌++◌, ℕ, replicate, take}
+use Rattle.std.specs.Prelude.{◌≡◌, refl, List, [], ◌∷◌, ◌++◌, ℕ, replicate, take, Option, Some}
 use Rattle.recording.specs.declared.pairs.Settings.{Settings}
 use Rattle.recording.specs.declared.record.Record.TheVariants.{Frame, Malformed}
 use Rattle.recording.specs.Opening.{Opening, line_opening, opening_by}
 use Rattle.recording.specs.Opening.{Opening as O}
 use Rattle.recording.specs.Record.{flag_in, line_record}
 use Rattle.text.specs.Ascii.{ascii}
-use Rattle.text.specs.declared.fields.Number.{Number}
-use Rattle.text.specs.declared.fields.Number.TheVariants.{Value}
 use Rattle.text.specs.Fields.{number_of}
 use Rattle.text.specs.Text.{fields_of}
 use Rattle.recording.specs.Opened.{recording_open}
 
 -- The flag as a number: then `00` is a flag, and 2 as well. The request has a flag, 0 or 1.
-wrong_flag : List ℕ → Number
+wrong_flag : List ℕ → Option ℕ
 wrong_flag field = number_of 9 field
 
-flag_breaks : (wrong_flag (ascii "00") ≡ Value 0) × (flag_in (ascii "00") ≡ 2) × (flag_in (ascii "1") ≡ 1)
+flag_breaks : (wrong_flag (ascii "00") ≡ Some 0) × (flag_in (ascii "00") ≡ 2) × (flag_in (ascii "1") ≡ 1)
 unfolding recording_open wrong_flag
 flag_breaks = (refl, refl, refl)
 

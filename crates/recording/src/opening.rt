@@ -8,7 +8,6 @@ ghost use Rattle.text.specs.Text.{fields_of};
 use crate::line::Found;
 use crate::pairs::{Awaited, Pairs, Settings};
 use crate::{line, pairs};
-use text::Number;
 
 #[derive(Clone, Copy)]
 pub enum FirstLine {
@@ -60,9 +59,9 @@ fn opened_by(pairs: Pairs, next: usize) -> First
 
 // The three numbers, and the pairs from `start` to `end`.
 fn settings_by(
-    ports: Number,
-    size: Number,
-    window: Number,
+    ports: Option<u32>,
+    size: Option<u32>,
+    window: Option<u32>,
     text: &[u8],
     start: usize,
     end: usize,
@@ -71,13 +70,13 @@ fn settings_by(
     requires { end ≤ length text.now }
     ensures { result ≡ handed (settings_by ports size window (fields_from start end text.now) next) }
 {
-    let Number::Value(n) = ports else {
+    let Some(n) = ports else {
         return none(FirstLine::Malformed);
     };
-    let Number::Value(p) = size else {
+    let Some(p) = size else {
         return none(FirstLine::Malformed);
     };
-    let Number::Value(w) = window else {
+    let Some(w) = window else {
         return none(FirstLine::Malformed);
     };
     let first = pairs::no_pairs(n, p, w);

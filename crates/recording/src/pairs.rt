@@ -5,7 +5,6 @@ ghost use Rattle.recording.specs.Laws.Pairs.{fields_from};
 ghost use Rattle.recording.specs.Pairs.{awaiting, count_put, field_in, first_pairs, is_hold, kind_named, kind_read, kind_to, named, pairs_from, plain_settings, settings_to, time_from, time_named, time_read, with_time};
 
 use packet::kinds;
-use text::Number;
 
 // A group's settings. hold_off, restore: the number of each port.
 #[derive(Clone, Copy)]
@@ -228,10 +227,10 @@ fn with_time(settings: Settings, timer: Timer, i: u32, n: u32) -> Settings
     }
 }
 
-fn read_time(pairs: Pairs, timer: Timer, i: u32, number: Number) -> Pairs
+fn read_time(pairs: Pairs, timer: Timer, i: u32, number: Option<u32>) -> Pairs
     ensures { result ≡ time_read pairs timer i number }
 {
-    let Number::Value(n) = number else {
+    let Some(n) = number else {
         return awaits(pairs, Awaited::Nothing);
     };
     let before = pairs.settings;

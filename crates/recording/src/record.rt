@@ -7,7 +7,6 @@ ghost use Rattle.text.specs.Text.{fields_of};
 
 use crate::line;
 use crate::line::Found;
-use text::Number;
 
 // What stands at a place of a recording.
 #[derive(Clone, Copy)]
@@ -43,8 +42,8 @@ fn flag_in(text: &[u8], at: usize, limit: usize) -> u8
 // A frame by its fields as they are read.
 fn frame_by(
     ports: u32,
-    port: Number,
-    h4: Number,
+    port: Option<u32>,
+    h4: Option<u32>,
     flag: u8,
     payload: bool,
     place: usize,
@@ -52,10 +51,10 @@ fn frame_by(
 ) -> Record
     ensures { result ≡ frame_by ports port h4 flag payload place next }
 {
-    let Number::Value(p) = port else {
+    let Some(p) = port else {
         return Record::Malformed(next);
     };
-    let Number::Value(h) = h4 else {
+    let Some(h) = h4 else {
         return Record::Malformed(next);
     };
     if (p < ports) & (h < 256) & (flag < 2) & payload {

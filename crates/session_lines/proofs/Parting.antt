@@ -1,4 +1,5 @@
 -- The fields of a part of a text, one by one.
+use Rattle.std.specs.Prelude.{Option}
 use mathlib.Core.Path.{◌≡◌, refl, sym, ap, ◌∙◌}
 use mathlib.Core.Bool.{Bool, true, false, cond}
 use mathlib.Core.List.{List, [], ◌∷◌}
@@ -9,7 +10,6 @@ use lib.ListN.{length, take}
 use lib.Seq.{slice, length-slice}
 use borrow.Author.Tests.{le-leb, lt-leb}
 use Rattle.ground.specs.Finding.{index_of}
-use Rattle.text.specs.declared.fields.Number.{Number}
 use Rattle.text.specs.Fields.{same_bytes}
 use Rattle.text.specs.Laws.Slices.{end_le, fields_last, fields_more, slice_end, slice_none}
 use Rattle.text.specs.Text.{TAB, ahead, fields_of, parted}
@@ -47,7 +47,7 @@ module _ (l : List ℕ) (at first second third end : ℕ) (h : second < end) (k 
       other_word w = rw (fields_more l (second + 1) end third (omega arith) k e b, fields_last l (third + 1) end fourth (omega arith) k f n, w)
 
       pub report_word : same_bytes (slice at first l) REPORT ≡ true
-          → (x y z : Number) → x ≡ number_of (slice (first + 1) second l) → y ≡ hex_of (slice (second + 1) third l) → z ≡ number_of (slice (third + 1) end l)
+          → (x y z : Option ℕ) → x ≡ number_of (slice (first + 1) second l) → y ≡ hex_of (slice (second + 1) third l) → z ≡ number_of (slice (third + 1) end l)
           → report_read x y z ≡ meaning_of (slice at first l ∷ slice (first + 1) second l ∷ fields_of (slice (second + 1) end l))
       unfolding report_line
       report_word w x y z p q r =
@@ -55,7 +55,7 @@ module _ (l : List ℕ) (at first second third end : ℕ) (h : second < end) (k 
 
 -- a word and a field or more behind it
 module _ (l : List ℕ) (at first second end : ℕ) (h : first < end) (k : end ≤ length l) (e : second ≡ first + 1 + index_of TAB (slice (first + 1) end l)) where
-  pub two : end ≤ second → (n : Number) → n ≡ number_of (slice (first + 1) end l) → number_line (slice at first l) n ≡ meaning_of (slice at first l ∷ fields_of (slice (first + 1) end l))
+  pub two : end ≤ second → (n : Option ℕ) → n ≡ number_of (slice (first + 1) end l) → number_line (slice at first l) n ≡ meaning_of (slice at first l ∷ fields_of (slice (first + 1) end l))
   two b n f = rw (fields_last l (first + 1) end second (omega arith) k e b, f)
 
   pub more : second < end → meaning_of (slice at first l ∷ slice (first + 1) second l ∷ fields_of (slice (second + 1) end l)) ≡ meaning_of (slice at first l ∷ fields_of (slice (first + 1) end l))

@@ -1,4 +1,5 @@
 -- What the lines say, by the fields that are read.
+use Rattle.std.specs.Prelude.{Option, Some, None}
 use mathlib.Core.Path.{◌≡◌}
 use mathlib.Core.Bool.{true, false, ◌&&◌}
 use mathlib.Core.List.{List}
@@ -6,8 +7,6 @@ use Prim.Native.Nat.{ℕ, ◌<◌}
 use lib.Dec.{ltb}
 use borrow.Author.Tests.{ltb-true}
 use Rattle.ground.specs.Truth.{and_left, and_right}
-use Rattle.text.specs.declared.fields.Number.{Number}
-use Rattle.text.specs.declared.fields.Number.TheVariants.{Value, Unreadable}
 use Rattle.text.specs.Fields.{same_bytes}
 use Rattle.session_lines.specs.declared.line.Line.TheVariants.{Size, Add, Remove, Report, Malformed}
 use Rattle.session_lines.specs.Line.{ADD, REMOVE, SIZE, number_line, report_read}
@@ -18,19 +17,19 @@ bounded e m a h =
     (ltb-true e 256 (and_left (ltb e 256) (ltb m 256) k), ltb-true m 256 (and_right (ltb e 256) (ltb m 256) k), ltb-true a 2 (and_right (ltb e 256 && ltb m 256) (ltb a 2) h))
 
 -- a report whose fields are not all read
-pub unread_epoch : (e m a : Number) → e ≡ Unreadable → Malformed ≡ report_read e m a
+pub unread_epoch : (e m a : Option ℕ) → e ≡ None → Malformed ≡ report_read e m a
 unfolding report_read
 unread_epoch e m a h = rw h
 
-pub unread_mst : (e m a : Number) (x : ℕ) → e ≡ Value x → m ≡ Unreadable → Malformed ≡ report_read e m a
+pub unread_mst : (e m a : Option ℕ) (x : ℕ) → e ≡ Some x → m ≡ None → Malformed ≡ report_read e m a
 unfolding report_read
 unread_mst e m a x h k = rw (h, k)
 
-pub unread_ack : (e m a : Number) (x y : ℕ) → e ≡ Value x → m ≡ Value y → a ≡ Unreadable → Malformed ≡ report_read e m a
+pub unread_ack : (e m a : Option ℕ) (x y : ℕ) → e ≡ Some x → m ≡ Some y → a ≡ None → Malformed ≡ report_read e m a
 unfolding report_read
 unread_ack e m a x y h k n = rw (h, k, n)
 
-module _ (e m a : Number) (x y z : ℕ) (h : e ≡ Value x) (k : m ≡ Value y) (n : a ≡ Value z) where
+module _ (e m a : Option ℕ) (x y z : ℕ) (h : e ≡ Some x) (k : m ≡ Some y) (n : a ≡ Some z) where
   pub read_report : (ltb x 256 && ltb y 256 && ltb z 2) ≡ true → Report x y z ≡ report_read e m a
   unfolding report_read
   read_report t = rw (h, k, n, t)
@@ -40,11 +39,11 @@ module _ (e m a : Number) (x y z : ℕ) (h : e ≡ Value x) (k : m ≡ Value y) 
   refused_report t = rw (h, k, n, t)
 
 -- a word and a number
-pub unread_number : (w : List ℕ) (n : Number) → n ≡ Unreadable → Malformed ≡ number_line w n
+pub unread_number : (w : List ℕ) (n : Option ℕ) → n ≡ None → Malformed ≡ number_line w n
 unfolding number_line
 unread_number w n h = rw h
 
-module _ (w : List ℕ) (n : Number) (x : ℕ) (h : n ≡ Value x) where
+module _ (w : List ℕ) (n : Option ℕ) (x : ℕ) (h : n ≡ Some x) where
   pub size_line : same_bytes w SIZE ≡ true → Size x ≡ number_line w n
   unfolding number_line
   size_line s = rw (h, s)

@@ -1,9 +1,7 @@
 -- What a line means (01, 'Session').
-use Rattle.std.specs.Prelude.{◌&&◌, List, [], ◌∷◌, ℕ, length, if◌then◌else◌}
+use Rattle.std.specs.Prelude.{◌&&◌, List, [], ◌∷◌, ℕ, length, if◌then◌else◌, Option, Some, None}
 use Rattle.ground.specs.Plain.{◌<?◌, ◌≤?◌}
 use Rattle.ground.specs.Types.{Bytes}
-use Rattle.text.specs.declared.fields.Number.{Number}
-use Rattle.text.specs.declared.fields.Number.TheVariants.{Value, Unreadable}
 use Rattle.session_lines.specs.declared.line.Line.{Line}
 use Rattle.session_lines.specs.declared.line.Line.TheVariants.{Size, Add, Remove, Report, Lapse, Board, Malformed}
 use Rattle.text.specs.Ascii.{ascii}
@@ -30,11 +28,11 @@ abbrev pub BOARD : List ℕ
 BOARD = ascii "board"
 
 -- 'Numbers have one to three decimal digits'
-abbrev pub number_of : Bytes → Number
+abbrev pub number_of : Bytes → Option ℕ
 number_of field = F.number_of 3 field
 
 -- 'two hex digits'
-abbrev pub hex_of : Bytes → Number
+abbrev pub hex_of : Bytes → Option ℕ
 hex_of field = F.hex_of 2 field
 
 -- a line of one field
@@ -42,18 +40,18 @@ unfoldable pub word_line : List ℕ → Line
 word_line word = if same_bytes word LAPSE then Lapse else if same_bytes word BOARD then Board else Malformed
 
 -- a line of a word and a number
-unfoldable pub number_line : List ℕ → Number → Line
-number_line word (Value n) = if same_bytes word SIZE then Size n else if same_bytes word ADD then Add n else if same_bytes word REMOVE then Remove n else Malformed
-number_line word Unreadable = Malformed
+unfoldable pub number_line : List ℕ → Option ℕ → Line
+number_line word (Some n) = if same_bytes word SIZE then Size n else if same_bytes word ADD then Add n else if same_bytes word REMOVE then Remove n else Malformed
+number_line word None = Malformed
 
 -- 'an epoch above 255 or an RS-Ack other than 0 or 1 is malformed'
-unfoldable pub report_read : (epoch mst ack : Number) → Line
-report_read (Value epoch) (Value mst) (Value ack) = if epoch <? 256 && mst <? 256 && ack <? 2 then Report epoch mst ack else Malformed
-report_read (Value epoch) (Value mst) Unreadable = Malformed
-report_read (Value epoch) Unreadable ack = Malformed
-report_read Unreadable mst ack = Malformed
+unfoldable pub report_read : (epoch mst ack : Option ℕ) → Line
+report_read (Some epoch) (Some mst) (Some ack) = if epoch <? 256 && mst <? 256 && ack <? 2 then Report epoch mst ack else Malformed
+report_read (Some epoch) (Some mst) None = Malformed
+report_read (Some epoch) None ack = Malformed
+report_read None mst ack = Malformed
 
-unfoldable pub report_line : (word : List ℕ) (epoch mst ack : Number) → Line
+unfoldable pub report_line : (word : List ℕ) (epoch mst ack : Option ℕ) → Line
 report_line word epoch mst ack = if same_bytes word REPORT then report_read epoch mst ack else Malformed
 
 -- by the number of fields

@@ -1,10 +1,8 @@
 -- Wrong readings of 01, each as a definition with a run on which it breaks what 01 says.
-use Rattle.std.specs.Prelude.{◌≡◌, refl, List, ℕ, if◌then◌else◌}
+use Rattle.std.specs.Prelude.{◌≡◌, refl, List, ℕ, if◌then◌else◌, Option, Some, None}
 use Rattle.ground.specs.Plain.{◌<?◌}
 use Rattle.sender.specs.declared.table.Table.{Table}
 use Rattle.sender.specs.Commands.{fresh_of, start_of}
-use Rattle.text.specs.declared.fields.Number.{Number}
-use Rattle.text.specs.declared.fields.Number.TheVariants.{Value, Unreadable}
 use Rattle.session_lines.specs.declared.replies.Reply.{Reply}
 use Rattle.session_lines.specs.Line.{number_of}
 use Rattle.session_lines.specs.Replies.{replied_of, size_reply}
@@ -12,14 +10,14 @@ use Rattle.text.specs.Ascii.{ascii}
 use Rattle.session_lines.specs.Opened.{console_open}
 
 -- A number that does not fit a byte as malformed. 'Numbers have one to three decimal digits': `size 256` is refused by its range, with 4.
-wrong_byte : Number → Number
-wrong_byte (Value n) = if n <? 256 then Value n else Unreadable
-wrong_byte Unreadable = Unreadable
+wrong_byte : Option ℕ → Option ℕ
+wrong_byte (Some n) = if n <? 256 then Some n else None
+wrong_byte None = None
 
-wrong_number : List ℕ → Number
+wrong_number : List ℕ → Option ℕ
 wrong_number field = wrong_byte (number_of field)
 
-number_breaks : (wrong_number (ascii "256") ≡ Unreadable) × (number_of (ascii "256") ≡ Value 256)
+number_breaks : (wrong_number (ascii "256") ≡ None) × (number_of (ascii "256") ≡ Some 256)
 unfolding console_open wrong_number wrong_byte
 number_breaks = (refl, refl)
 

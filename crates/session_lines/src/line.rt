@@ -4,8 +4,6 @@ ghost use Rattle.std.proofs.Math.Seq.{slice};
 ghost use Rattle.session_lines.specs.Line.{line_of, meaning_of, number_line, report_read, word_line};
 ghost use Rattle.text.specs.Text.{fields_of};
 
-use text::Number;
-
 #[derive(Clone, Copy)]
 pub enum Line {
     Size(u32),
@@ -33,10 +31,10 @@ fn word_line(text: &[u8], at: usize, end: usize) -> Line
 }
 
 // A line of a word, which lies from `at` to `end`, and a number.
-fn number_line(text: &[u8], at: usize, end: usize, number: Number) -> Line
+fn number_line(text: &[u8], at: usize, end: usize, number: Option<u32>) -> Line
     ensures { result ≡ number_line (slice at end text.now) number }
 {
-    let Number::Value(n) = number else {
+    let Some(n) = number else {
         return Line::Malformed;
     };
     if text::same(text, at, end, b"size") {
@@ -51,16 +49,16 @@ fn number_line(text: &[u8], at: usize, end: usize, number: Number) -> Line
     Line::Malformed
 }
 
-fn report_of(epoch: Number, mst: Number, ack: Number) -> Line
+fn report_of(epoch: Option<u32>, mst: Option<u32>, ack: Option<u32>) -> Line
     ensures { result ≡ report_read epoch mst ack }
 {
-    let Number::Value(e) = epoch else {
+    let Some(e) = epoch else {
         return Line::Malformed;
     };
-    let Number::Value(m) = mst else {
+    let Some(m) = mst else {
         return Line::Malformed;
     };
-    let Number::Value(a) = ack else {
+    let Some(a) = ack else {
         return Line::Malformed;
     };
     if (e < 256) & (m < 256) & (a < 2) {

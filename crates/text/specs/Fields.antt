@@ -1,10 +1,8 @@
 -- What a field says.
-use Rattle.std.specs.Prelude.{Bool, true, ◌&&◌, List, [], ◌∷◌, ℕ, ◌+◌, ◌-◌, ◌*◌, length, if◌then◌else◌, ◌==◌}
+use Rattle.std.specs.Prelude.{Bool, true, ◌&&◌, List, [], ◌∷◌, ℕ, ◌+◌, ◌-◌, ◌*◌, length, if◌then◌else◌, ◌==◌, Option, Some, None}
 pub use Rattle.ground.specs.Finite.{same_bytes}
 use Rattle.ground.specs.Plain.{◌<?◌, ◌≤?◌}
 use Rattle.ground.specs.Types.{Bytes}
-use Rattle.text.specs.declared.fields.Number.{Number}
-use Rattle.text.specs.declared.fields.Number.TheVariants.{Value, Unreadable}
 
 -- the value of a digit in ASCII, 0 to 9 and A to F, 'either case'; 16 for any other byte
 unfoldable pub digit_of : ℕ → ℕ
@@ -21,14 +19,14 @@ value_of base n [] = n
 value_of base n (b ∷ digits) = value_of base (n * base + digit_of b) digits
 
 -- a number of one decimal digit or more, at most so many, and nine at the very most
-unfoldable pub number_of : ℕ → Bytes → Number
+unfoldable pub number_of : ℕ → Bytes → Option ℕ
 number_of most field =
-    if 0 <? length field && length field ≤? most && length field ≤? 9 && are_digits 10 field then Value (value_of 10 0 field) else Unreadable
+    if 0 <? length field && length field ≤? most && length field ≤? 9 && are_digits 10 field then Some (value_of 10 0 field) else None
 
 -- a number of exactly so many hex digits, one to eight
-unfoldable pub hex_of : ℕ → Bytes → Number
+unfoldable pub hex_of : ℕ → Bytes → Option ℕ
 hex_of digits field =
-    if 0 <? length field && length field == digits && length field ≤? 8 && are_digits 16 field then Value (value_of 16 0 field) else Unreadable
+    if 0 <? length field && length field == digits && length field ≤? 8 && are_digits 16 field then Some (value_of 16 0 field) else None
 
 -- whether a field is exactly so many hex digits
 unfoldable pub is_hex : ℕ → Bytes → Bool

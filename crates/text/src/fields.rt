@@ -1,65 +1,56 @@
 // The fields of a line, each read in a lent text from a place up to a limit, which may lie past the text's end.
-ghost use Rattle.std.specs.Prelude.{◌≡◌, true, ◌+◌, ◌^◌, ◌≤◌, ◌<◌, length, take};
+ghost use Rattle.std.specs.Prelude.{◌≡◌, true, ◌+◌, ◌^◌, ◌≤◌, ◌<◌, ◌==◌, length, take, Some, None, if◌then◌else◌, position};
 ghost use Rattle.std.proofs.Math.Seq.{slice};
 ghost use Rattle.ground.specs.Plain.{◌<?◌};
 ghost use Rattle.ground.specs.Finding.{index_of};
 ghost use Rattle.text.specs.Fields.{are_digits, digit_of, hex_of, number_of, same_bytes, value_of};
 
-#[derive(Clone, Copy)]
-pub enum Number {
-    Value(u32),
-    Unreadable,
-}
-
 // The limit, or the text's end if that comes first.
 pub fn end_of(text: &[u8], limit: usize) -> usize
     ensures { result ≡ length (take limit text.now) }
 {
-    if limit < text.len() {
-        limit
-    } else {
-        text.len()
+    limit.min(text.len())
+}
+
+// The field's bytes; none where its place lies behind its limit.
+pub(crate) fn field(text: &[u8], at: usize, limit: usize) -> &[u8]
+    ensures { result.now ≡ slice at limit text.now }
+{
+    let end = end_of(text, limit);
+    if end < at {
+        return &[];
     }
+    &text[at..end]
+}
+
+fn first(bytes: &[u8], mark: u8) -> Option<usize>
+    ensures { result ≡ position (λ byte. byte == mark) bytes.now }
+{
+    bytes.iter().position(|byte| *byte == mark)
 }
 
 // Where the piece that begins at `at` ends: at the first mark, or at the limit.
 pub fn piece_end(text: &[u8], at: usize, limit: usize, mark: u8) -> usize
     ensures { result ≡ at + index_of mark (slice at limit text.now) }
 {
-    let end = end_of(text, limit);
-    let mut i = at;
-    while i < end {
-        if text[i] == mark {
-            return i;
-        }
-        i += 1;
-    }
-    i
-}
-
-// How many bytes the field has.
-pub(crate) fn field_size(text: &[u8], at: usize, limit: usize) -> usize
-    ensures { result ≡ length (slice at limit text.now) }
-{
-    let end = end_of(text, limit);
-    if end < at {
-        return 0;
-    }
-    end - at
+    let rest = field(text, at, limit);
+    at + first(rest, mark).unwrap_or(rest.len())
 }
 
 // Whether a byte is a digit below the base. Digits of a payload come by chance, and a branch on them would be guessed wrong every third time: no
 // branch goes by them here, nor in their value.
+#[tactic(auto, using(crate::specs::Laws::Digits::digit_below))]
 fn is_digit(byte: u8, base: u8) -> bool
     requires { base ≤ 16 }
     ensures { result ≡ (digit_of byte <? base) }
 {
-    ((48 <= byte) & (byte <= 57) & (byte < 48 + base))
-        | ((65 <= byte) & (byte <= 70) & (byte < 55 + base))
-        | ((97 <= byte) & (byte <= 102) & (byte < 87 + base))
+    ((b'0' <= byte) & (byte <= b'9') & (byte < b'0' + base))
+        | ((b'A' <= byte) & (byte <= b'F') & (byte < b'A' - 10 + base))
+        | ((b'a' <= byte) & (byte <= b'f') & (byte < b'a' - 10 + base))
 }
 
 // The value of a digit: its low four bits, and nine more for a letter.
+#[tactic(auto, using(crate::specs::Laws::Digits::digit_value))]
 pub(crate) fn digit_of(byte: u8) -> u8
     requires { digit_of byte < 16 }
     ensures { result ≡ digit_of byte }
@@ -67,107 +58,65 @@ pub(crate) fn digit_of(byte: u8) -> u8
     byte % 16 + byte / 64 * 9
 }
 
-// Whether the field has digits below the base alone.
-pub(crate) fn are_digits(text: &[u8], at: usize, limit: usize, base: u8) -> bool
+// Whether there are digits below the base alone.
+pub(crate) fn are_digits(digits: &[u8], base: u8) -> bool
     requires { base ≤ 16 }
-    ensures { result ≡ are_digits base (slice at limit text.now) }
+    ensures { result ≡ are_digits base digits.now }
 {
-    let count = field_size(text, at, limit);
     let mut good = true;
-    let mut i = 0;
-    while i < count {
-        good = good & is_digit(text[at + i], base);
-        i += 1;
+    for byte in digits {
+        good &= is_digit(*byte, base);
     }
     good
 }
 
 // Digits by value, so few of them that it fits.
-fn value_of(text: &[u8], at: usize, limit: usize, base: u8) -> u32
-    requires { (are_digits base (slice at limit text.now) ≡ true) × (0 < base) × (base ^ length (slice at limit text.now) ≤ 4294967296) × (base ≤ 16) }
-    ensures { result ≡ value_of base 0 (slice at limit text.now) }
+fn value_of(digits: &[u8], base: u8) -> u32
+    requires { (are_digits base digits.now ≡ true) × (0 < base) × (base ^ length digits.now ≤ 4294967296) × (base ≤ 16) }
+    ensures { result ≡ value_of base 0 digits.now }
 {
-    let count = field_size(text, at, limit);
-    let mut value = 0u32;
-    let mut i = 0;
-    while i < count {
-        let digit = digit_of(text[at + i]);
-        value = value * wide(base) + wide(digit);
-        i += 1;
+    let mut value = 0;
+    for byte in digits {
+        value = value * u32::from(base) + u32::from(digit_of(*byte));
     }
     value
 }
 
-fn wide(n: u8) -> u32
-    ensures { result ≡ n }
+// Digits below the base by value, where there are no others.
+fn read_digits(digits: &[u8], base: u8) -> Option<u32>
+    requires { (0 < base) × (base ^ length digits.now ≤ 4294967296) × (base ≤ 16) }
+    ensures { result ≡ (if are_digits base digits.now then Some (value_of base 0 digits.now) else None) }
 {
-    n as u32
+    are_digits(digits, base).then(|| value_of(digits, base))
 }
 
 // A number of one to `most` decimal digits, and never more than nine.
-pub fn read_number(text: &[u8], at: usize, limit: usize, most: usize) -> Number
+#[tactic(auto, unfolding(crate::specs::Fields::number_of))]
+pub fn read_number(text: &[u8], at: usize, limit: usize, most: usize) -> Option<u32>
     ensures { result ≡ number_of most (slice at limit text.now) }
 {
-    let count = field_size(text, at, limit);
-    if count == 0 {
-        return Number::Unreadable;
+    let digits = field(text, at, limit);
+    if digits.is_empty() || most < digits.len() || 9 < digits.len() {
+        return None;
     }
-    if most < count {
-        return Number::Unreadable;
-    }
-    if 9 < count {
-        return Number::Unreadable;
-    }
-    if are_digits(text, at, limit, 10) {
-        return Number::Value(value_of(text, at, limit, 10));
-    }
-    Number::Unreadable
+    read_digits(digits, 10)
 }
 
 // A number of that many hex digits, one to eight.
-pub fn read_hex(text: &[u8], at: usize, limit: usize, digits: usize) -> Number
+#[tactic(auto, unfolding(crate::specs::Fields::hex_of))]
+pub fn read_hex(text: &[u8], at: usize, limit: usize, digits: usize) -> Option<u32>
     ensures { result ≡ hex_of digits (slice at limit text.now) }
 {
-    let count = field_size(text, at, limit);
-    if count == 0 {
-        return Number::Unreadable;
+    let found = field(text, at, limit);
+    if found.is_empty() || 8 < found.len() || found.len() != digits {
+        return None;
     }
-    if count != digits {
-        return Number::Unreadable;
-    }
-    if 8 < count {
-        return Number::Unreadable;
-    }
-    if are_digits(text, at, limit, 16) {
-        return Number::Value(value_of(text, at, limit, 16));
-    }
-    Number::Unreadable
-}
-
-// Whether a word stands in a text at a place.
-fn agrees(text: &[u8], at: usize, word: &[u8]) -> bool
-    requires { at + length word.now ≤ length text.now }
-    ensures { result ≡ same_bytes (slice at (at + length word.now) text.now) word.now }
-{
-    let mut r = true;
-    let mut i = 0;
-    while i < word.len() {
-        r = r & (text[at + i] == word[i]);
-        i += 1;
-    }
-    r
+    read_digits(found, 16)
 }
 
 // Whether the field is the given word.
 pub fn same(text: &[u8], at: usize, limit: usize, word: &[u8]) -> bool
     ensures { result ≡ same_bytes (slice at limit text.now) word.now }
 {
-    let end = end_of(text, limit);
-    if end < at {
-        return word.len() == 0;
-    }
-    if end - at != word.len() {
-        return false;
-    }
-    agrees(text, at, word)
+    field(text, at, limit) == word
 }

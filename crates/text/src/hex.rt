@@ -1,18 +1,17 @@
 // Fields of hex digits, two for each byte.
 ghost use Rattle.std.specs.Prelude.{◌≡◌, true, ◌+◌, ◌*◌, ◌<◌, length};
 ghost use Rattle.std.proofs.Math.Seq.{slice};
-ghost use Rattle.text.specs.Fields.{bytes_in, bytes_of, digit_of, is_hex};
+ghost use Rattle.text.specs.Fields.{are_digits, bytes_in, bytes_of, digit_of, is_hex};
 
 use crate::fields;
 
 // Whether the field is that many hex digits.
+#[tactic(auto, unfolding(crate::specs::Fields::is_hex))]
 pub fn is_hex(text: &[u8], at: usize, limit: usize, digits: usize) -> bool
     ensures { result ≡ is_hex digits (slice at limit text.now) }
 {
-    if fields::field_size(text, at, limit) != digits {
-        return false;
-    }
-    fields::are_digits(text, at, limit, 16)
+    let field = fields::field(text, at, limit);
+    field.len() == digits && fields::are_digits(field, 16)
 }
 
 // A byte by its two digits.
@@ -23,25 +22,23 @@ fn byte_of(high: u8, low: u8) -> u8
     fields::digit_of(high) * 16 + fields::digit_of(low)
 }
 
-fn fill(text: &[u8], at: usize, limit: usize, out: &mut [u8])
-    requires { is_hex (2 * length out.old) (slice at limit text.now) ≡ true }
-    ensures { out.new ≡ bytes_of (slice at limit text.now) }
+fn fill(digits: &[u8], out: &mut [u8])
+    requires { (length digits.now ≡ 2 * length out.old) × (are_digits 16 digits.now ≡ true) }
+    ensures { out.new ≡ bytes_of digits.now }
 {
-    let mut i = 0;
-    while i < out.len() {
-        let place = at + 2 * i;
-        out[i] = byte_of(text[place], text[place + 1]);
-        i += 1;
+    for (i, byte) in out.iter_mut().enumerate() {
+        *byte = byte_of(digits[2 * i], digits[2 * i + 1]);
     }
 }
 
 // The bytes that a field of hex digits stands for, two digits for each byte of the lent slice; where it is no such field nothing is written.
+#[tactic(auto, unfolding(crate::specs::Fields::bytes_in, crate::specs::Fields::is_hex))]
 pub fn read_bytes(text: &[u8], at: usize, limit: usize, out: &mut [u8]) -> bool
     ensures { (result ≡ is_hex (2 * length out.old) (slice at limit text.now)) × (out.new ≡ bytes_in (slice at limit text.now) out.old) }
 {
     let is = is_hex(text, at, limit, 2 * out.len());
     if is {
-        fill(text, at, limit, out);
+        fill(fields::field(text, at, limit), out);
     }
     is
 }

@@ -1,108 +1,69 @@
 // Texts, numbers and words put one behind the other into a lent buffer. Each gives the place where the next one goes; where one does not
 // fit nothing is written and that place is its own.
-ghost use Rattle.std.specs.Prelude.{◌≡◌, ◌+◌, ◌%◌, ◌≤◌, drop, length};
+ghost use Rattle.std.specs.Prelude.{◌≡◌, ◌+◌, ◌%◌, ◌≤◌, drop, length, slice_index};
 ghost use Rattle.text.specs.Output.{Put, decimal_text, ended, number_text, put_bytes, put_next, word_text};
 ghost use Rattle.text.specs.Text.{TAB};
 
 use packet::Word;
 
-// A text at a place of the buffer where it fits.
-fn copy(text: &[u8], out: &mut [u8], at: usize) -> usize
-    requires { at + length text.now ≤ length out.old }
-    ensures { Put text.now at out.old result out.new }
-{
-    let mut i = 0;
-    while i < text.len() {
-        out[at + i] = text[i];
-        i += 1;
-    }
-    at + text.len()
-}
-
+#[tactic(auto, unfolding(crate::specs::Output::put_next, crate::specs::Output::put_bytes))]
 pub fn put(text: &[u8], out: &mut [u8], at: usize) -> usize
     ensures { (result ≡ put_next text.now at out.old) × (out.new ≡ put_bytes text.now at out.old) }
 {
-    if out.len() < at {
+    if out.len() < at || out.len() - at < text.len() {
         return at;
     }
-    if out.len() - at < text.len() {
-        return at;
-    }
-    copy(text, out, at)
+    let next = at + text.len();
+    out[at..next].copy_from_slice(text);
+    next
 }
 
 // A byte in decimal and the mark behind it.
 pub fn put_number(n: u8, mark: u8, out: &mut [u8], at: usize) -> usize
     ensures { (result ≡ put_next (ended (decimal_text n) mark) at out.old) × (out.new ≡ put_bytes (ended (decimal_text n) mark) at out.old) }
 {
-    if n < 10 {
-        return put(&[48 + n, mark], out, at);
-    }
-    if n < 100 {
-        return put(&[48 + n / 10, 48 + n % 10, mark], out, at);
-    }
-    put(
-        &[48 + n / 100, 48 + n / 10 % 10, 48 + n % 10, mark],
-        out,
-        at,
-    )
+    put_decimal(u64::from(n), mark, out, at)
 }
 
-// The digits of a number and the mark behind them, from a start on to the end.
-#[derive(Clone, Copy)]
-struct Digits {
-    bytes: [u8; 21],
-    start: usize,
-}
-
-fn last_digit(n: u64) -> u8
-    ensures { result ≡ 48 + n % 10 }
+// The digits of a number, put before the last byte; and where they begin.
+fn put_digits(n: u64, bytes: &mut [u8; 21]) -> usize
+    ensures { drop result bytes.new ≡ ended (number_text n) (slice_index bytes.old 20) }
 {
-    48 + (n % 10) as u8
-}
-
-fn digits_of(n: u64, mark: u8) -> Digits
-    ensures { (result.start ≤ 21) × (length result.bytes ≡ 21) × (drop result.start result.bytes ≡ ended (number_text n) mark) }
-{
-    let mut bytes = [0u8; 21];
-    bytes[20] = mark;
-    bytes[19] = last_digit(n);
-    let mut start = 19;
-    let mut rest = n / 10;
-    while (0 < rest) & (0 < start) {
-        start -= 1;
-        bytes[start] = last_digit(rest);
+    let mut rest = n;
+    for place in (0..20).rev() {
+        bytes[place] = 48 + (rest % 10) as u8;
         rest /= 10;
+        if rest == 0 {
+            return place;
+        }
     }
-    Digits { bytes, start }
+    unreachable!()
 }
 
 // A number of any size in decimal and the mark behind it.
 pub fn put_decimal(n: u64, mark: u8, out: &mut [u8], at: usize) -> usize
     ensures { (result ≡ put_next (ended (number_text n) mark) at out.old) × (out.new ≡ put_bytes (ended (number_text n) mark) at out.old) }
 {
-    let digits = digits_of(n, mark);
-    let bytes = digits.bytes;
-    let start = digits.start;
+    let mut bytes = [mark; 21];
+    let start = put_digits(n, &mut bytes);
     put(&bytes[start..], out, at)
 }
 
 // A control word and a tab.
+#[tactic(auto, unfolding(crate::specs::Output::word_text))]
 pub fn put_word(word: Word, out: &mut [u8], at: usize) -> usize
     ensures { (result ≡ put_next (ended (word_text word) TAB) at out.old) × (out.new ≡ put_bytes (ended (word_text word) TAB) at out.old) }
 {
-    let code = word.0;
-    if code == Word::ADD.0 {
-        return put(b"ADD\t", out, at);
-    }
-    if code == Word::NORM.0 {
-        return put(b"NORM\t", out, at);
-    }
-    if code == Word::EOS.0 {
-        return put(b"EOS\t", out, at);
-    }
-    if code == Word::DNU.0 {
-        return put(b"DNU\t", out, at);
-    }
-    put(b"IDLE\t", out, at)
+    let name: &[u8] = if word.0 == Word::ADD.0 {
+        b"ADD\t"
+    } else if word.0 == Word::NORM.0 {
+        b"NORM\t"
+    } else if word.0 == Word::EOS.0 {
+        b"EOS\t"
+    } else if word.0 == Word::DNU.0 {
+        b"DNU\t"
+    } else {
+        b"IDLE\t"
+    };
+    put(name, out, at)
 }

@@ -1,5 +1,5 @@
 -- A frame's line with another second digit of H4 is the same frame with that count.
-use Rattle.std.specs.Prelude.{◌≡◌, refl, Bool, true, false, cond, ◌&&◌, List, [], ◌∷◌, ◌++◌, ℕ, ◌+◌, ◌-◌, ◌*◌, ◌/◌, ◌%◌, ◌≤◌, ◌<◌, eqb, leb, ltb, get_or, set}
+use Rattle.std.specs.Prelude.{◌≡◌, refl, Bool, true, false, cond, ◌&&◌, List, [], ◌∷◌, ◌++◌, ℕ, ◌+◌, ◌-◌, ◌*◌, ◌/◌, ◌%◌, ◌≤◌, ◌<◌, eqb, leb, ltb, get_or, set, Some, None}
 use Rattle.std.proofs.Common.{sym, ◌∙◌, get_or-append-add}
 use Rattle.std.proofs.Math.Path.{ap, ap₂}
 use native.Mathlib.Omega.{arith}
@@ -13,7 +13,6 @@ use Rattle.mending.specs.Lines.{Line, capital, digit_in, digit_place, record_of,
 use Rattle.recording.specs.declared.record.Record.TheVariants.{Frame}
 use Rattle.recording.specs.Line.{MOST}
 use Rattle.recording.specs.Record.{flag_in, frame_by, line_record}
-use Rattle.text.specs.declared.fields.Number.TheVariants.{Value, Unreadable}
 use Rattle.text.specs.Fields.{are_digits, digit_of, hex_of, is_hex, number_of, value_of}
 use Rattle.text.specs.Text.{LINE-END, TAB, ahead, fields_of}
 
@@ -55,11 +54,11 @@ flag_no_tab f flag e h = go (eqb f TAB) refl
     go true k = let s : flag_in (f ∷ []) ≡ 2 = ap (λ (b : ℕ). flag_in (b ∷ [])) (eqb-true f TAB k) in absurd (omega arith)
     go false k = refl
 
-number_digits : (f : List ℕ) (n : ℕ) → number_of 9 f ≡ Value n → are_digits 10 f ≡ true
+number_digits : (f : List ℕ) (n : ℕ) → number_of 9 f ≡ Some n → are_digits 10 f ≡ true
 unfolding number_of
 number_digits f n e = go (ltb 0 (length f) && leb (length f) 9 && leb (length f) 9 && are_digits 10 f) refl e
   where
-    go : (t : Bool) → (ltb 0 (length f) && leb (length f) 9 && leb (length f) 9 && are_digits 10 f) ≡ t → cond t (Value (value_of 10 0 f)) Unreadable ≡ Value n → are_digits 10 f ≡ true
+    go : (t : Bool) → (ltb 0 (length f) && leb (length f) 9 && leb (length f) 9 && are_digits 10 f) ≡ t → cond t (Some (value_of 10 0 f)) None ≡ Some n → are_digits 10 f ≡ true
     go true t k = and_right (ltb 0 (length f) && leb (length f) 9 && leb (length f) 9) (are_digits 10 f) t
     go false t k = let z : ◌≡◌ {A = ℕ} 0 1 = cc in absurd (omega arith)
 
@@ -69,11 +68,11 @@ payload_digits n f t = and_right (eqb (length f) n) (are_digits 16 f) t
 
 -- Two digits of H4
 
-hex_of_lem : (x y : ℕ) → digit_of x < 16 → digit_of y < 16 → hex_of 2 (x ∷ y ∷ []) ≡ Value (digit_of x * 16 + digit_of y)
+hex_of_lem : (x y : ℕ) → digit_of x < 16 → digit_of y < 16 → hex_of 2 (x ∷ y ∷ []) ≡ Some (digit_of x * 16 + digit_of y)
 unfolding hex_of
 hex_of_lem x y h k =
     let e : (0 * 16 + digit_of x) * 16 + digit_of y ≡ digit_of x * 16 + digit_of y = omega arith in
-    rw (lt-ltb (digit_of x) 16 h, lt-ltb (digit_of y) 16 k) (ap Value e)
+    rw (lt-ltb (digit_of x) 16 h, lt-ltb (digit_of y) 16 k) (ap Some e)
 
 module _ (ports size port h4 flag : ℕ) (line : List ℕ) (l : Layout ports size port h4 flag line) where
   layout_fields : fields_of line ≡ l.front ∷ (l.high ∷ l.low ∷ []) ∷ (l.flagged ∷ []) ∷ l.payload ∷ []
@@ -97,7 +96,7 @@ module _ (ports size port h4 flag : ℕ) (line : List ℕ) (l : Layout ports siz
       let z = l.h4_is in
       let d = l.payload_length in
       let q : 0 + length line - length l.payload ≡ place = omega arith in
-      let h : hex_of 2 (l.high ∷ l.low ∷ []) ≡ Value h4 = hex_of_lem l.high l.low x y ∙ ap Value (sym z) in
+      let h : hex_of 2 (l.high ∷ l.low ∷ []) ≡ Some h4 = hex_of_lem l.high l.low x y ∙ ap Some (sym z) in
       rw (le-leb (length line) MOST l.most, layout_fields, l.port_is, h, l.flag_is, l.payload_is, q, lt-ltb port ports l.below, lt-ltb h4 256 (omega arith), lt-ltb flag 2 l.flag_below)
 
   -- its second digit

@@ -1,5 +1,5 @@
 -- What a frame's line is made of, byte for byte: the port's digits, the two of H4, the flag and the payload, parted by tabs.
-use Rattle.std.specs.Prelude.{◌≡◌, refl, Bool, true, false, cond, ◌&&◌, List, [], ◌∷◌, ◌++◌, ℕ, suc, ◌+◌, ◌-◌, ◌*◌, ◌≤◌, ◌<◌, eqb, leb, ltb, length}
+use Rattle.std.specs.Prelude.{◌≡◌, refl, Bool, true, false, cond, ◌&&◌, List, [], ◌∷◌, ◌++◌, ℕ, suc, ◌+◌, ◌-◌, ◌*◌, ◌≤◌, ◌<◌, eqb, leb, ltb, length, Option, Some, None}
 use Rattle.std.proofs.Common.{sym, ap, ◌∙◌, arith, length-append, eqb-true, leb-true, ltb-true}
 use Rattle.std.proofs.lemmas.Bool.{false≢true}
 use Rattle.ground.specs.Truth.{and_left, and_right}
@@ -7,8 +7,6 @@ use Rattle.recording.specs.declared.record.Record.{Record}
 use Rattle.recording.specs.declared.record.Record.TheVariants.{Frame, Malformed, Long, Unfinished, End}
 use Rattle.recording.specs.Line.{MOST}
 use Rattle.recording.specs.Record.{flag_in, frame_by, line_record, record_by}
-use Rattle.text.specs.declared.fields.Number.{Number}
-use Rattle.text.specs.declared.fields.Number.TheVariants.{Value, Unreadable}
 use Rattle.text.specs.Ascii.{ascii}
 use Rattle.text.specs.Fields.{are_digits, digit_of, hex_of, is_hex, number_of, same_bytes, value_of}
 use Rattle.text.specs.Text.{TAB, ahead, fields_of, parted}
@@ -39,9 +37,9 @@ fields_joined (b ∷ line) = go (eqb b TAB) refl (parted TAB ([] ∷ []) line) (
     go false e (p ∷ ps) h = record { some = omega arith; is = joined_ahead b p ps ∙ ap (λ (l : List ℕ). b ∷ l) h.is }
 
 -- what a frame says of the fields that it was read from
-record Said (ports : ℕ) (a b : Number) (flag : ℕ) (payload : Bool) (place n p h f q m : ℕ) : Type 0 where
-  port_is : a ≡ Value p
-  h4_is : b ≡ Value h
+record Said (ports : ℕ) (a b : Option ℕ) (flag : ℕ) (payload : Bool) (place n p h f q m : ℕ) : Type 0 where
+  port_is : a ≡ Some p
+  h4_is : b ≡ Some h
   flag_is : flag ≡ f
   place_is : place ≡ q
   next_is : n ≡ m
@@ -49,11 +47,11 @@ record Said (ports : ℕ) (a b : Number) (flag : ℕ) (payload : Bool) (place n 
   flag_below : f < 2
   payload_is : payload ≡ true
 
-frame_said : (ports : ℕ) (a b : Number) (flag : ℕ) (payload : Bool) (place n p h f q m : ℕ) → frame_by ports a b flag payload place n ≡ Frame p h f q m → Said ports a b flag payload place n p h f q m
+frame_said : (ports : ℕ) (a b : Option ℕ) (flag : ℕ) (payload : Bool) (place n p h f q m : ℕ) → frame_by ports a b flag payload place n ≡ Frame p h f q m → Said ports a b flag payload place n p h f q m
 unfolding frame_by
-frame_said ports (Value x) (Value y) flag payload place n p h f q m e = go (ltb x ports && ltb y 256 && ltb flag 2 && payload) refl e
+frame_said ports (Some x) (Some y) flag payload place n p h f q m e = go (ltb x ports && ltb y 256 && ltb flag 2 && payload) refl e
   where
-    go : (t : Bool) → (ltb x ports && ltb y 256 && ltb flag 2 && payload) ≡ t → cond t (Frame x y flag place n) (Malformed n) ≡ Frame p h f q m → Said ports (Value x) (Value y) flag payload place n p h f q m
+    go : (t : Bool) → (ltb x ports && ltb y 256 && ltb flag 2 && payload) ≡ t → cond t (Frame x y flag place n) (Malformed n) ≡ Frame p h f q m → Said ports (Some x) (Some y) flag payload place n p h f q m
     go true t e =
         let xp : x ≡ p = cc in
         let ff : flag ≡ f = cc in
@@ -62,7 +60,7 @@ frame_said ports (Value x) (Value y) flag payload place n p h f q m e = go (ltb 
         let bx = ltb-true x ports (and_left (ltb x ports) (ltb y 256) t2) in
         let bf = ltb-true flag 2 (and_right (ltb x ports && ltb y 256) (ltb flag 2) t3) in
         record {
-          port_is = ap Value xp;
+          port_is = ap Some xp;
           h4_is = (cc);
           flag_is = ff;
           place_is = (cc);
@@ -72,8 +70,8 @@ frame_said ports (Value x) (Value y) flag payload place n p h f q m e = go (ltb 
           payload_is = and_right (ltb x ports && ltb y 256 && ltb flag 2) payload t;
         }
     go false t e = let z : ◌≡◌ {A = ℕ} 0 1 = cc in absurd (omega arith)
-frame_said ports (Value x) Unreadable flag payload place n p h f q m e = let z : ◌≡◌ {A = ℕ} 0 1 = cc in absurd (omega arith)
-frame_said ports Unreadable b flag payload place n p h f q m e = let z : ◌≡◌ {A = ℕ} 0 1 = cc in absurd (omega arith)
+frame_said ports (Some x) None flag payload place n p h f q m e = let z : ◌≡◌ {A = ℕ} 0 1 = cc in absurd (omega arith)
+frame_said ports None b flag payload place n p h f q m e = let z : ◌≡◌ {A = ℕ} 0 1 = cc in absurd (omega arith)
 
 -- two hex digits
 record Two (b : List ℕ) (h : ℕ) : Type 0 where
@@ -93,11 +91,11 @@ two_digits (x ∷ y ∷ []) h k d v =
     record { high = x; low = y; is = refl; high_digit = dx; low_digit = dy; value = omega arith }
 two_digits (x ∷ y ∷ z ∷ b) h k d v = absurd (omega arith)
 
-hex_two : (b : List ℕ) (h : ℕ) → hex_of 2 b ≡ Value h → Two b h
+hex_two : (b : List ℕ) (h : ℕ) → hex_of 2 b ≡ Some h → Two b h
 unfolding hex_of
 hex_two b h e = go (ltb 0 (length b) && eqb (length b) 2 && leb (length b) 8 && are_digits 16 b) refl e
   where
-    go : (t : Bool) → (ltb 0 (length b) && eqb (length b) 2 && leb (length b) 8 && are_digits 16 b) ≡ t → cond t (Value (value_of 16 0 b)) Unreadable ≡ Value h → Two b h
+    go : (t : Bool) → (ltb 0 (length b) && eqb (length b) 2 && leb (length b) 8 && are_digits 16 b) ≡ t → cond t (Some (value_of 16 0 b)) None ≡ Some h → Two b h
     go true t e =
         let t3 = and_left (ltb 0 (length b) && eqb (length b) 2 && leb (length b) 8) (are_digits 16 b) t in
         let t2 = and_left (ltb 0 (length b) && eqb (length b) 2) (leb (length b) 8) t3 in
@@ -136,7 +134,7 @@ pub record Layout (ports size port h4 flag : ℕ) (line : List ℕ) : Type 0 whe
   pub flagged : ℕ
   pub payload : List ℕ
   pub line_is : line ≡ front ++ (TAB ∷ high ∷ low ∷ TAB ∷ flagged ∷ TAB ∷ payload)
-  pub port_is : number_of 9 front ≡ Value port
+  pub port_is : number_of 9 front ≡ Some port
   pub below : port < ports
   pub high_digit : digit_of high < 16
   pub low_digit : digit_of low < 16
@@ -218,15 +216,15 @@ placed_at at n Long = Long
 placed_at at n Unfinished = Unfinished
 placed_at at n End = End
 
-frame_placed : (ports : ℕ) (a b : Number) (flag : ℕ) (payload : Bool) (at place n : ℕ) → frame_by ports a b flag payload (at + place) n ≡ placed_at at n (frame_by ports a b flag payload place 0)
+frame_placed : (ports : ℕ) (a b : Option ℕ) (flag : ℕ) (payload : Bool) (at place n : ℕ) → frame_by ports a b flag payload (at + place) n ≡ placed_at at n (frame_by ports a b flag payload place 0)
 unfolding frame_by
-frame_placed ports (Value x) (Value y) flag payload at place n = go (ltb x ports && ltb y 256 && ltb flag 2 && payload)
+frame_placed ports (Some x) (Some y) flag payload at place n = go (ltb x ports && ltb y 256 && ltb flag 2 && payload)
   where
     go : (t : Bool) → cond t (Frame x y flag (at + place) n) (Malformed n) ≡ placed_at at n (cond t (Frame x y flag place 0) (Malformed 0))
     go true = refl
     go false = refl
-frame_placed ports (Value x) Unreadable flag payload at place n = refl
-frame_placed ports Unreadable b flag payload at place n = refl
+frame_placed ports (Some x) None flag payload at place n = refl
+frame_placed ports None b flag payload at place n = refl
 
 fields_placed : (ports size at n : ℕ) (line : List ℕ) (fs : List (List ℕ)) → joined fs ≡ line → record_by ports size (at + length line) n fs ≡ placed_at at n (record_by ports size (0 + length line) 0 fs)
 fields_placed ports size at n line [] j = refl

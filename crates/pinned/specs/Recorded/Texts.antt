@@ -1,8 +1,7 @@
 -- Fields and numbers of a text (01, 'Session': 'Numbers have one to three decimal digits', 'two hex digits, either case'; request 2026-05: 'payload in hex'), by the codes of ASCII, and how they are written.
-use Rattle.std.specs.Prelude.{true, false, [], ◌∷◌, ℕ, replicate}
+use Rattle.std.specs.Prelude.{true, false, [], ◌∷◌, ℕ, replicate, Some, None}
 use Rattle.packet.specs.declared.words.Word.{Word}
 use Rattle.text.specs.Ascii.{ascii}
-use Rattle.text.specs.declared.fields.Number.TheVariants.{Value, Unreadable}
 use Rattle.text.specs.Fields.{bytes_in, bytes_of, digit_of, hex_of, is_hex, number_of}
 use Rattle.text.specs.Output.{decimal_text, number_text, put_bytes, put_next, word_text}
 use Rattle.text.specs.Text.{fields_of, lines_of}
@@ -33,21 +32,21 @@ numbers : Pinned
 unfolding all_open
 numbers =
     pins "Decimal numbers of one digit to so many, nine at the very most; hex ones of exactly so many, one to eight (01, 'Session'; request 2026-05)"
-    (row "three digits" (number_of 3 (ascii "255")) (Value 255) same
-    ∷ row "one digit" (number_of 3 (ascii "7")) (Value 7) same
-    ∷ row "none" (number_of 3 []) Unreadable same
-    ∷ row "four where three are the most" (number_of 3 (ascii "1000")) Unreadable same
-    ∷ row "a hex digit among them" (number_of 3 (ascii "12A")) Unreadable same
-    ∷ row "nine digits" (number_of 20 (ascii "987654321")) (Value 987654321) same
-    ∷ row "ten digits" (number_of 20 (ascii "1000000000")) Unreadable same
-    ∷ row "two hex digits" (hex_of 2 (ascii "aF")) (Value 175) same
-    ∷ row "one where two are asked" (hex_of 2 (ascii "F")) Unreadable same
-    ∷ row "three where two are asked" (hex_of 2 (ascii "0FF")) Unreadable same
-    ∷ row "G among them" (hex_of 2 (ascii "0G")) Unreadable same
-    ∷ row "one hex digit" (hex_of 1 (ascii "7")) (Value 7) same
-    ∷ row "no hex digit" (hex_of 0 []) Unreadable same
-    ∷ row "eight hex digits" (hex_of 8 (ascii "01234567")) (Value 19088743) same
-    ∷ row "nine hex digits" (hex_of 9 (ascii "012345678")) Unreadable same
+    (row "three digits" (number_of 3 (ascii "255")) (Some 255) same
+    ∷ row "one digit" (number_of 3 (ascii "7")) (Some 7) same
+    ∷ row "none" (number_of 3 []) None same
+    ∷ row "four where three are the most" (number_of 3 (ascii "1000")) None same
+    ∷ row "a hex digit among them" (number_of 3 (ascii "12A")) None same
+    ∷ row "nine digits" (number_of 20 (ascii "987654321")) (Some 987654321) same
+    ∷ row "ten digits" (number_of 20 (ascii "1000000000")) None same
+    ∷ row "two hex digits" (hex_of 2 (ascii "aF")) (Some 175) same
+    ∷ row "one where two are asked" (hex_of 2 (ascii "F")) None same
+    ∷ row "three where two are asked" (hex_of 2 (ascii "0FF")) None same
+    ∷ row "G among them" (hex_of 2 (ascii "0G")) None same
+    ∷ row "one hex digit" (hex_of 1 (ascii "7")) (Some 7) same
+    ∷ row "no hex digit" (hex_of 0 []) None same
+    ∷ row "eight hex digits" (hex_of 8 (ascii "01234567")) (Some 19088743) same
+    ∷ row "nine hex digits" (hex_of 9 (ascii "012345678")) None same
     ∷ [])
 
 payloads : Pinned

@@ -1,5 +1,5 @@
 -- A session (01, 'Session'): what each line means, what it is answered, and the input as it comes in parts. Figures are counted on the lines as they stand.
-use Rattle.std.specs.Prelude.{◌≡◌, false, List, [], ◌∷◌, ◌++◌, ℕ, zero, suc, replicate}
+use Rattle.std.specs.Prelude.{◌≡◌, false, List, [], ◌∷◌, ◌++◌, ℕ, zero, suc, replicate, Some, None}
 use Rattle.std.proofs.Common.{arith}
 use Rattle.ground.specs.Types.{Bytes}
 use Rattle.pinned.specs.Filled.{nines}
@@ -19,7 +19,6 @@ use Rattle.sender.specs.Shown.{after, shown}
 use Rattle.sender.specs.Calls.{Call as C}
 use Rattle.text.specs.Ascii.{ascii}
 use Rattle.text.specs.Text.{lines_of}
-use Rattle.text.specs.declared.fields.Number.TheVariants.{Value, Unreadable}
 use Rattle.pinned.specs.Opened.{all_open}
 use Rattle.tables.specs.Rows.{Pinned, pins, row, same}
 
@@ -56,17 +55,17 @@ parts : Pinned
 unfolding all_open
 parts =
     pins "The parts of a line by themselves: a word with its number, and a report's three numbers; what cannot be read makes it malformed (01, 'Session')."
-    (row "add 7" (number_line (ascii "add") (Value 7)) (Add 7) same
-    ∷ row "add with no number" (number_line (ascii "add") Unreadable) Malformed same
-    ∷ row "board with a number" (number_line (ascii "board") (Value 7)) Malformed same
-    ∷ row "a report's three numbers" (report_read (Value 255) (Value 254) (Value 1)) (Report 255 254 1) same
-    ∷ row "MST FF" (report_read (Value 0) (Value 255) (Value 0)) (Report 0 255 0) same
-    ∷ row "epoch 256" (report_read (Value 256) (Value 0) (Value 0)) Malformed same
-    ∷ row "MST 256" (report_read (Value 0) (Value 256) (Value 0)) Malformed same
-    ∷ row "RS-Ack 2" (report_read (Value 0) (Value 0) (Value 2)) Malformed same
-    ∷ row "no RS-Ack" (report_read (Value 0) (Value 0) Unreadable) Malformed same
-    ∷ row "no MST" (report_read (Value 0) Unreadable (Value 0)) Malformed same
-    ∷ row "no epoch" (report_read Unreadable (Value 0) (Value 0)) Malformed same
+    (row "add 7" (number_line (ascii "add") (Some 7)) (Add 7) same
+    ∷ row "add with no number" (number_line (ascii "add") None) Malformed same
+    ∷ row "board with a number" (number_line (ascii "board") (Some 7)) Malformed same
+    ∷ row "a report's three numbers" (report_read (Some 255) (Some 254) (Some 1)) (Report 255 254 1) same
+    ∷ row "MST FF" (report_read (Some 0) (Some 255) (Some 0)) (Report 0 255 0) same
+    ∷ row "epoch 256" (report_read (Some 256) (Some 0) (Some 0)) Malformed same
+    ∷ row "MST 256" (report_read (Some 0) (Some 256) (Some 0)) Malformed same
+    ∷ row "RS-Ack 2" (report_read (Some 0) (Some 0) (Some 2)) Malformed same
+    ∷ row "no RS-Ack" (report_read (Some 0) (Some 0) None) Malformed same
+    ∷ row "no MST" (report_read (Some 0) None (Some 0)) Malformed same
+    ∷ row "no epoch" (report_read None (Some 0) (Some 0)) Malformed same
     ∷ [])
 
 -- slot 1 was added and removed: a wait is open

@@ -1,6 +1,6 @@
 -- A line that has digits, tabs and its end where a frame's line has them is that frame.
 -- Its fields hold no tab and no line end, being digits; so the first line end is the one at the end, the tabs are the only ones, and parting the line gives these fields.
-use Rattle.std.specs.Prelude.{◌≡◌, Bool, true, false, cond, ◌&&◌, List, [], ◌∷◌, ◌++◌, ℕ, suc, ◌+◌, ◌-◌, ◌≤◌, ◌<◌, eqb, leb, ltb}
+use Rattle.std.specs.Prelude.{◌≡◌, Bool, true, false, cond, ◌&&◌, List, [], ◌∷◌, ◌++◌, ℕ, suc, ◌+◌, ◌-◌, ◌≤◌, ◌<◌, eqb, leb, ltb, Option, Some, None}
 use Rattle.std.proofs.Math.Path.{refl, sym}
 use Rattle.std.proofs.Common.{ap, ◌∙◌, drop-drop, length-take-le}
 use Rattle.std.proofs.lemmas.Bool.{false≢true}
@@ -15,8 +15,6 @@ use Rattle.recording.specs.declared.record.Record.{Record}
 use Rattle.recording.specs.Laws.Parting.{found_ends, line_short, record_ends}
 use Rattle.recording.specs.Line.{MOST, found_of}
 use Rattle.recording.specs.declared.record.Record.TheVariants.{Frame, Malformed}
-use Rattle.text.specs.declared.fields.Number.{Number}
-use Rattle.text.specs.declared.fields.Number.TheVariants.{Value, Unreadable}
 use Rattle.text.specs.Ascii.{ascii}
 use Rattle.text.specs.Fields.{are_digits, digit_of, hex_of, is_hex, number_of, same_bytes, value_of}
 use Rattle.text.specs.Laws.Parted.{index_le}
@@ -103,21 +101,21 @@ joins : (m : ℕ) (l : List ℕ) (a q e : ℕ) → a ≤ q → q < e → e ≤ l
 joins m l a q e h k j z f g = rw (part_at l a q e h k j) (without_append m (slice a q l) (get_or l q 0 ∷ slice (q + 1) e l) f (z, g))
 
 -- what a frame says of its fields
-abbrev is_value : Number → Bool
-is_value (Value n) = true
-is_value Unreadable = false
+abbrev is_value : Option ℕ → Bool
+is_value (Some n) = true
+is_value None = false
 
-record Told (port h4 : Number) (flag : ℕ) (payload : Bool) : Type 0 where
+record Told (port h4 : Option ℕ) (flag : ℕ) (payload : Bool) : Type 0 where
   port_there : is_value port ≡ true
   h4_there : is_value h4 ≡ true
   flag_there : flag < 2
   payload_there : payload ≡ true
 
-frame_told : (ports : ℕ) (port h4 : Number) (flag : ℕ) (payload : Bool) (place next : ℕ) → is_frame (frame_by ports port h4 flag payload place next) ≡ true → Told port h4 flag payload
+frame_told : (ports : ℕ) (port h4 : Option ℕ) (flag : ℕ) (payload : Bool) (place next : ℕ) → is_frame (frame_by ports port h4 flag payload place next) ≡ true → Told port h4 flag payload
 unfolding frame_by
-frame_told ports (Value x) (Value y) flag payload place next t = go (ltb x ports && ltb y 256 && ltb flag 2 && payload) refl t
+frame_told ports (Some x) (Some y) flag payload place next t = go (ltb x ports && ltb y 256 && ltb flag 2 && payload) refl t
   where
-    go : (b : Bool) → (ltb x ports && ltb y 256 && ltb flag 2 && payload) ≡ b → is_frame (cond b (Frame x y flag place next) (Malformed next)) ≡ true → Told (Value x) (Value y) flag payload
+    go : (b : Bool) → (ltb x ports && ltb y 256 && ltb flag 2 && payload) ≡ b → is_frame (cond b (Frame x y flag place next) (Malformed next)) ≡ true → Told (Some x) (Some y) flag payload
     go true e u =
         record {
           port_there = refl;
@@ -126,10 +124,10 @@ frame_told ports (Value x) (Value y) flag payload place next t = go (ltb x ports
           payload_there = and_right (ltb x ports && ltb y 256 && ltb flag 2) payload e;
         }
     go false e u = absurd (false≢true u)
-frame_told ports (Value x) Unreadable flag payload place next t = absurd (false≢true t)
-frame_told ports Unreadable h4 flag payload place next t = absurd (false≢true t)
+frame_told ports (Some x) None flag payload place next t = absurd (false≢true t)
+frame_told ports None h4 flag payload place next t = absurd (false≢true t)
 
-value_if : (b : Bool) (n : ℕ) → is_value (cond b (Value n) Unreadable) ≡ true → b ≡ true
+value_if : (b : Bool) (n : ℕ) → is_value (cond b (Some n) None) ≡ true → b ≡ true
 value_if true n t = refl
 value_if false n t = t
 

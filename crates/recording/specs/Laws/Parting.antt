@@ -1,5 +1,5 @@
 -- What is left of a text from a place on, its first line, and that line's fields.
-use Rattle.std.specs.Prelude.{◌≡◌, refl, Bool, true, false, cond, List, [], ◌∷◌, ℕ, ◌+◌, ◌-◌, ◌≤◌, ◌<◌, eqb, ltb, drop, take}
+use Rattle.std.specs.Prelude.{◌≡◌, refl, Bool, true, false, cond, List, [], ◌∷◌, ℕ, ◌+◌, ◌-◌, ◌≤◌, ◌<◌, eqb, ltb, drop, take, Option}
 use Rattle.std.proofs.Common.{sym, ◌∙◌}
 use native.Mathlib.Omega.{arith}
 use Rattle.std.proofs.Math.ListN.{length, length-drop}
@@ -15,7 +15,6 @@ use Rattle.recording.specs.Laws.Pairs.{fields_one, fields_from}
 use Rattle.recording.specs.Line.{MOST, first_line, found_of}
 use Rattle.recording.specs.Opening.{line_opening, opening_by, opening_in, settings_by}
 use Rattle.recording.specs.Record.{flag_in, frame_by, last_record, line_record, record_by, record_in}
-use Rattle.text.specs.declared.fields.Number.{Number}
 use Rattle.text.specs.Fields.{hex_of, is_hex, number_of}
 use Rattle.text.specs.Laws.Slices.{fields_last, fields_more, take_slice}
 use Rattle.text.specs.Text.{LINE-END, TAB, ahead, fields_of, parted}
@@ -181,7 +180,7 @@ module _ (ports size : ℕ) (l : List ℕ) (end next : ℕ) (k : end ≤ length 
         rw (fields_more l (third + 1) end fourth (omega arith) k e b)
         (many ports size end next (slice at first l) (slice (first + 1) second l) (slice (second + 1) third l) (slice (third + 1) fourth l) (slice (fourth + 1) end l))
 
-    pub four : end ≤ fourth → (p x : Number) (f : ℕ) (b : Bool) → p ≡ number_of 9 (slice at first l) → x ≡ hex_of 2 (slice (first + 1) second l) → f ≡ flag_in (slice (second + 1) third l)
+    pub four : end ≤ fourth → (p x : Option ℕ) (f : ℕ) (b : Bool) → p ≡ number_of 9 (slice at first l) → x ≡ hex_of 2 (slice (first + 1) second l) → f ≡ flag_in (slice (second + 1) third l)
         → b ≡ is_hex (size + size) (slice (third + 1) end l) → (r : Record) → r ≡ frame_by ports p x f b (third + 1) next
         → r ≡ record_by ports size end next (slice at first l ∷ slice (first + 1) second l ∷ slice (second + 1) third l ∷ fields_of (slice (third + 1) end l))
     four c p x f b ep ex ef eb r er =
@@ -217,7 +216,7 @@ module _ (l : List ℕ) (end next : ℕ) (k : end ≤ length l) (at first : ℕ)
     opening_two c = rw (fields_more l at end first h k e b, fields_last l (first + 1) end second (omega arith) k f c)
 
     module _ (c : second < end) (third : ℕ) (g : third ≡ second + 1 + index_of TAB (slice (second + 1) end l)) where
-      pub opening_three : (x y z : Number) → x ≡ number_of 9 (slice at first l) → y ≡ number_of 9 (slice (first + 1) second l) → z ≡ number_of 9 (slice (second + 1) third l)
+      pub opening_three : (x y z : Option ℕ) → x ≡ number_of 9 (slice at first l) → y ≡ number_of 9 (slice (first + 1) second l) → z ≡ number_of 9 (slice (second + 1) third l)
           → settings_by x y z (fields_from (third + 1) end l) next ≡ opening_by next (fields_of (slice at end l))
       opening_three x y z ex ey ez =
           rw (fields_more l at end first h k e b, fields_more l (first + 1) end second (omega arith) k f c, fields_one l (second + 1) end third (omega arith) k g, ← ex, ← ey, ← ez)

@@ -1,5 +1,5 @@
 -- A first line's settings have 64 times of each kind, whatever its pairs.
-use Rattle.std.specs.Prelude.{◌≡◌, refl, Bool, true, false, cond, not, ◌&&◌, List, [], ◌∷◌, ℕ, leb, ltb, length, set}
+use Rattle.std.specs.Prelude.{◌≡◌, refl, Bool, true, false, cond, not, ◌&&◌, List, [], ◌∷◌, ℕ, leb, ltb, length, set, Option, Some, None}
 use Rattle.std.proofs.Common.{◌∙◌, length-set}
 use Rattle.packet.specs.Kinds.{fixed_kind, vc12_kind}
 use Rattle.recording.specs.declared.pairs.Awaited.{Awaited}
@@ -12,8 +12,6 @@ use Rattle.recording.specs.Line.{MOST}
 use Rattle.recording.specs.Opening.{Opening, line_opening, opened, opened_by, opening_by, settings_by}
 use Rattle.recording.specs.Opening.{Opening as O}
 use Rattle.recording.specs.Pairs.{count_put, field_by, field_in, first_pairs, is_hold, kind_named, kind_read, kind_to, named, pairs_from, time_named, time_read, wrong_field}
-use Rattle.text.specs.declared.fields.Number.{Number}
-use Rattle.text.specs.declared.fields.Number.TheVariants.{Value, Unreadable}
 use Rattle.text.specs.Ascii.{ascii}
 use Rattle.text.specs.Fields.{number_of, same_bytes}
 use Rattle.text.specs.Text.{fields_of}
@@ -45,10 +43,10 @@ field_timed p field t = go p.awaited
     kind false false true = record { hold = t.hold; restores = t.restores }
     kind false false false = t
 
-    timed : (timer : Timer) (i : ℕ) (n : Number) → Timed (time_read p timer i n).settings
-    timed timer i (Value n) =
+    timed : (timer : Timer) (i : ℕ) (n : Option ℕ) → Timed (time_read p timer i n).settings
+    timed timer i (Some n) =
         record { hold = put_long p.settings.hold_off (is_hold timer) i n t.hold; restores = put_long p.settings.restore (not (is_hold timer)) i n t.restores }
-    timed timer i Unreadable = t
+    timed timer i None = t
 
     go : (a : Awaited) → Timed (field_by a p field).settings
     go A.Name = name (same_bytes field (ascii "kind") && not p.has_kind) (same_bytes field (ascii "hold-off") && not p.has_hold_off) (same_bytes field (ascii "wait-to-restore") && not p.has_restore)
@@ -77,12 +75,12 @@ opened_timed p n t = go p.awaited
     go (A.Time timer i) = tt
     go A.Nothing = tt
 
-settings_timed : (a b c : Number) (pairs : List (List ℕ)) (n : ℕ) → TimedIn (settings_by a b c pairs n)
+settings_timed : (a b c : Option ℕ) (pairs : List (List ℕ)) (n : ℕ) → TimedIn (settings_by a b c pairs n)
 unfolding settings_by
-settings_timed (Value x) (Value y) (Value z) pairs n = opened_timed (pairs_from (first_pairs x y z) pairs) n (pairs_timed (first_pairs x y z) pairs (record { hold = refl; restores = refl }))
-settings_timed (Value x) (Value y) Unreadable pairs n = tt
-settings_timed (Value x) Unreadable c pairs n = tt
-settings_timed Unreadable b c pairs n = tt
+settings_timed (Some x) (Some y) (Some z) pairs n = opened_timed (pairs_from (first_pairs x y z) pairs) n (pairs_timed (first_pairs x y z) pairs (record { hold = refl; restores = refl }))
+settings_timed (Some x) (Some y) None pairs n = tt
+settings_timed (Some x) None c pairs n = tt
+settings_timed None b c pairs n = tt
 
 fields_timed : (n : ℕ) (fs : List (List ℕ)) → TimedIn (opening_by n fs)
 fields_timed n [] = tt

@@ -1,6 +1,6 @@
 -- What is read from a place of a text on is what is read of the rest alone, later by the place.
 -- A line's fields do not go by where it begins: only the place of the payload and that of the next line do, and both are counted from there.
-use Rattle.std.specs.Prelude.{◌≡◌, Bool, ◌&&◌, List, [], ◌∷◌, ℕ, zero, suc, ◌+◌, ◌-◌, leb, drop, take}
+use Rattle.std.specs.Prelude.{◌≡◌, Bool, ◌&&◌, List, [], ◌∷◌, ℕ, zero, suc, ◌+◌, ◌-◌, leb, drop, take, Option, Some, None}
 use Rattle.std.proofs.Math.Path.{refl}
 use Rattle.std.proofs.Common.{sym, ap, ◌∙◌, drop-drop}
 use Rattle.std.proofs.Math.Bool.{true, false, cond}
@@ -20,20 +20,18 @@ use Rattle.recording.specs.Opening.{Opening}
 use Rattle.recording.specs.Opening.{Opening as O}
 use Rattle.recording.specs.Opening.{handed, line_opening, opening_in}
 use Rattle.recording.specs.Record.{flag_in, frame_by, last_record, line_record, record_by, record_in}
-use Rattle.text.specs.declared.fields.Number.{Number}
-use Rattle.text.specs.declared.fields.Number.TheVariants.{Value, Unreadable}
 use Rattle.text.specs.Fields.{hex_of, is_hex, number_of}
 use Rattle.text.specs.Text.{LINE-END, fields_of}
 
-frame_later : (ports : ℕ) (p h : Number) (flag : ℕ) (payload : Bool) (at place n : ℕ) → frame_by ports p h flag payload (at + place) (at + n) ≡ later at (frame_by ports p h flag payload place n)
+frame_later : (ports : ℕ) (p h : Option ℕ) (flag : ℕ) (payload : Bool) (at place n : ℕ) → frame_by ports p h flag payload (at + place) (at + n) ≡ later at (frame_by ports p h flag payload place n)
 unfolding frame_by
-frame_later ports (Value x) (Value y) flag payload at place n = go (ltb x ports && ltb y 256 && ltb flag 2 && payload)
+frame_later ports (Some x) (Some y) flag payload at place n = go (ltb x ports && ltb y 256 && ltb flag 2 && payload)
   where
     go : (b : Bool) → cond b (Frame x y flag (at + place) (at + n)) (Malformed (at + n)) ≡ later at (cond b (Frame x y flag place n) (Malformed n))
     go true = refl
     go false = refl
-frame_later ports (Value x) Unreadable flag payload at place n = refl
-frame_later ports Unreadable h flag payload at place n = refl
+frame_later ports (Some x) None flag payload at place n = refl
+frame_later ports None h flag payload at place n = refl
 
 fields_later : (ports size at end n : ℕ) (fs : List (List ℕ)) → weight fs ≡ suc end → record_by ports size (at + end) (at + n) fs ≡ later at (record_by ports size end n fs)
 unfolding weight

@@ -1,12 +1,10 @@
 -- What a line says does not go by where the next one is, and its payload lies in it.
 -- The place of the next line is only handed on: each case of the definition gives the same record with another place (`going_to`, `opens_to`). The payload's place is that of the last field, which has two digits a byte.
-use Rattle.std.specs.Prelude.{◌≡◌, refl, Bool, true, false, cond, ◌&&◌, List, [], ◌∷◌, ℕ, suc, ◌+◌, ◌-◌, ◌≤◌, eqb, leb, ltb, length}
+use Rattle.std.specs.Prelude.{◌≡◌, refl, Bool, true, false, cond, ◌&&◌, List, [], ◌∷◌, ℕ, suc, ◌+◌, ◌-◌, ◌≤◌, eqb, leb, ltb, length, Option, Some, None}
 use Rattle.std.proofs.Common.{arith, eqb-true}
 use Rattle.ground.specs.Truth.{and_left, and_right}
 use Rattle.text.specs.Fields.{are_digits, hex_of, is_hex, number_of}
 use Rattle.text.specs.Text.{TAB, ahead, fields_of, parted}
-use Rattle.text.specs.declared.fields.Number.{Number}
-use Rattle.text.specs.declared.fields.Number.TheVariants.{Unreadable, Value}
 use Rattle.recording.specs.Line.{MOST}
 use Rattle.recording.specs.Opening.{Opening}
 use Rattle.recording.specs.Opening.{Opening as O}
@@ -29,15 +27,15 @@ going_to n Long = Long
 going_to n Unfinished = Unfinished
 going_to n End = End
 
-frame_going : (ports : ℕ) (p h : Number) (flag : ℕ) (payload : Bool) (place n m : ℕ) → frame_by ports p h flag payload place n ≡ going_to n (frame_by ports p h flag payload place m)
+frame_going : (ports : ℕ) (p h : Option ℕ) (flag : ℕ) (payload : Bool) (place n m : ℕ) → frame_by ports p h flag payload place n ≡ going_to n (frame_by ports p h flag payload place m)
 unfolding frame_by
-frame_going ports (Value x) (Value y) flag payload place n m = go (ltb x ports && ltb y 256 && ltb flag 2 && payload)
+frame_going ports (Some x) (Some y) flag payload place n m = go (ltb x ports && ltb y 256 && ltb flag 2 && payload)
   where
     go : (b : Bool) → cond b (Frame x y flag place n) (Malformed n) ≡ going_to n (cond b (Frame x y flag place m) (Malformed m))
     go true = refl
     go false = refl
-frame_going ports (Value x) Unreadable flag payload place n m = refl
-frame_going ports Unreadable h flag payload place n m = refl
+frame_going ports (Some x) None flag payload place n m = refl
+frame_going ports None h flag payload place n m = refl
 
 record_going : (ports size end n m : ℕ) (fs : List (List ℕ)) → record_by ports size end n fs ≡ going_to n (record_by ports size end m fs)
 record_going ports size end n m [] = refl
@@ -72,12 +70,12 @@ opened_opens p n m = go p.awaited
     go (A.Time t i) = refl
     go A.Nothing = refl
 
-settings_opens : (a b c : Number) (pairs : List (List ℕ)) (n m : ℕ) → settings_by a b c pairs n ≡ opens_to n (settings_by a b c pairs m)
+settings_opens : (a b c : Option ℕ) (pairs : List (List ℕ)) (n m : ℕ) → settings_by a b c pairs n ≡ opens_to n (settings_by a b c pairs m)
 unfolding settings_by
-settings_opens (Value x) (Value y) (Value z) pairs n m = opened_opens (pairs_from (first_pairs x y z) pairs) n m
-settings_opens (Value x) (Value y) Unreadable pairs n m = refl
-settings_opens (Value x) Unreadable c pairs n m = refl
-settings_opens Unreadable b c pairs n m = refl
+settings_opens (Some x) (Some y) (Some z) pairs n m = opened_opens (pairs_from (first_pairs x y z) pairs) n m
+settings_opens (Some x) (Some y) None pairs n m = refl
+settings_opens (Some x) None c pairs n m = refl
+settings_opens None b c pairs n m = refl
 
 opening_opens : (n m : ℕ) (fs : List (List ℕ)) → opening_by n fs ≡ opens_to n (opening_by m fs)
 opening_opens n m [] = refl
@@ -110,12 +108,12 @@ opened_settled p n = go p.awaited
     go (A.Time t i) = refl
     go A.Nothing = refl
 
-settings_settled : (a b c : Number) (pairs : List (List ℕ)) (n : ℕ) → is_settled (settings_by a b c pairs n) ≡ true
+settings_settled : (a b c : Option ℕ) (pairs : List (List ℕ)) (n : ℕ) → is_settled (settings_by a b c pairs n) ≡ true
 unfolding settings_by
-settings_settled (Value x) (Value y) (Value z) pairs n = opened_settled (pairs_from (first_pairs x y z) pairs) n
-settings_settled (Value x) (Value y) Unreadable pairs n = refl
-settings_settled (Value x) Unreadable c pairs n = refl
-settings_settled Unreadable b c pairs n = refl
+settings_settled (Some x) (Some y) (Some z) pairs n = opened_settled (pairs_from (first_pairs x y z) pairs) n
+settings_settled (Some x) (Some y) None pairs n = refl
+settings_settled (Some x) None c pairs n = refl
+settings_settled None b c pairs n = refl
 
 fields_settled : (n : ℕ) (fs : List (List ℕ)) → is_settled (opening_by n fs) ≡ true
 fields_settled n [] = refl
@@ -174,15 +172,15 @@ pub data IsLine : Record → Type 0 where
   frame : {port h4 flag place next : ℕ} → IsLine (Frame port h4 flag place next)
   malformed : {next : ℕ} → IsLine (Malformed next)
 
-frame_line_lem : (ports : ℕ) (p h : Number) (flag : ℕ) (payload : Bool) (place n : ℕ) → IsLine (frame_by ports p h flag payload place n)
+frame_line_lem : (ports : ℕ) (p h : Option ℕ) (flag : ℕ) (payload : Bool) (place n : ℕ) → IsLine (frame_by ports p h flag payload place n)
 unfolding frame_by
-frame_line_lem ports (Value x) (Value y) flag payload place n = go (ltb x ports && ltb y 256 && ltb flag 2 && payload)
+frame_line_lem ports (Some x) (Some y) flag payload place n = go (ltb x ports && ltb y 256 && ltb flag 2 && payload)
   where
     go : (b : Bool) → IsLine (cond b (Frame x y flag place n) (Malformed n))
     go true = frame
     go false = malformed
-frame_line_lem ports (Value x) Unreadable flag payload place n = malformed
-frame_line_lem ports Unreadable h flag payload place n = malformed
+frame_line_lem ports (Some x) None flag payload place n = malformed
+frame_line_lem ports None h flag payload place n = malformed
 
 record_line : (ports size end n : ℕ) (fs : List (List ℕ)) → IsLine (record_by ports size end n fs)
 record_line ports size end n [] = malformed
@@ -222,15 +220,15 @@ weight_fields (b ∷ line) = go (eqb b TAB) (weight_fields line)
 lies_none : (size end n : ℕ) → Lies size end (Malformed n)
 lies_none size end n = record { within = λ port h4 flag place next e. let z : ◌≡◌ {A = ℕ} 0 1 = cc in absurd (omega arith) }
 
-frame_lies : (ports : ℕ) (p h : Number) (flag : ℕ) (payload : Bool) (place n size end : ℕ) → (payload ≡ true → place + size + size ≤ end) → Lies size end (frame_by ports p h flag payload place n)
+frame_lies : (ports : ℕ) (p h : Option ℕ) (flag : ℕ) (payload : Bool) (place n size end : ℕ) → (payload ≡ true → place + size + size ≤ end) → Lies size end (frame_by ports p h flag payload place n)
 unfolding frame_by
-frame_lies ports (Value x) (Value y) flag payload place n size end h = go (ltb x ports && ltb y 256 && ltb flag 2 && payload) refl
+frame_lies ports (Some x) (Some y) flag payload place n size end h = go (ltb x ports && ltb y 256 && ltb flag 2 && payload) refl
   where
     go : (b : Bool) → (ltb x ports && ltb y 256 && ltb flag 2 && payload) ≡ b → Lies size end (cond b (Frame x y flag place n) (Malformed n))
     go true t = record { within = λ port h4 f q next e. let z : place ≡ q = cc in rw (← z) (h (and_right (ltb x ports && ltb y 256 && ltb flag 2) payload t)) }
     go false t = lies_none size end n
-frame_lies ports (Value x) Unreadable flag payload place n size end h = lies_none size end n
-frame_lies ports Unreadable hh flag payload place n size end h = lies_none size end n
+frame_lies ports (Some x) None flag payload place n size end h = lies_none size end n
+frame_lies ports None hh flag payload place n size end h = lies_none size end n
 
 hex_length : (digits : ℕ) (field : List ℕ) → is_hex digits field ≡ true → length field ≡ digits
 unfolding is_hex

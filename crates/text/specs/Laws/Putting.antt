@@ -1,9 +1,8 @@
 -- Texts put one behind the other.
-use Rattle.std.specs.Prelude.{◌≡◌, refl, List, [], ◌∷◌, ◌++◌, ℕ, suc, ◌+◌, ◌≤◌, ◌<◌, length, take, get_or, set}
-use Rattle.std.proofs.Common.{sym, ◌∙◌, add-one, arith, length-append, length-take-le, take-suc, le-leb}
+use Rattle.std.specs.Prelude.{◌≡◌, List, [], ◌∷◌, ◌++◌, ℕ, suc, ◌+◌, ◌≤◌, length, set}
+use Rattle.std.proofs.Common.{sym, ◌∙◌, arith, length-append, le-leb}
 use Rattle.std.proofs.lemmas.List.Edits.{sets}
 use Rattle.std.proofs.Math.Seq.{length-sets}
-use Rattle.std.proofs.lemmas.Bool.{lt-leb}
 use Rattle.text.specs.Output.{Put, put_bytes, put_next}
 
 pub sets_append : (xs ys l : List ℕ) (i : ℕ) → sets l i (xs ++ ys) ≡ sets (sets l i xs) (i + length xs) ys
@@ -12,29 +11,13 @@ sets_append (x ∷ xs) ys l i =
     let e : i + suc (length xs) ≡ suc i + length xs = omega arith in
     rw e (sets_append xs ys (set l i x) (suc i))
 
-pub put_turn : (text out₀ out : List ℕ) (at i : ℕ) → i < length text → out ≡ sets out₀ at (take i text) → set out (at + i) (get_or text i 0) ≡ sets out₀ at (take (i + 1) text)
-put_turn text out₀ out at i h e =
-    let n : length (take i text) ≡ i = length-take-le i text (omega arith) in
-    rw (e, add-one, take-suc text i 0 h, sets_append (take i text) (get_or text i 0 ∷ []) out₀ at, n)
-
-pub put_whole : (text out₀ out : List ℕ) (at : ℕ) → out ≡ sets out₀ at text → Put text at out₀ (at + length text) out
-put_whole text out₀ out at e = record { behind = refl; bytes = e; kept = rw e (length-sets out₀ at text) }
-
--- a text that fits, and one that does not
+-- a text that fits
 pub is_put : {text out new : List ℕ} {at next : ℕ} → at + length text ≤ length out → (next ≡ put_next text at out) × (new ≡ put_bytes text at out) → Put text at out next new
 unfolding put_next put_bytes
 is_put {text} {out} {new} {at} {next} h e =
     let t = le-leb (at + length text) (length out) h in
     let b : new ≡ sets out at text = rw t at e.1 in
     record { behind = rw t at e.0; bytes = b; kept = rw b (length-sets out at text) }
-
-pub put_here : {text out new : List ℕ} {at next : ℕ} → at + length text ≤ length out → Put text at out next new → (next ≡ put_next text at out) × (new ≡ put_bytes text at out)
-unfolding put_next put_bytes
-put_here {text} {out} {new} {at} {next} h p = rw (le-leb (at + length text) (length out) h) (p.behind, p.bytes)
-
-pub put_none : (text out : List ℕ) (at : ℕ) → length out < at + length text → (at ≡ put_next text at out) × (out ≡ put_bytes text at out)
-unfolding put_next put_bytes
-put_none text out at h = rw (lt-leb (at + length text) (length out) h) (refl, refl)
 
 -- one text behind another, and the room that they need
 pub put_then : {x y out mid new : List ℕ} {at next last : ℕ} → Put x at out next mid → Put y next mid last new → Put (x ++ y) at out last new

@@ -1,10 +1,9 @@
 -- Parts of a text up to a limit, which may lie past its end, and the fields of a part, one by one.
-use Rattle.std.specs.Prelude.{◌≡◌, refl, List, [], ◌∷◌, ◌++◌, length, take, get_or}
-use Rattle.std.proofs.Common.{sym, ap, ◌∙◌, add-one, length-take, length-drop, drop_of_length-le, drop-cons, get_or-drop, get_or-take, length-take-le, take_all, take-suc, take-take}
-use Prim.Native.Nat.{ℕ, zero, suc, ◌+◌, ◌-◌, ◌≤◌, ◌<◌}
+use Rattle.std.specs.Prelude.{◌≡◌, refl, List, [], ◌∷◌, length, take, get_or}
+use Rattle.std.proofs.Common.{sym, ap, ◌∙◌, add-one, length-take, drop_of_length-le, drop-cons, get_or-take, length-take-le, take-take}
+use Prim.Native.Nat.{ℕ, zero, suc, ◌+◌, ◌≤◌, ◌<◌}
 use native.Mathlib.Omega.{arith}
 use Rattle.std.proofs.Math.Seq.{slice, drop-drop, length-slice, take-nil}
-use Rattle.std.proofs.lemmas.List.{drop-append-le}
 use Rattle.ground.specs.Finding.{index_of}
 use Rattle.text.specs.Laws.Parted.{index_le, parted_more, parted_none}
 use Rattle.text.specs.Text.{TAB, fields_of}
@@ -12,18 +11,10 @@ use Rattle.text.specs.Text.{TAB, fields_of}
 pub end_within : (l : List ℕ) (limit : ℕ) → limit < length l → limit ≡ length (take limit l)
 end_within l limit h = sym (length-take-le limit l (omega arith))
 
-pub end_past : (l : List ℕ) (limit : ℕ) → length l ≤ limit → length l ≡ length (take limit l)
-end_past l limit h = rw (take_all limit l h)
-
 take_end : (limit : ℕ) (l : List ℕ) → take (length (take limit l)) l ≡ take limit l
 take_end zero l = refl
 take_end (suc n) [] = refl
 take_end (suc n) (x ∷ l) = ap (λ (r : List ℕ). x ∷ r) (take_end n l)
-
-pub slice_suc : (l : List ℕ) (at end : ℕ) → at ≤ end → end < length l → slice at (end + 1) l ≡ slice at end l ++ (get_or l end 0 ∷ [])
-slice_suc l at end h k =
-    let m : at ≤ length (take end l) = rw (length-take-le end l (omega arith)) h in
-    rw (add-one, take-suc l end 0 k) (drop-append-le at (take end l) (get_or l end 0 ∷ []) m)
 
 module _ (l : List ℕ) (limit end : ℕ) (e : end ≡ length (take limit l)) where
   pub end_le : end ≤ length l
@@ -40,24 +31,6 @@ module _ (l : List ℕ) (limit end : ℕ) (e : end ≡ length (take limit l)) wh
       let k : at < length (take limit l) = omega arith in
       let m : at < limit = (let q = length-take limit l in omega arith) in
       rw (add-one, drop-cons (take limit l) at 0 k, get_or-take limit l at 0 m)
-
-  pub slice_length : (at : ℕ) → length (slice at limit l) ≡ end - at
-  slice_length at = length-drop at (take limit l) ∙ rw (← e)
-
--- a byte of a part is a byte of the text
-module _ (l : List ℕ) (at limit i : ℕ) (h : i < length (slice at limit l)) where
-  before : at + i < length (take limit l)
-  before = let n = length-drop at (take limit l) in omega arith
-
-  pub slice_within : at + i < length l
-  slice_within = let n = length-take limit l in let b = before in omega arith
-
-  pub slice_at : get_or (slice at limit l) i 0 ≡ get_or l (at + i) 0
-  slice_at =
-      let n = length-take limit l in
-      let b = before in
-      let k : at + i < limit = omega arith in
-      rw (get_or-drop at (take limit l) i 0, get_or-take limit l (at + i) 0 k)
 
 pub take_slice : (at i end : ℕ) (l : List ℕ) → at + i ≤ end → take i (slice at end l) ≡ slice at (at + i) l
 take_slice zero i end l h =

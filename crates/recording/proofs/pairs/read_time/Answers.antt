@@ -6,4 +6,4 @@ pub returns-in_default : goal.returns-in_default
 returns-in_default c = time_none c.args.pairs c.args.timer c.args.i c.args.number c.in_default.is c.awaits.result c.awaits.ensures
 
 pub returns : goal.returns
-returns c = time_value c.args.pairs c.args.timer c.args.i c.args.number c.in-Value.n c.in-Value.is c.with_time-settings.result c.time_from-awaited.result c.with_settings.result c.with_settings.ensures c.with_time-settings.ensures c.time_from-awaited.ensures
+returns c = time_value c.args.pairs c.args.timer c.args.i c.args.number c.in-Some.n c.in-Some.is c.with_time-settings.result c.time_from-awaited.result c.with_settings.result c.with_settings.ensures c.with_time-settings.ensures c.time_from-awaited.ensures

@@ -11,16 +11,16 @@ returns-in_default c =
 
 pub returns-then-same : goal.returns-then-same
 returns-then-same c =
-    size_line (slice c.args.at c.args.end c.args.text.now) c.args.number c.in-Value.n c.in-Value.is (sym c.same.ensures ∙ c.if-same.true)
+    size_line (slice c.args.at c.args.end c.args.text.now) c.args.number c.in-Some.n c.in-Some.is (sym c.same.ensures ∙ c.if-same.true)
 
 pub returns-then-same-2 : goal.returns-then-same-2
 returns-then-same-2 c =
-    add_line (slice c.args.at c.args.end c.args.text.now) c.args.number c.in-Value.n c.in-Value.is (sym c.same.ensures ∙ c.if-same.false) (sym c.same-2.ensures ∙ c.if-same-2.true)
+    add_line (slice c.args.at c.args.end c.args.text.now) c.args.number c.in-Some.n c.in-Some.is (sym c.same.ensures ∙ c.if-same.false) (sym c.same-2.ensures ∙ c.if-same-2.true)
 
 pub returns-then-same-3 : goal.returns-then-same-3
 returns-then-same-3 c =
-    remove_line (slice c.args.at c.args.end c.args.text.now) c.args.number c.in-Value.n c.in-Value.is (sym c.same.ensures ∙ c.if-same.false) (sym c.same-2.ensures ∙ c.if-same-2.false) (sym c.same-3.ensures ∙ c.if-same-3.true)
+    remove_line (slice c.args.at c.args.end c.args.text.now) c.args.number c.in-Some.n c.in-Some.is (sym c.same.ensures ∙ c.if-same.false) (sym c.same-2.ensures ∙ c.if-same-2.false) (sym c.same-3.ensures ∙ c.if-same-3.true)
 
 pub returns : goal.returns
 returns c =
-    other_line (slice c.args.at c.args.end c.args.text.now) c.args.number c.in-Value.n c.in-Value.is (sym c.same.ensures ∙ c.if-same.false) (sym c.same-2.ensures ∙ c.if-same-2.false) (sym c.same-3.ensures ∙ c.if-same-3.false)
+    other_line (slice c.args.at c.args.end c.args.text.now) c.args.number c.in-Some.n c.in-Some.is (sym c.same.ensures ∙ c.if-same.false) (sym c.same-2.ensures ∙ c.if-same-2.false) (sym c.same-3.ensures ∙ c.if-same-3.false)

@@ -10,28 +10,28 @@ returns-in_default c =
 
 pub returns-in_default-mst : goal.returns-in_default-mst
 returns-in_default-mst c =
-    unread_mst c.args.epoch c.args.mst c.args.ack c.in-Value.e c.in-Value.is c.in_default-mst.is
+    unread_mst c.args.epoch c.args.mst c.args.ack c.in-Some.e c.in-Some.is c.in_default-mst.is
 
 pub returns-in_default-ack : goal.returns-in_default-ack
 returns-in_default-ack c =
-    unread_ack c.args.epoch c.args.mst c.args.ack c.in-Value.e c.in-Value-mst.m c.in-Value.is c.in-Value-mst.is c.in_default-ack.is
+    unread_ack c.args.epoch c.args.mst c.args.ack c.in-Some.e c.in-Some-mst.m c.in-Some.is c.in-Some-mst.is c.in_default-ack.is
 
 pub overflow_cast-result : goal.overflow_cast-result
 overflow_cast-result c =
-    let k = bounded c.in-Value.e c.in-Value-mst.m c.in-Value-ack.a c.if-e-m.true in omega arith
+    let k = bounded c.in-Some.e c.in-Some-mst.m c.in-Some-ack.a c.if-e-m.true in omega arith
 
 pub overflow_cast-result-then-e-m : goal.overflow_cast-result-then-e-m
 overflow_cast-result-then-e-m c =
-    let k = bounded c.in-Value.e c.in-Value-mst.m c.in-Value-ack.a c.if-e-m.true in omega arith
+    let k = bounded c.in-Some.e c.in-Some-mst.m c.in-Some-ack.a c.if-e-m.true in omega arith
 
 pub overflow_cast-result-then-e-m-2 : goal.overflow_cast-result-then-e-m-2
 overflow_cast-result-then-e-m-2 c =
-    let k = bounded c.in-Value.e c.in-Value-mst.m c.in-Value-ack.a c.if-e-m.true in omega arith
+    let k = bounded c.in-Some.e c.in-Some-mst.m c.in-Some-ack.a c.if-e-m.true in omega arith
 
 pub returns-then-e-m : goal.returns-then-e-m
 returns-then-e-m c =
-    read_report c.args.epoch c.args.mst c.args.ack c.in-Value.e c.in-Value-mst.m c.in-Value-ack.a c.in-Value.is c.in-Value-mst.is c.in-Value-ack.is c.if-e-m.true
+    read_report c.args.epoch c.args.mst c.args.ack c.in-Some.e c.in-Some-mst.m c.in-Some-ack.a c.in-Some.is c.in-Some-mst.is c.in-Some-ack.is c.if-e-m.true
 
 pub returns : goal.returns
 returns c =
-    refused_report c.args.epoch c.args.mst c.args.ack c.in-Value.e c.in-Value-mst.m c.in-Value-ack.a c.in-Value.is c.in-Value-mst.is c.in-Value-ack.is c.if-e-m.false
+    refused_report c.args.epoch c.args.mst c.args.ack c.in-Some.e c.in-Some-mst.m c.in-Some-ack.a c.in-Some.is c.in-Some-mst.is c.in-Some-ack.is c.if-e-m.false
