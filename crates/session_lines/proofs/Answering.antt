@@ -1,4 +1,4 @@
--- A line answered into a buffer, and each way out of a part of the input.
+-- A line answered into a buffer, and what a part of the input adds to a line.
 use mathlib.Core.Path.{◌≡◌, refl, ap, ◌∙◌}
 use mathlib.Core.Bool.{Bool, true, false}
 use mathlib.Core.List.{List}
@@ -13,18 +13,16 @@ use Rattle.sender.specs.declared.board.Board.{Board}
 use Rattle.sender.specs.declared.table.Table.{Table}
 use Rattle.sender.specs.Board.{board_of}
 use Rattle.sender.specs.Laws.Sizes.{size_le}
-use Rattle.session_lines.specs.declared.gathering.Gathered.{Gathered}
+use Rattle.session_lines.specs.declared.gathering.Gathered.TheVariants.{Ended, Open}
 use Rattle.session_lines.specs.declared.kept.Kept.{Kept}
 use Rattle.session_lines.specs.declared.line.Line.{Line}
 use Rattle.session_lines.specs.declared.replies.Reply.{Reply}
-use Rattle.session_lines.specs.declared.session.Fed.{Fed}
-use Rattle.session_lines.specs.declared.session.Session.{Session}
-use Rattle.session_lines.specs.Gathering.{gathered_of}
-use Rattle.session_lines.specs.Kept.{keep_all, line_in, nothing_kept}
+use Rattle.session_lines.specs.Gathering.{gathered_of, told}
+use Rattle.session_lines.specs.Kept.{keep_all, line_in}
 use Rattle.session_lines.specs.Line.{line_of}
 use Rattle.session_lines.specs.Output.{ROOM, answer_text, board_text}
 use Rattle.session_lines.specs.Replies.{is_board, output_of, reply_of}
-use Rattle.session_lines.specs.Session.{fed_session, fed_text, feed_bytes, feed_of, finish_bytes, finish_of, last_session, last_text, over, refused, said_to, table_after, used_of}
+use Rattle.session_lines.specs.Session.{over, said_to, table_after, used_of}
 use Rattle.session_lines.specs.Shown.{shown_bytes, shown_length}
 use Rattle.text.specs.Laws.Parted.{index_le}
 use Rattle.text.specs.Output.{Put}
@@ -81,45 +79,10 @@ pub end_within : (input : List ℕ) (end : ℕ) → end ≡ 0 + index_of LINE-EN
 end_within input end e = let s = end_is input end e in let m = index_le LINE-END input in omega arith
 
 module _ (before : Kept) (input : List ℕ) (end : ℕ) (e : end ≡ index_of LINE-END input) (k : Kept) (f : k ≡ keep_all before (take end input)) where
-  pub gathered_line : end < length input → ◌≡◌ {A = Gathered} (record { kept = k; used = end + 1; ended = true }) (gathered_of before input)
+  pub gathered_ended : end < length input → Ended k (end + 1) ≡ told (gathered_of before input)
   unfolding gathered_of used_of
-  gathered_line b = rw (← e, lt-ltb end (length input) b, ← f)
+  gathered_ended b = rw (← e, lt-ltb end (length input) b, ← f)
 
-  pub gathered_open : length input ≤ end → ◌≡◌ {A = Gathered} (record { kept = k; used = end; ended = false }) (gathered_of before input)
+  pub gathered_open : length input ≤ end → Open k ≡ told (gathered_of before input)
   unfolding gathered_of used_of
   gathered_open b = rw (← e, le-ltb end (length input) b, ← f)
-
-module _ (s : Session) (input out : List ℕ) where
-  pub feed_short : length out < ROOM → (refused s ≡ feed_of s input out) × (out ≡ feed_bytes s input out)
-  unfolding feed_of feed_bytes
-  feed_short h = rw (lt-ltb (length out) ROOM h) (refl, refl)
-
-  module _ (room : ROOM ≤ length out) (end : ℕ) (e : end ≡ index_of LINE-END input) (k : Kept) (f : k ≡ keep_all s.kept (take end input)) where
-    pub feed_line : end < length input → (t : Table) (n : ℕ) (new : List ℕ) (z : Kept) → z ≡ nothing_kept
-        → (t ≡ table_after s.table (line_in k)) × (n ≡ length (said_to s.table (line_in k))) × (new ≡ over (said_to s.table (line_in k)) out)
-        → (◌≡◌ {A = Fed} (record { session = record { table = t; kept = z }; answer = 0; used = end + 1; written = n }) (feed_of s input out)) × (new ≡ feed_bytes s input out)
-    unfolding feed_of feed_bytes fed_session fed_text used_of
-    feed_line b t n new z y a =
-        rw (le-ltb (length out) ROOM room, ← e, lt-ltb end (length input) b, ← f, a.0, a.1, a.2, y) (refl, refl)
-
-    pub feed_open : length input ≤ end
-        → (◌≡◌ {A = Fed} (record { session = record { table = s.table; kept = k }; answer = 0; used = end; written = 0 }) (feed_of s input out)) × (out ≡ feed_bytes s input out)
-    unfolding feed_of feed_bytes fed_session fed_text used_of
-    feed_open b = rw (le-ltb (length out) ROOM room, ← e, le-ltb end (length input) b, ← f) (refl, refl)
-
-module _ (s : Session) (out : List ℕ) where
-  pub finish_short : length out < ROOM → (refused s ≡ finish_of s out) × (out ≡ finish_bytes s out)
-  unfolding finish_of finish_bytes
-  finish_short h = rw (lt-ltb (length out) ROOM h) (refl, refl)
-
-  module _ (room : ROOM ≤ length out) where
-    pub finish_line : 0 < s.kept.count → (t : Table) (n : ℕ) (new : List ℕ) (z : Kept) → z ≡ nothing_kept
-        → (t ≡ table_after s.table (line_in s.kept)) × (n ≡ length (said_to s.table (line_in s.kept))) × (new ≡ over (said_to s.table (line_in s.kept)) out)
-        → (◌≡◌ {A = Fed} (record { session = record { table = t; kept = z }; answer = 0; used = 0; written = n }) (finish_of s out)) × (new ≡ finish_bytes s out)
-    unfolding finish_of finish_bytes last_session last_text
-    finish_line b t n new z y a = rw (le-ltb (length out) ROOM room, lt-ltb 0 s.kept.count b, a.0, a.1, a.2, y) (refl, refl)
-
-    pub finish_none : s.kept.count ≤ 0
-        → (◌≡◌ {A = Fed} (record { session = s; answer = 0; used = 0; written = 0 }) (finish_of s out)) × (out ≡ finish_bytes s out)
-    unfolding finish_of finish_bytes last_session last_text
-    finish_none b = rw (le-ltb (length out) ROOM room, le-ltb 0 s.kept.count b) (refl, refl)

@@ -1,4 +1,5 @@
 -- Laws on the definitions, for the proofs above them.
+pub mod Consoles
 pub mod Feeding
 pub mod Holding
 pub mod Keeping

@@ -1,3 +1,4 @@
+pub mod Consoles
 pub mod Gathering
 pub mod Kept
 pub mod Laws

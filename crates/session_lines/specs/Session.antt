@@ -1,12 +1,14 @@
 -- A session (01, 'Session'), fed in parts cut anywhere.
-use Rattle.std.specs.Prelude.{Bool, [], ◌++◌, ℕ, ◌+◌, drop, length, take, if◌then◌else◌}
+use Rattle.std.specs.Prelude.{Bool, [], ◌++◌, ℕ, ◌+◌, drop, length, take, Result, Ok, Err, if◌then◌else◌, ◌==◌}
 use Rattle.ground.specs.Plain.{◌<?◌}
 use Rattle.ground.specs.Types.{Bytes}
 use Rattle.ground.specs.Finding.{index_of}
 use Rattle.sender.specs.declared.table.Table.{Table}
 use Rattle.sender.specs.Commands.{start_of}
+use Rattle.session_lines.specs.declared.console.Fed.{Fed as Told}
+use Rattle.session_lines.specs.declared.console.Refusal.{Refusal}
+use Rattle.session_lines.specs.declared.console.Refusal.TheVariants.{Length}
 use Rattle.session_lines.specs.declared.kept.Kept.{Kept}
-use Rattle.session_lines.specs.declared.session.Fed.{Fed}
 use Rattle.session_lines.specs.declared.session.Session.{Session}
 use Rattle.session_lines.specs.Kept.{keep_all, line_in, nothing_kept}
 use Rattle.session_lines.specs.Line.{line_of}
@@ -40,6 +42,19 @@ has_end input = index_of LINE-END input <? length input
 unfoldable pub used_of : Bytes → ℕ
 used_of input = if has_end input then index_of LINE-END input + 1 else index_of LINE-END input
 
+-- a session as any console: what it keeps, and what a line leaves and is answered
+abbrev pub kept_in : Session → Kept
+kept_in s = s.kept
+
+abbrev pub kept_by : Session → Kept → Session
+kept_by s kept = record { table = s.table; kept = kept }
+
+abbrev pub answered_by : Session → Bytes → Session
+answered_by s line = record { table = table_after s.table line; kept = nothing_kept }
+
+abbrev pub said_by : Session → Bytes → Bytes
+said_by s line = said_to s.table line
+
 unfoldable pub fed_session : Session → Bytes → Session
 fed_session s input =
     if has_end input then (record { table = table_after s.table (line_in (kept_with s input)); kept = nothing_kept }) else (record { table = s.table; kept = kept_with s input })
@@ -47,9 +62,25 @@ fed_session s input =
 unfoldable pub fed_text : Session → Bytes → Bytes
 fed_text s input = if has_end input then said_to s.table (line_in (kept_with s input)) else []
 
+-- What a part of the input has done. answer: 0, or 9 for an output buffer without room, and then nothing is used.
+pub record Fed : Type 0 where
+  pub session : Session
+  pub answer : ℕ
+  pub used : ℕ
+  pub written : ℕ
+
+-- as the code has it
+abbrev pub told : Fed → Result (Told Session) Refusal
+told f = if f.answer == 0 then Ok (record { console = f.session; used = f.used; written = f.written }) else Err Length
+
 -- 9: 'output .. length wrong', 'state as given'
 abbrev pub refused : Session → Fed
 refused s = record { session = s; answer = 9; used = 0; written = 0 }
+
+-- and back: of a refused call the caller knows all that there is
+abbrev pub fed_back : (given : Session) (told : Result (Told Session) Refusal) → Fed
+fed_back given (Ok f) = record { session = f.console; answer = 0; used = f.used; written = f.written }
+fed_back given (Err refusal) = refused given
 
 unfoldable pub feed_of : (s : Session) (input out : Bytes) → Fed
 feed_of s input out =

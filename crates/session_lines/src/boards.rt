@@ -14,12 +14,9 @@ fn put_slots(rows: [Row; 64], n: u8, out: &mut [u8]) -> usize
     ensures { Put (slots_text rows n) 0 out.old result out.new }
 {
     let mut at = 0;
-    let mut i = 0;
-    while i < n {
+    for i in 0..n {
         let row = rows[i as usize];
-        let word = row.word;
-        at = output::put_slot(i, word, row.number, out, at);
-        i += 1;
+        at = output::put_slot(i, row.word, row.number, out, at);
     }
     at
 }
@@ -28,8 +25,7 @@ pub(crate) fn put_board(board: Board, out: &mut [u8]) -> usize
     requires { (board.count ≤ 64) × (ROOM ≤ length out.old) }
     ensures { Put (board_text board) 0 out.old result out.new }
 {
-    let rows = board.rows;
-    let next = put_slots(rows, board.count, out);
+    let next = put_slots(board.rows, board.count, out);
     output::put_wait(board.wait, out, next)
 }
 
@@ -40,6 +36,5 @@ pub fn show(table: Table, out: &mut [u8]) -> usize
     if out.len() < OUTPUT_ROOM {
         return 0;
     }
-    let board = sender::board_of(table);
-    put_board(board, out)
+    put_board(sender::board_of(table), out)
 }

@@ -2,16 +2,20 @@
 #![tactic(auto)]
 
 mod boards;
+mod console;
 mod gathering;
 mod kept;
 mod line;
 mod output;
 mod replies;
+mod running;
 mod session;
 
 pub use boards::show;
+pub use console::{Console, Fed, Refusal, feed_any, finish_any};
 pub use gathering::{Gathered, gather};
-pub use kept::{Kept, nothing};
+pub use kept::Kept;
 pub use line::{Line, read_line};
 pub use replies::{Reply, is_board, reply_to};
-pub use session::{Fed, OUTPUT_ROOM, Session, begin, feed, finish, line_in};
+pub use running::run;
+pub use session::{OUTPUT_ROOM, Session, begin, feed, finish, line_in};

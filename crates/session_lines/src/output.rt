@@ -27,7 +27,6 @@ pub(crate) fn put_wait(wait: bool, out: &mut [u8], at: usize) -> usize
     requires { at + length (wait_text wait) ≤ length out.old }
     ensures { Put (wait_text wait) at out.old result out.new }
 {
-    let bit = ground::one_if(wait);
     let next = text::put(b"wait\t", out, at);
-    text::put_number(bit, b'\n', out, next)
+    text::put_number(u8::from(wait), b'\n', out, next)
 }

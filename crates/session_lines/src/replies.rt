@@ -53,13 +53,5 @@ pub fn reply_to(table: Table, line: Line) -> Reply
 pub fn is_board(line: Line) -> bool
     ensures { result ≡ is_board line }
 {
-    match line {
-        Line::Size(_) => false,
-        Line::Add(_) => false,
-        Line::Remove(_) => false,
-        Line::Report(_, _, _) => false,
-        Line::Lapse => false,
-        Line::Board => true,
-        Line::Malformed => false,
-    }
+    matches!(line, Line::Board)
 }

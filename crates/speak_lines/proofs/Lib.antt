@@ -1,2 +1,3 @@
 pub mod Answering
+pub mod AsConsole
 pub mod Printing

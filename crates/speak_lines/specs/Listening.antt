@@ -1,7 +1,10 @@
 -- A session told to a listener, fed in parts cut anywhere: the session's lines, and `epoch`, at which she is told what goes out now that did not before.
-use Rattle.std.specs.Prelude.{Bool, [], ℕ, ◌+◌, length, if◌then◌else◌}
+use Rattle.std.specs.Prelude.{Bool, [], ℕ, ◌+◌, length, Result, Ok, Err, if◌then◌else◌, ◌==◌}
 use Rattle.ground.specs.Plain.{◌<?◌}
 use Rattle.ground.specs.Types.{Bytes}
+use Rattle.session_lines.specs.declared.console.Fed.{Fed}
+use Rattle.session_lines.specs.declared.console.Refusal.{Refusal}
+use Rattle.session_lines.specs.declared.console.Refusal.TheVariants.{Length}
 use Rattle.session_lines.specs.declared.kept.Kept.{Kept}
 use Rattle.session_lines.specs.Gathering.{gathered_of}
 use Rattle.session_lines.specs.Kept.{line_in, nothing_kept}
@@ -17,7 +20,6 @@ use Rattle.spoken.specs.Changes.{compared_of}
 use Rattle.spoken.specs.Speaking.{SPEECH-ROOM}
 use Rattle.text.specs.Ascii.{ascii}
 use Rattle.text.specs.Fields.{same_bytes}
-use Rattle.speak_lines.specs.declared.listening.Heard.{Heard}
 use Rattle.speak_lines.specs.declared.listening.Listener.{Listener}
 use Rattle.speak_lines.specs.Lines.{change_lines, said_of}
 
@@ -55,6 +57,10 @@ after_line l line =
       runs = l.runs;
     }
 
+-- a listener as any console
+abbrev pub kept_in : Listener → Kept
+kept_in l = l.kept
+
 abbrev pub with_kept : (listener : Listener) (kept : Kept) → Listener
 with_kept l kept = record { table = l.table; heard = l.heard; kept = kept; place = l.place; runs = l.runs }
 
@@ -71,9 +77,25 @@ fed_listener l input = if ends_in l input then after_line l (line_in (line_with 
 unfoldable pub fed_text : (listener : Listener) (input : Bytes) → Bytes
 fed_text l input = if ends_in l input then text_of l (line_in (line_with l input)) else []
 
+-- What a part of the input has done. answer: 0, or 9 for an output buffer without room, and then nothing is used.
+pub record Heard : Type 0 where
+  pub listener : Listener
+  pub answer : ℕ
+  pub used : ℕ
+  pub written : ℕ
+
+-- as the code has it
+abbrev pub told : Heard → Result (Fed Listener) Refusal
+told h = if h.answer == 0 then Ok (record { console = h.listener; used = h.used; written = h.written }) else Err Length
+
 -- 9: the buffer is too short, and nothing is used
 abbrev pub refused : (listener : Listener) → Heard
 refused l = record { listener = l; answer = 9; used = 0; written = 0 }
+
+-- and back: of a refused call the caller knows all that there is
+abbrev pub heard_back : (given : Listener) (told : Result (Fed Listener) Refusal) → Heard
+heard_back given (Ok f) = record { listener = f.console; answer = 0; used = f.used; written = f.written }
+heard_back given (Err refusal) = refused given
 
 -- a part of the input up to its first line end
 unfoldable pub feed_of : (listener : Listener) (input out : Bytes) → Heard

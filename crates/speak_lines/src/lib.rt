@@ -4,4 +4,4 @@
 mod lines;
 mod listening;
 
-pub use listening::{Heard, Listener, begin, feed, finish};
+pub use listening::{Listener, begin, feed, finish};

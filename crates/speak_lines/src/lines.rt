@@ -14,28 +14,20 @@ use spoken::Changes;
 pub(crate) fn is_size(line: Line) -> bool
     ensures { result ≡ is_size line }
 {
-    match line {
-        Line::Size(n) => (1 <= n) & (n <= 64),
-        Line::Add(_) => false,
-        Line::Remove(_) => false,
-        Line::Report(_, _, _) => false,
-        Line::Lapse => false,
-        Line::Board => false,
-        Line::Malformed => false,
-    }
+    matches!(line, Line::Size(1..=64))
 }
 
-fn put_named(line: Line, out: &mut [u8], at: usize) -> usize
-    ensures { (result ≡ put_next (named_text line) at out.old) × (out.new ≡ put_bytes (named_text line) at out.old) }
+fn name_of(line: Line) -> &'static [u8]
+    ensures { result.now ≡ named_text line }
 {
     match line {
-        Line::Size(_) => text::put(b"size\t", out, at),
-        Line::Add(_) => text::put(b"add\tslot\t", out, at),
-        Line::Remove(_) => text::put(b"remove\tslot\t", out, at),
-        Line::Report(_, _, _) => text::put(b"report\t", out, at),
-        Line::Lapse => text::put(b"lapse\t", out, at),
-        Line::Board => text::put(b"board\t", out, at),
-        Line::Malformed => text::put(b"", out, at),
+        Line::Size(_) => b"size\t",
+        Line::Add(_) => b"add\tslot\t",
+        Line::Remove(_) => b"remove\tslot\t",
+        Line::Report(_, _, _) => b"report\t",
+        Line::Lapse => b"lapse\t",
+        Line::Board => b"board\t",
+        Line::Malformed => b"",
     }
 }
 
@@ -43,40 +35,34 @@ fn put_numbered(line: Line, out: &mut [u8], at: usize) -> usize
     ensures { (result ≡ put_next (numbered_text line) at out.old) × (out.new ≡ put_bytes (numbered_text line) at out.old) }
 {
     match line {
-        Line::Size(n) => text::put_decimal(n as u64, b'\t', out, at),
-        Line::Add(slot) => text::put_decimal(slot as u64, b'\t', out, at),
-        Line::Remove(slot) => text::put_decimal(slot as u64, b'\t', out, at),
-        Line::Report(_, _, _) => text::put(b"", out, at),
-        Line::Lapse => text::put(b"", out, at),
-        Line::Board => text::put(b"", out, at),
-        Line::Malformed => text::put(b"", out, at),
+        Line::Size(n) | Line::Add(n) | Line::Remove(n) => {
+            text::put_decimal(u64::from(n), b'\t', out, at)
+        }
+        _ => text::put(b"", out, at),
     }
 }
 
-fn put_cause(line: Line, out: &mut [u8], at: usize) -> usize
-    ensures { (result ≡ put_next (cause_text line) at out.old) × (out.new ≡ put_bytes (cause_text line) at out.old) }
+fn cause_of(line: Line) -> &'static [u8]
+    ensures { result.now ≡ cause_text line }
 {
     match line {
-        Line::Size(_) => text::put(b"not 1 to 64\n", out, at),
-        Line::Add(_) => text::put(b"in use already\n", out, at),
-        Line::Remove(_) => text::put(b"not in use\n", out, at),
-        Line::Report(_, _, _) => text::put(b"refused\n", out, at),
-        Line::Lapse => text::put(b"no wait is open\n", out, at),
-        Line::Board => text::put(b"refused\n", out, at),
-        Line::Malformed => text::put(b"malformed\n", out, at),
+        Line::Size(_) => b"not 1 to 64\n",
+        Line::Add(_) => b"in use already\n",
+        Line::Remove(_) => b"not in use\n",
+        Line::Lapse => b"no wait is open\n",
+        Line::Malformed => b"malformed\n",
+        Line::Report(_, _, _) | Line::Board => b"refused\n",
     }
 }
 
-fn put_why(line: Line, number: u8, out: &mut [u8], at: usize) -> usize
-    ensures { (result ≡ put_next (why_text line number) at out.old) × (out.new ≡ put_bytes (why_text line number) at out.old) }
+fn why(line: Line, number: u8) -> &'static [u8]
+    ensures { result.now ≡ why_text line number }
 {
-    if number == 1 {
-        return text::put(b"no such slot\n", out, at);
+    match number {
+        1 => b"no such slot\n",
+        3 => b"a wait is open\n",
+        _ => cause_of(line),
     }
-    if number == 3 {
-        return text::put(b"a wait is open\n", out, at);
-    }
-    put_cause(line, out, at)
 }
 
 // A refused line: which it was, what it was, and why.
@@ -88,9 +74,9 @@ pub(crate) fn put_refused(line: Line, number: u8, place: u64, out: &mut [u8]) ->
     let third = text::put_number(number, b'\t', out, second);
     let fourth = text::put(b"line\t", out, third);
     let fifth = text::put_decimal(place, b'\t', out, fourth);
-    let sixth = put_named(line, out, fifth);
+    let sixth = text::put(name_of(line), out, fifth);
     let seventh = put_numbered(line, out, sixth);
-    put_why(line, number, out, seventh)
+    text::put(why(line, number), out, seventh)
 }
 
 // `size 4` for a size that is accepted, and nothing for other lines that are done.
@@ -110,9 +96,7 @@ pub(crate) fn put_board(runs: bool, table: Table, out: &mut [u8]) -> usize
     ensures { (result ≡ length (board_lines runs table)) × (out.new ≡ over (board_lines runs table) out.old) }
 {
     if runs {
-        let board = sender::board_of(table);
-        let speech = spoken::speak_whole(board, out);
-        return speech.written;
+        return spoken::speak_whole(sender::board_of(table), out).written;
     }
     session_lines::show(table, out)
 }
@@ -122,9 +106,7 @@ pub(crate) fn put_changes(runs: bool, changes: Changes, out: &mut [u8]) -> usize
     ensures { (result ≡ length (change_lines runs changes)) × (out.new ≡ over (change_lines runs changes) out.old) }
 {
     if runs {
-        let speech = spoken::speak_runs(changes, out);
-        return speech.written;
+        return spoken::speak_runs(changes, out).written;
     }
-    let each = spoken::speak(changes, out);
-    each.written
+    spoken::speak(changes, out).written
 }

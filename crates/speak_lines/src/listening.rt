@@ -4,12 +4,12 @@ ghost use Rattle.session_lines.specs.Kept.{line_in};
 ghost use Rattle.session_lines.specs.Session.{over};
 ghost use Rattle.spoken.specs.Speaking.{SPEECH-ROOM};
 ghost use Rattle.speak_lines.specs.Lines.{said_of};
-ghost use Rattle.speak_lines.specs.Listening.{after_line, beginning, feed_bytes, feed_of, finish_bytes, finish_of, heard_after, is_epoch, next_place, table_after, text_of};
+ghost use Rattle.speak_lines.specs.Listening.{after_line, beginning, feed_bytes, feed_of, finish_bytes, finish_of, heard_after, is_epoch, kept_in, table_after, text_of, told, with_kept};
 
 use crate::lines;
 use packet::kinds;
 use sender::{Board, Table};
-use session_lines::{Kept, Line};
+use session_lines::{Console, Fed, Kept, Line, Refusal};
 
 // The table as the lines so far have left it, the board that she holds, the line that has begun and its number, and whether slots are told in runs.
 #[derive(Clone, Copy)]
@@ -21,15 +21,6 @@ pub struct Listener {
     pub runs: bool,
 }
 
-// What a part of the input has done. answer: 0, or 9 for an output buffer below spoken::SPEECH_ROOM, and then nothing is used.
-#[derive(Clone, Copy)]
-pub struct Heard {
-    pub listener: Listener,
-    pub answer: u8,
-    pub used: usize,
-    pub written: usize,
-}
-
 // Before any size the count is 0.
 pub fn begin(runs: bool) -> Listener
     ensures { result ≡ beginning runs }
@@ -39,7 +30,7 @@ pub fn begin(runs: bool) -> Listener
     Listener {
         table,
         heard: sender::board_of(table),
-        kept: session_lines::nothing(),
+        kept: Kept::nothing(),
         place: 1,
         runs,
     }
@@ -48,8 +39,7 @@ pub fn begin(runs: bool) -> Listener
 fn is_epoch(kept: Kept) -> bool
     ensures { result ≡ is_epoch (line_in kept) }
 {
-    let bytes = kept.bytes;
-    text::same(&bytes, 0, kept.count, b"epoch")
+    kept.says(b"epoch")
 }
 
 fn table_after(table: Table, kept: Kept) -> Table
@@ -58,8 +48,7 @@ fn table_after(table: Table, kept: Kept) -> Table
     if is_epoch(kept) {
         return table;
     }
-    let reply = session_lines::reply_to(table, session_lines::line_in(kept));
-    reply.table
+    session_lines::reply_to(table, session_lines::line_in(kept)).table
 }
 
 // The board that she holds.
@@ -71,30 +60,21 @@ fn heard_after(table: Table, heard: Board, kept: Kept) -> Board
     }
     let line = session_lines::line_in(kept);
     if lines::is_size(line) {
-        let reply = session_lines::reply_to(table, line);
-        let begun = reply.table;
-        return sender::board_of(begun);
+        return sender::board_of(session_lines::reply_to(table, line).table);
     }
     heard
-}
-
-fn next_place(place: u64) -> u64
-    ensures { result ≡ next_place place }
-{
-    if place < u64::MAX { place + 1 } else { place }
 }
 
 fn after_line(listener: Listener, kept: Kept) -> Listener
     ensures { result ≡ after_line listener (line_in kept) }
 {
-    let table = listener.table;
-    let heard = listener.heard;
     Listener {
-        table: table_after(table, kept),
-        heard: heard_after(table, heard, kept),
-        kept: session_lines::nothing(),
-        place: next_place(listener.place),
-        runs: listener.runs,
+        table: table_after(listener.table, kept),
+        heard: heard_after(listener.table, listener.heard, kept),
+        kept: Kept::nothing(),
+        // Lines are counted up to a number that no run uses up.
+        place: listener.place.saturating_add(1),
+        ..listener
     }
 }
 
@@ -107,9 +87,8 @@ fn put_said(runs: bool, table: Table, line: Line, place: u64, out: &mut [u8]) ->
         return lines::put_board(runs, table, out);
     }
     let reply = session_lines::reply_to(table, line);
-    let after = reply.table;
     if reply.number == 0 {
-        return lines::put_done(line, after.count, out);
+        return lines::put_done(line, reply.table.count, out);
     }
     lines::put_refused(line, reply.number, place, out)
 }
@@ -119,83 +98,51 @@ fn put_line(listener: Listener, kept: Kept, out: &mut [u8]) -> usize
     requires { SPEECH-ROOM ≤ length out.old }
     ensures { (result ≡ length (text_of listener (line_in kept))) × (out.new ≡ over (text_of listener (line_in kept)) out.old) }
 {
-    let table = listener.table;
-    let heard = listener.heard;
     if is_epoch(kept) {
-        let compared = spoken::changes_between(heard, sender::board_of(table));
-        let changes = compared.changes;
-        return lines::put_changes(listener.runs, changes, out);
+        let compared = spoken::changes_between(listener.heard, sender::board_of(listener.table));
+        return lines::put_changes(listener.runs, compared.changes, out);
     }
     let line = session_lines::line_in(kept);
-    put_said(listener.runs, table, line, listener.place, out)
+    put_said(listener.runs, listener.table, line, listener.place, out)
+}
+
+impl Console for Listener {
+    const ROOM: usize = spoken::SPEECH_ROOM;
+
+    ghost ROOM = { 2188 };
+
+    ghost kept_of = { kept_in };
+
+    ghost keeping = { with_kept };
+
+    ghost left_by = { after_line };
+
+    ghost said_by = { text_of };
+
+    fn kept(self) -> Kept {
+        self.kept
+    }
+
+    fn with_kept(self, kept: Kept) -> Listener {
+        Listener { kept, ..self }
+    }
+
+    fn answer(self, line: Kept, out: &mut [u8]) -> (Listener, usize) {
+        let written = put_line(self, line, out);
+        (after_line(self, line), written)
+    }
 }
 
 // A part of the input, up to its first line end.
-pub fn feed(listener: Listener, input: &[u8], out: &mut [u8]) -> Heard
-    ensures { (result ≡ feed_of listener input.now out.old) × (out.new ≡ feed_bytes listener input.now out.old) }
+pub fn feed(listener: Listener, input: &[u8], out: &mut [u8]) -> Result<Fed<Listener>, Refusal>
+    ensures { (result ≡ told (feed_of listener input.now out.old)) × (out.new ≡ feed_bytes listener input.now out.old) }
 {
-    if out.len() < spoken::SPEECH_ROOM {
-        return Heard {
-            listener,
-            answer: 9,
-            used: 0,
-            written: 0,
-        };
-    }
-    let before = listener.kept;
-    let gathered = session_lines::gather(before, input);
-    let kept = gathered.kept;
-    if gathered.ended {
-        let written = put_line(listener, kept, out);
-        return Heard {
-            listener: after_line(listener, kept),
-            answer: 0,
-            used: gathered.used,
-            written,
-        };
-    }
-    let table = listener.table;
-    let heard = listener.heard;
-    Heard {
-        listener: Listener {
-            table,
-            heard,
-            kept,
-            place: listener.place,
-            runs: listener.runs,
-        },
-        answer: 0,
-        used: gathered.used,
-        written: 0,
-    }
+    session_lines::feed_any(listener, input, out)
 }
 
 // The end of the input: a line that lacks its end is answered.
-pub fn finish(listener: Listener, out: &mut [u8]) -> Heard
-    ensures { (result ≡ finish_of listener out.old) × (out.new ≡ finish_bytes listener out.old) }
+pub fn finish(listener: Listener, out: &mut [u8]) -> Result<Fed<Listener>, Refusal>
+    ensures { (result ≡ told (finish_of listener out.old)) × (out.new ≡ finish_bytes listener out.old) }
 {
-    if out.len() < spoken::SPEECH_ROOM {
-        return Heard {
-            listener,
-            answer: 9,
-            used: 0,
-            written: 0,
-        };
-    }
-    let kept = listener.kept;
-    if 0 < kept.count {
-        let written = put_line(listener, kept, out);
-        return Heard {
-            listener: after_line(listener, kept),
-            answer: 0,
-            used: 0,
-            written,
-        };
-    }
-    Heard {
-        listener,
-        answer: 0,
-        used: 0,
-        written: 0,
-    }
+    session_lines::finish_any(listener, out)
 }

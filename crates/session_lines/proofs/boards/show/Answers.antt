@@ -7,8 +7,8 @@ returns-then-out-lt-OUTPUT_ROOM c =
 
 pub put_board-requires : goal.put_board-requires
 put_board-requires c =
-    (rw c.board_of-board.ensures (board_count c.args.table), c.if-out-lt-OUTPUT_ROOM.false)
+    (rw c.board_of.ensures (board_count c.args.table), c.if-out-lt-OUTPUT_ROOM.false)
 
 pub returns : goal.returns
 returns c =
-    shown_board c.args.table c.args.out.now c.if-out-lt-OUTPUT_ROOM.false _ _ c.board_of-board.result c.board_of-board.ensures c.put_board.ensures
+    shown_board c.args.table c.args.out.now c.if-out-lt-OUTPUT_ROOM.false _ _ c.board_of.result c.board_of.ensures c.put_board.ensures

@@ -1,13 +1,12 @@
-use Rattle.session_lines.proofs.Answering.{end_is, end_within, gathered_line, gathered_open}
+use Rattle.std.proofs.Common.{sym, length-take-le}
+use Rattle.session_lines.proofs.Answering.{end_is, end_within, gathered_ended, gathered_open}
 use Rattle.session_lines.proofs.gathering.gather.Goals as goal
 
-pub keep_all-more-requires : goal.keep_all-more-requires
-keep_all-more-requires c = end_within c.args.input.now c.piece_end-end.result c.piece_end-end.ensures
+pub slice_bounds-extend-end : goal.slice_bounds-extend-end
+slice_bounds-extend-end c = sym (length-take-le _ _ (end_within c.args.input.now c.piece_end-end.result c.piece_end-end.ensures))
 
 pub returns-then-end-input : goal.returns-then-end-input
-returns-then-end-input c =
-    gathered_line c.args.kept c.args.input.now c.piece_end-end.result (end_is c.args.input.now c.piece_end-end.result c.piece_end-end.ensures) c.keep_all-more.result c.keep_all-more.ensures c.if-end-input.true
+returns-then-end-input c = gathered_ended c.args.kept c.args.input.now c.piece_end-end.result (end_is c.args.input.now c.piece_end-end.result c.piece_end-end.ensures) _ c.extend.ensures c.if-end-input.true
 
-pub returns : goal.returns
-returns c =
-    gathered_open c.args.kept c.args.input.now c.piece_end-end.result (end_is c.args.input.now c.piece_end-end.result c.piece_end-end.ensures) c.keep_all-more.result c.keep_all-more.ensures c.if-end-input.false
+pub returns-else-end-input : goal.returns-else-end-input
+returns-else-end-input c = gathered_open c.args.kept c.args.input.now c.piece_end-end.result (end_is c.args.input.now c.piece_end-end.result c.piece_end-end.ensures) _ c.extend.ensures c.if-end-input.false

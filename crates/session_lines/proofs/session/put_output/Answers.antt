@@ -7,11 +7,11 @@ use Rattle.session_lines.proofs.session.put_output.Goals as goal
 
 pub put_board-requires : goal.put_board-requires
 put_board-requires c =
-    (rw c.board_of-board.ensures (board_count c.args.table), c.requires.0)
+    (rw c.board_of.ensures (board_count c.args.table), c.requires.0)
 
 pub returns-then-is_board : goal.returns-then-is_board
 returns-then-is_board c =
-    output_board c.args.table c.args.line c.args.out.now _ _ c.is_board.result c.requires.0 c.is_board.ensures c.if-is_board.true c.board_of-board.result c.board_of-board.ensures c.put_board.ensures
+    output_board c.args.table c.args.line c.args.out.now _ _ c.is_board.result c.requires.0 c.is_board.ensures c.if-is_board.true c.board_of.result c.board_of.ensures c.put_board.ensures
 
 pub put_answer-requires : goal.put_answer-requires
 put_answer-requires c =

@@ -5,7 +5,7 @@ use Rattle.speak_lines.proofs.lines.put_board.Goals as goal
 
 pub returns-then-runs : goal.returns-then-runs
 returns-then-runs c =
-    board_runs c.args.runs c.args.out.now _ c.speak_whole-speech.result c.requires c.if-runs.true c.args.table c.board_of-board.result c.board_of-board.ensures c.speak_whole-speech.ensures
+    board_runs c.args.runs c.args.out.now _ c.speak_whole.result c.requires c.if-runs.true c.args.table c.board_of.result c.board_of.ensures c.speak_whole.ensures
 
 pub returns : goal.returns
 returns c =

@@ -4,5 +4,5 @@ use Rattle.speak_lines.proofs.lines.put_refused.Goals as goal
 
 pub returns : goal.returns
 returns c =
-    refused_stands c.args.line c.args.number c.args.place c.args.out.now c.requires c.put-second.ensures c.put_number-third.ensures c.put-fourth.ensures
-    c.put_decimal-fifth.ensures c.put_named-sixth.ensures c.put_numbered-seventh.ensures c.put_why.ensures
+    refused_stands c.args.line c.args.number c.args.place c.args.out.now c.requires c.put-second.ensures c.put_number-third.ensures c.put-fourth.ensures c.put_decimal-fifth.ensures
+    (rw c.name_of.ensures at c.put-sixth.ensures) c.put_numbered-seventh.ensures (rw c.why.ensures at c.put.ensures)

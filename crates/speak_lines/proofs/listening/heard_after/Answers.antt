@@ -8,7 +8,7 @@ returns-then-is_epoch c =
 
 pub returns-then-is_size : goal.returns-then-is_size
 returns-then-is_size c =
-    heard_anew c.args.table c.args.kept c.is_epoch.result c.is_epoch.ensures c.if-is_epoch.false c.line_in-line.result c.line_in-line.ensures c.is_size.result c.is_size.ensures c.if-is_size.true c.reply_to-reply.result c.reply_to-reply.ensures c.board_of-then-is_size.result c.args.heard c.board_of-then-is_size.ensures
+    heard_anew c.args.table c.args.kept c.is_epoch.result c.is_epoch.ensures c.if-is_epoch.false c.line_in-line.result c.line_in-line.ensures c.is_size.result c.is_size.ensures c.if-is_size.true c.reply_to.result c.reply_to.ensures c.board_of-then-is_size.result c.args.heard c.board_of-then-is_size.ensures
 
 pub returns : goal.returns
 returns c =

@@ -7,4 +7,4 @@ returns-then-is_epoch c =
 
 pub returns : goal.returns
 returns c =
-    table_line c.args.table c.args.kept c.is_epoch.result c.is_epoch.ensures c.if-is_epoch.false c.line_in.result c.line_in.ensures c.reply_to-reply.result c.reply_to-reply.ensures
+    table_line c.args.table c.args.kept c.is_epoch.result c.is_epoch.ensures c.if-is_epoch.false c.line_in.result c.line_in.ensures c.reply_to.result c.reply_to.ensures
