@@ -1,4 +1,5 @@
 -- Each way out of the commands and reports, as the definitions have it.
+use Rattle.std.specs.Prelude.{Option, Some, None}
 use mathlib.Core.Path.{◌≡◌, ◌∙◌, sym, ap}
 use mathlib.Core.Bool.{Bool, true, false, cond, not, ◌&&◌}
 use mathlib.Core.List.{List}
@@ -10,8 +11,6 @@ use lib.ListN.{set}
 use borrow.Author.Tests.{eq-eqb, ne_eqb, lt-ltb, le-ltb, ltb-true}
 use Rattle.ground.specs.Truth.{and_right}
 use Rattle.packet.specs.Kinds.{mst_fails, mst_first, mst_numbers}
-use Rattle.sender.specs.declared.finding.Found.{Found}
-use Rattle.sender.specs.declared.finding.Found.TheVariants.{At, Nothing}
 use Rattle.sender.specs.declared.table.Answer.TheVariants.{Done, NoSlot, NotAllowed, OutOfRange, WaitOpen}
 use Rattle.sender.specs.declared.table.Slot.{Slot}
 use Rattle.sender.specs.declared.table.State.{State}
@@ -92,15 +91,15 @@ module _ (t : Table) (i : ℕ) {n : ℕ} (e : n ≡ slot_count t.count) where
       remove_done m a = ap (λ (x : Table). answered x Done) a ∙ in_order_lem t (removed_from t i) i _ (rw (← e) (lt-ltb i n h)) w m
 
 -- one reported number
-module _ (slots heard : List Slot) (n q mst : ℕ) (fails : Bool) (found : Found) (e : fails ≡ mst_fails mst q) (h : found ≡ holder_of slots n q) where
-  pub told_at : (i : ℕ) (state : State) → found ≡ At i → state ≡ becomes fails (slot_at heard i).state
+module _ (slots heard : List Slot) (n q mst : ℕ) where
+  pub told_at : {fails : Bool} {i : ℕ} {state : State} → fails ≡ mst_fails mst q → Some i ≡ holder_of slots n q → state ≡ becomes fails (slot_at heard i).state
       → set heard i (record { state = state; number = (slot_at heard i).number }) ≡ number_applied slots heard n q mst
   unfolding number_applied
-  told_at i state g s = rw (← e, ← h, g, s)
+  told_at e h s = rw (← e, ← h, s)
 
-  pub told_none : found ≡ Nothing → heard ≡ number_applied slots heard n q mst
+  pub told_none : None ≡ holder_of slots n q → heard ≡ number_applied slots heard n q mst
   unfolding number_applied
-  told_none g = rw (← e, ← h, g)
+  told_none h = rw (← h)
 
 -- a slot's number after a report
 module _ (was is : List Slot) (n i : ℕ) where

@@ -1,9 +1,7 @@
 -- 'States: IDLE (number 255), ADD, active, DNU.' (01, 'The sender's table')
-use Rattle.std.specs.Prelude.{Bool, true, false, ◌&&◌, List, ℕ, zero, suc, get_or, if◌then◌else◌, ◌==◌}
+use Rattle.std.specs.Prelude.{Bool, true, false, ◌&&◌, List, ℕ, zero, suc, get_or, if◌then◌else◌, ◌==◌, Option, Some, None}
 use Rattle.ground.specs.Sizes.{size_of}
 use Rattle.ground.specs.Counting.Words.{count}
-use Rattle.sender.specs.declared.finding.Found.{Found}
-use Rattle.sender.specs.declared.finding.Found.TheVariants.{At, Nothing}
 use Rattle.sender.specs.declared.table.Answer.{Answer}
 use Rattle.sender.specs.declared.table.Answer.TheVariants.{Done, NoSlot, NotAllowed, WaitOpen, OutOfRange, Field, Length}
 use Rattle.sender.specs.declared.table.Slot.{Slot}
@@ -53,11 +51,11 @@ members_of slots n = count n (λ i. is_member (slot_at slots i).state)
 abbrev pub holds : Slot → ℕ → Bool
 holds s q = is_member s.state && s.number == q
 
-abbrev pub earlier : Found → Found → Found
-earlier (At i) f = At i
-earlier Nothing f = f
+abbrev pub earlier : Option ℕ → Option ℕ → Option ℕ
+earlier (Some i) f = Some i
+earlier None f = f
 
 -- 'the slot that holds that number is found, if there is one'. IDLE slots are passed over; where several hold it, the first.
-unfoldable pub holder_of : (slots : List Slot) (count number : ℕ) → Found
-holder_of slots zero q = Nothing
-holder_of slots (suc n) q = earlier (holder_of slots n q) (if holds (slot_at slots n) q then At n else Nothing)
+unfoldable pub holder_of : (slots : List Slot) (count number : ℕ) → Option ℕ
+holder_of slots zero q = None
+holder_of slots (suc n) q = earlier (holder_of slots n q) (if holds (slot_at slots n) q then Some n else None)

@@ -1,6 +1,9 @@
 // The board: the word and number of each slot and the wait, from one table, whole.
-ghost use Rattle.std.specs.Prelude.{◌≡◌, ◌≤◌, ◌<◌};
-ghost use Rattle.sender.specs.Board.{board_of, highest, no_row, row_of, rows_of, word_of};
+ghost use Rattle.std.specs.Prelude.{◌≡◌, ◌≤◌, ◌<◌, ◌&&◌};
+ghost use Rattle.std.specs.List.{list_any};
+ghost use Rattle.ground.specs.Plain.{◌<?◌};
+ghost use Rattle.sender.specs.Table.{is_active};
+ghost use Rattle.sender.specs.Board.{board_of, no_row, row_of, rows_of, word_of};
 
 use crate::table;
 use crate::table::{Slot, State, Table};
@@ -19,21 +22,11 @@ pub struct Board {
     pub wait: bool,
 }
 
-// No active slot has a higher number.
-fn is_highest(slots: [Slot; 64], n: usize, number: u8) -> bool
-    requires { n ≤ 64 }
-    ensures { result ≡ highest slots n number }
+// Some active slot has a higher number.
+fn has_higher(slots: &[Slot], number: u8) -> bool
+    ensures { result ≡ list_any (λ s. is_active s.state && number <? s.number) slots.now }
 {
-    let mut higher = false;
-    let mut i = 0;
-    while i < n {
-        let slot = slots[i];
-        let state = slot.state;
-        let active = table::is_active(state);
-        higher = higher | (active & (number < slot.number));
-        i += 1;
-    }
-    !higher
+    slots.iter().any(|slot| table::is_active(slot.state) && number < slot.number)
 }
 
 fn word_of(state: State, last: bool) -> Word
@@ -52,10 +45,9 @@ fn row_of(slots: [Slot; 64], n: usize, i: usize) -> Row
     ensures { result ≡ row_of slots n i }
 {
     let slot = slots[i];
-    let state = slot.state;
-    let last = is_highest(slots, n, slot.number);
+    let last = !has_higher(&slots[..n], slot.number);
     Row {
-        word: word_of(state, last),
+        word: word_of(slot.state, last),
         number: slot.number,
     }
 }
@@ -73,13 +65,9 @@ fn rows_of(slots: [Slot; 64], n: usize, kind: u8) -> [Row; 64]
     requires { n ≤ 64 }
     ensures { result ≡ rows_of slots n kind }
 {
-    let none = no_row(kind);
-    let mut rows = [none; 64];
-    let mut i = 0;
-    while i < n {
-        let row = row_of(slots, n, i);
-        rows[i] = row;
-        i += 1;
+    let mut rows = [no_row(kind); 64];
+    for i in 0..n {
+        rows[i] = row_of(slots, n, i);
     }
     rows
 }
@@ -87,10 +75,9 @@ fn rows_of(slots: [Slot; 64], n: usize, kind: u8) -> [Row; 64]
 pub fn board_of(table: Table) -> Board
     ensures { result ≡ board_of table }
 {
-    let slots = table.slots;
     let n = table::size(table.count);
     Board {
-        rows: rows_of(slots, n, table.kind),
+        rows: rows_of(table.slots, n, table.kind),
         count: n as u8,
         wait: table.wait,
     }

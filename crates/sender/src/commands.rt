@@ -1,8 +1,8 @@
 // Start, add, remove and lapse (01, 'The sender's table'; for commands the refusals are 1, 3, 2).
-ghost use Rattle.std.specs.Prelude.{◌≡◌, ◌≤◌, ◌<◌};
+ghost use Rattle.std.specs.Prelude.{◌≡◌, ◌<◌, map};
 ghost use Rattle.sender.specs.Calls.{outcome_of};
 ghost use Rattle.sender.specs.Calls.Call.{AddSlot, RemoveSlot, Lapse};
-ghost use Rattle.sender.specs.Commands.{added_to, fallen, fallen_in, fresh_of, idle_slot, removed_from, start_of};
+ghost use Rattle.sender.specs.Commands.{added_to, fallen, fresh_of, idle_slot, removed_from, start_of};
 
 use crate::table;
 use crate::table::{Answer, Outcome, Slot, State, Table};
@@ -20,9 +20,8 @@ fn idle_slot(kind: u8) -> Slot
 fn fresh(kind: u8, count: u8) -> Table
     ensures { result ≡ fresh_of kind count }
 {
-    let idle = idle_slot(kind);
     Table {
-        slots: [idle; 64],
+        slots: [idle_slot(kind); 64],
         count,
         wait: false,
         remembered: 0,
@@ -33,13 +32,7 @@ fn fresh(kind: u8, count: u8) -> Table
 pub fn start(kind: u8, count: u32) -> Outcome
     ensures { result ≡ start_of kind count }
 {
-    if count == 0 {
-        return Outcome {
-            table: fresh(kind, 0),
-            answer: Answer::OutOfRange,
-        };
-    }
-    if count > 64 {
+    if count == 0 || count > 64 {
         return Outcome {
             table: fresh(kind, 0),
             answer: Answer::OutOfRange,
@@ -57,18 +50,11 @@ fn added_to(table: Table, at: usize) -> Table
 {
     let mut slots = table.slots;
     let n = table::size(table.count);
-    let free = table::members(slots, n);
     slots[at] = Slot {
         state: State::Add,
-        number: free,
+        number: table::members(&table.slots[..n]),
     };
-    Table {
-        slots,
-        count: table.count,
-        wait: table.wait,
-        remembered: table.remembered,
-        kind: table.kind,
-    }
+    Table { slots, ..table }
 }
 
 pub fn add(table: Table, slot: u32) -> Outcome
@@ -88,9 +74,7 @@ pub fn add(table: Table, slot: u32) -> Outcome
             answer: Answer::WaitOpen,
         };
     }
-    let given = table.slots[at];
-    let state = given.state;
-    if table::is_member(state) {
+    if table::is_member(table.slots[at].state) {
         return Outcome {
             table,
             answer: Answer::NotAllowed,
@@ -106,50 +90,36 @@ pub fn add(table: Table, slot: u32) -> Outcome
 fn fall(slot: Slot, number: u8) -> Slot
     ensures { result ≡ fallen number slot }
 {
-    let state = slot.state;
-    let own = slot.number;
-    let falls = table::is_member(state) & (number < own);
-    if falls {
+    if table::is_member(slot.state) && number < slot.number {
         Slot {
-            state,
-            number: own - 1,
+            number: slot.number - 1,
+            ..slot
         }
     } else {
         slot
     }
 }
 
-fn fall_in(slots: [Slot; 64], n: usize, number: u8) -> [Slot; 64]
-    requires { n ≤ 64 }
-    ensures { result ≡ fallen_in slots n number }
+fn fall_in(slots: &mut [Slot], number: u8)
+    ensures { slots.new ≡ map (λ s. fallen number s) slots.old }
 {
-    let mut out = slots;
-    let mut i = 0;
-    while i < n {
-        let slot = out[i];
-        let next = fall(slot, number);
-        out[i] = next;
-        i += 1;
+    for slot in slots {
+        *slot = fall(*slot, number);
     }
-    out
 }
 
 fn removed_from(table: Table, at: usize) -> Table
     requires { at < 64 }
     ensures { result ≡ removed_from table at }
 {
-    let given = table.slots;
     let n = table::size(table.count);
-    let leaving = given[at];
-    let mut slots = fall_in(given, n, leaving.number);
-    let idle = idle_slot(table.kind);
-    slots[at] = idle;
+    let mut slots = table.slots;
+    fall_in(&mut slots[..n], table.slots[at].number);
+    slots[at] = idle_slot(table.kind);
     Table {
         slots,
-        count: table.count,
         wait: true,
-        remembered: table.remembered,
-        kind: table.kind,
+        ..table
     }
 }
 
@@ -170,9 +140,7 @@ pub fn remove(table: Table, slot: u32) -> Outcome
             answer: Answer::WaitOpen,
         };
     }
-    let given = table.slots[at];
-    let state = given.state;
-    if table::is_member(state) {
+    if table::is_member(table.slots[at].state) {
         return Outcome {
             table: removed_from(table, at),
             answer: Answer::Done,
@@ -188,14 +156,10 @@ pub fn lapse(table: Table) -> Outcome
     ensures { result ≡ outcome_of table Lapse }
 {
     if table.wait {
-        let slots = table.slots;
         return Outcome {
             table: Table {
-                slots,
-                count: table.count,
                 wait: false,
-                remembered: table.remembered,
-                kind: table.kind,
+                ..table
             },
             answer: Answer::Done,
         };

@@ -50,31 +50,20 @@ fn fresh_sender(table: Table, epoch: u8) -> Sender
 fn with_outcome(sender: Sender, outcome: Outcome) -> SenderOutcome
     ensures { result ≡ with_outcome sender outcome }
 {
-    let table = outcome.table;
-    let answer = outcome.answer;
-    let outgoing = sender.outgoing;
-    let ruling = sender.ruling;
     SenderOutcome {
         sender: Sender {
-            table,
-            outgoing,
-            ruling,
-            epoch: sender.epoch,
-            begun: sender.begun,
-            gid: sender.gid,
-            mst: sender.mst,
-            rs_ack: sender.rs_ack,
+            table: outcome.table,
+            ..sender
         },
-        answer,
+        answer: outcome.answer,
     }
 }
 
 fn epoch_started(sender: Sender) -> u8
     ensures { result ≡ started_epoch sender }
 {
-    let table = sender.table;
     if sender.begun {
-        return kinds::next_epoch(table.kind, sender.epoch);
+        return kinds::next_epoch(sender.table.kind, sender.epoch);
     }
     sender.epoch
 }
@@ -114,12 +103,10 @@ fn packet_fields(sender: Sender, at: usize) -> Fields
     requires { at < 64 }
     ensures { result ≡ packet_fields sender at }
 {
-    let board = sender.outgoing;
-    let row = board.rows[at];
-    let word = row.word;
+    let row = sender.outgoing.rows[at];
     Fields {
         epoch: sender.epoch,
-        word,
+        word: row.word,
         gid: sender.gid,
         mst: sender.mst,
         rs_ack: sender.rs_ack,
@@ -134,63 +121,50 @@ impl Sender {
         ensures { result ≡ begin_of kind count epoch }
     {
         let outcome = commands::start(kind, count);
-        let table = outcome.table;
-        let answer = outcome.answer;
         SenderOutcome {
-            sender: fresh_sender(table, epoch),
-            answer,
+            sender: fresh_sender(outcome.table, epoch),
+            answer: outcome.answer,
         }
     }
 
     pub fn add(self, slot: u32) -> SenderOutcome
         ensures { result ≡ sender_outcome_of self (OnTable (AddSlot slot)) }
     {
-        let table = self.table;
-        let outcome = commands::add(table, slot);
-        with_outcome(self, outcome)
+        with_outcome(self, commands::add(self.table, slot))
     }
 
     pub fn remove(self, slot: u32) -> SenderOutcome
         ensures { result ≡ sender_outcome_of self (OnTable (RemoveSlot slot)) }
     {
-        let table = self.table;
-        let outcome = commands::remove(table, slot);
-        with_outcome(self, outcome)
+        with_outcome(self, commands::remove(self.table, slot))
     }
 
     pub fn report(self, epoch: u8, mst: u8, rs_ack: u8) -> SenderOutcome
         ensures { result ≡ sender_outcome_of self (OnTable (Report epoch mst rs_ack)) }
     {
-        let table = self.table;
-        let outcome = reports::report(table, epoch, mst, rs_ack);
-        with_outcome(self, outcome)
+        with_outcome(self, reports::report(self.table, epoch, mst, rs_ack))
     }
 
     pub fn lapse(self) -> SenderOutcome
         ensures { result ≡ sender_outcome_of self (OnTable Lapse) }
     {
-        let table = self.table;
-        let outcome = commands::lapse(table);
-        with_outcome(self, outcome)
+        with_outcome(self, commands::lapse(self.table))
     }
 
     pub fn start_epoch(self, gid: u8, mst: u8, rs_ack: u8) -> SenderOutcome
         ensures { result ≡ sender_outcome_of self (StartEpoch gid mst rs_ack) }
     {
-        let fits = (gid < 2) & (rs_ack < 2);
-        if !fits {
+        if gid >= 2 || rs_ack >= 2 {
             return SenderOutcome {
                 sender: self,
                 answer: Answer::Field,
             };
         }
-        let table = self.table;
-        let ruling = self.outgoing;
         SenderOutcome {
             sender: Sender {
-                table,
-                outgoing: board::board_of(table),
-                ruling,
+                table: self.table,
+                outgoing: board::board_of(self.table),
+                ruling: self.outgoing,
                 epoch: epoch_started(self),
                 begun: true,
                 gid,
@@ -205,18 +179,17 @@ impl Sender {
     pub fn packet(self, slot: u32, h4: &mut [u8]) -> Answer
         ensures { (result ≡ packet_answer self slot h4.old) × (h4.new ≡ packet_bytes self slot h4.old) }
     {
-        let table = self.table;
         let at = slot as usize;
-        if at >= table::size(table.count) {
+        if at >= table::size(self.table.count) {
             return Answer::NoSlot;
         }
-        if h4.len() != kinds::epoch_frames(table.kind) as usize {
+        if h4.len() != kinds::epoch_frames(self.table.kind) as usize {
             return Answer::Length;
         }
         if !self.begun {
             return Answer::NotAllowed;
         }
-        written_as(packet::write_by(table.kind, packet_fields(self, at), h4))
+        written_as(packet::write_by(self.table.kind, packet_fields(self, at), h4))
     }
 
     // The payload of a slot in a frame of this epoch: 1, 4, 9, 2. Slots with no rank send zeros. VC-12 has one P alone.
@@ -224,18 +197,16 @@ impl Sender {
         ensures { (result ≡ payload_answer self slot p (length frame.now) (length member.old))
             × (member.new ≡ payload_bytes self slot p frame.now member.old) }
     {
-        let table = self.table;
         let at = slot as usize;
-        if at >= table::size(table.count) {
+        if at >= table::size(self.table.count) {
             return Answer::NoSlot;
         }
-        if !kinds::is_payload(table.kind, p) {
+        if !kinds::is_payload(self.table.kind, p) {
             return Answer::OutOfRange;
         }
-        let board = self.ruling;
-        let rows = board.rows;
-        let n = table::size(board.count);
-        let x = ranks::carriers(rows, n) as usize;
+        let rows = self.ruling.rows;
+        let n = table::size(self.ruling.count);
+        let x = ranks::carriers(&rows[..n]) as usize;
         if !self.begun {
             return spread_early(payload::one_answer(x, p as usize, frame.len(), member.len()));
         }
@@ -247,14 +218,12 @@ impl Sender {
     pub fn ranks(self) -> Ranks
         ensures { result ≡ ranks_of self }
     {
-        let board = self.ruling;
-        let rows = board.rows;
-        let n = table::size(board.count);
+        let n = table::size(self.ruling.count);
         Ranks {
-            ranks: ranks::ranks_in(rows, n),
+            ranks: ranks::ranks_in(self.ruling.rows, n),
             count: n as u8,
             epoch: self.epoch,
-            x: ranks::carriers(rows, n),
+            x: ranks::carriers(&self.ruling.rows[..n]),
             begun: self.begun,
         }
     }

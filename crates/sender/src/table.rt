@@ -1,6 +1,6 @@
 // The table of slots by value, and what each call gives back.
-ghost use Rattle.std.specs.Prelude.{◌≡◌, ◌≤◌};
-ghost use Rattle.sender.specs.Table.{answer_number, is_add, is_active, is_member, members_of, slot_count};
+ghost use Rattle.std.specs.Prelude.{◌≡◌, ◌≤◌, count_by, length};
+ghost use Rattle.sender.specs.Table.{answer_number, is_add, is_active, is_member, slot_count};
 
 #[derive(Clone, Copy)]
 pub enum State {
@@ -62,55 +62,33 @@ pub struct Outcome {
 pub fn is_member(state: State) -> bool
     ensures { result ≡ is_member state }
 {
-    match state {
-        State::Idle => false,
-        State::Add => true,
-        State::Active => true,
-        State::Dnu => true,
-    }
+    !matches!(state, State::Idle)
 }
 
 pub(crate) fn is_add(state: State) -> bool
     ensures { result ≡ is_add state }
 {
-    match state {
-        State::Idle => false,
-        State::Add => true,
-        State::Active => false,
-        State::Dnu => false,
-    }
+    matches!(state, State::Add)
 }
 
 pub(crate) fn is_active(state: State) -> bool
     ensures { result ≡ is_active state }
 {
-    match state {
-        State::Idle => false,
-        State::Add => false,
-        State::Active => true,
-        State::Dnu => false,
-    }
+    matches!(state, State::Active)
 }
 
 // How many slots there are: a count above 64, which no call returns, is taken as 64.
 pub(crate) fn size(count: u8) -> usize
-    ensures { result ≡ slot_count count }
+    ensures value { result ≡ slot_count count }
+    ensures within { result ≤ 64 }
 {
     ground::size_of(count)
 }
 
 // How many slots are not IDLE.
-pub(crate) fn members(slots: [Slot; 64], n: usize) -> u8
-    requires { n ≤ 64 }
-    ensures { result ≡ members_of slots n }
+pub(crate) fn members(slots: &[Slot]) -> u8
+    requires { length slots.now ≤ 64 }
+    ensures { result ≡ count_by (λ s. is_member s.state) slots.now }
 {
-    let mut sum = 0;
-    let mut i = 0;
-    while i < n {
-        let slot = slots[i];
-        let state = slot.state;
-        sum += ground::one_if(is_member(state));
-        i += 1;
-    }
-    sum
+    slots.iter().filter(|slot| is_member(slot.state)).count() as u8
 }

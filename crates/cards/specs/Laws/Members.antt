@@ -1,13 +1,11 @@
 -- Which slots a sender's call makes members: the one added alone.
-use Rattle.std.specs.Prelude.{◌≡◌, refl, ◌⊎◌, ◌≢◌, Bool, true, false, cond, not, List, ℕ, zero, suc, ◌+◌, ◌%◌, ◌≤◌, ◌<◌, eqb, ltb, length, set}
+use Rattle.std.specs.Prelude.{◌≡◌, refl, ◌⊎◌, ◌≢◌, Bool, true, false, cond, not, List, ℕ, zero, suc, ◌+◌, ◌%◌, ◌≤◌, ◌<◌, eqb, ltb, length, set, Option, Some, None}
 use Rattle.std.proofs.Common.{◌∙◌, sym, ap, ⊎_elim, inl, inr, length-set, get_or-set_same, get_or-set_other}
 use Rattle.std.proofs.lemmas.Bool.{false≢true}
 use Rattle.std.proofs.Math.ListN.{get_or-eq_default}
 use Rattle.ground.specs.Counting.Each.{each, length_each, get_or_each, get_or_rest}
 use Rattle.ground.specs.Truth.{eq_or_ne, le_or_lt}
 use Rattle.packet.specs.Kinds.{mst_fails, mst_first, mst_numbers}
-use Rattle.sender.specs.declared.finding.Found.{Found}
-use Rattle.sender.specs.declared.finding.Found.TheVariants.{At, Nothing}
 use Rattle.sender.specs.declared.table.Answer.TheVariants.{Done, NoSlot, NotAllowed, WaitOpen}
 use Rattle.sender.specs.declared.table.Slot.{Slot}
 use Rattle.sender.specs.declared.table.State.{State}
@@ -54,9 +52,9 @@ becomes_member false Active = refl
 becomes_member true Dnu = refl
 becomes_member false Dnu = refl
 
-spoken_member : (f : Bool) (found : Found) (heard : List Slot) (j : ℕ) → member_at (spoken_to f found heard) j ≡ true → member_at heard j ≡ true
-spoken_member f Nothing heard j m = m
-spoken_member f (At i) heard j m =
+spoken_member : (f : Bool) (found : Option ℕ) (heard : List Slot) (j : ℕ) → member_at (spoken_to f found heard) j ≡ true → member_at heard j ≡ true
+spoken_member f None heard j m = m
+spoken_member f (Some i) heard j m =
     ⊎_elim (λ (o : member_at heard j ≡ true). o)
     (λ (o : (j ≡ i) × (is_member (becomes f (slot_at heard i).state) ≡ true)). ap (λ (k : ℕ). member_at heard k) o.0 ∙ sym (becomes_member f (slot_at heard i).state) ∙ o.1)
     (set_member heard i j _ m)

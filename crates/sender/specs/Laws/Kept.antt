@@ -1,6 +1,6 @@
 -- Each call keeps the numbering of the table (`Sound`), and so does every run of calls.
 -- The idea: a command does nothing, or changes slots as Laws/Adding and Laws/Removing have it. A report is taken in two parts, the states that its numbers make (`Heard`), which leave the numbers, and then the numbers given anew (Laws/Reporting).
-use Rattle.std.specs.Prelude.{◌≡◌, ◌≢◌, Bool, cond, not, ◌||◌, List, [], ◌∷◌, ℕ, zero, suc, ◌+◌, ◌%◌, ◌≤◌, ◌<◌, eqb, ltb, length, set, replicate}
+use Rattle.std.specs.Prelude.{◌≡◌, ◌≢◌, Bool, cond, not, ◌||◌, List, [], ◌∷◌, ℕ, zero, suc, ◌+◌, ◌%◌, ◌≤◌, ◌<◌, eqb, ltb, length, set, replicate, Option, Some, None}
 use Rattle.std.proofs.Math.Path.{refl}
 use Rattle.std.proofs.Common.{◌∙◌, ap, ⊎_elim, arith, length-set, get_or-set_same, get_or-set_other, ltb-true}
 use Rattle.std.proofs.Math.Bool.{true, false}
@@ -10,8 +10,6 @@ use Rattle.ground.specs.Truth.{eq_or_ne}
 use Rattle.ground.specs.Counting.Each.{each, length_each, get_or_each}
 use Rattle.ground.specs.Counting.Words.{count}
 use Rattle.packet.specs.Kinds.{idle_number, mst_fails, mst_first, mst_numbers}
-use Rattle.sender.specs.declared.finding.Found.{Found}
-use Rattle.sender.specs.declared.finding.Found.TheVariants.{At, Nothing}
 use Rattle.sender.specs.declared.table.Answer.TheVariants.{Done, NoSlot, NotAllowed, OutOfRange, WaitOpen}
 use Rattle.sender.specs.declared.table.Slot.{Slot}
 use Rattle.sender.specs.declared.table.State.{State}
@@ -165,9 +163,9 @@ pub record Heard (slots heard : List Slot) : Type 0 where
   pub number : (j : ℕ) → (slot_at heard j).number ≡ (slot_at slots j).number
   pub state : (j : ℕ) → MayBecome (slot_at slots j).state (slot_at heard j).state
 
-heard_becomes : (f : Bool) (found : Found) (slots heard : List Slot) → ((i : ℕ) → found ≡ At i → i < length slots) → Heard slots heard → Heard slots (spoken_to f found heard)
-heard_becomes f Nothing slots heard b o = o
-heard_becomes f (At i) slots heard b o =
+heard_becomes : (f : Bool) (found : Option ℕ) (slots heard : List Slot) → ((i : ℕ) → found ≡ Some i → i < length slots) → Heard slots heard → Heard slots (spoken_to f found heard)
+heard_becomes f None slots heard b o = o
+heard_becomes f (Some i) slots heard b o =
     record { len = length-set heard i new ∙ o.len; number = number; state = state }
   where
     new : Slot

@@ -1,6 +1,6 @@
 -- What a report makes of one member, and of an ADD member whose OK has not come yet.
 -- The idea: nobody else holds its number, so only what MST says of that number changes its state; and while no ADD becomes active the ADD members keep their numbers and no wait opens.
-use Rattle.std.specs.Prelude.{◌≡◌, ◌⊎◌, ◌≢◌, Bool, cond, not, ◌&&◌, List, eqb, length}
+use Rattle.std.specs.Prelude.{◌≡◌, ◌⊎◌, ◌≢◌, Bool, cond, not, ◌&&◌, List, eqb, length, Option, Some, None}
 use Rattle.std.proofs.Math.Path.{refl, ap}
 use Rattle.std.proofs.Common.{sym, subst, ◌∙◌, inl, inr, true≢false, not-suc-le-zero, get_or-set_same, get_or-set_other}
 use Rattle.std.proofs.Math.Logic.{⊎_elim}
@@ -18,8 +18,6 @@ use Rattle.ground.specs.Counting.Words.{count}
 use Rattle.packet.specs.Kinds.{mst_fails, mst_first, mst_numbers}
 use Rattle.packet.specs.Laws.Mst.{spoken_or_not}
 use Rattle.packet.specs.Mst.{Spoken}
-use Rattle.sender.specs.declared.finding.Found.{Found}
-use Rattle.sender.specs.declared.finding.Found.TheVariants.{At, Nothing}
 use Rattle.sender.specs.declared.table.Answer.TheVariants.{Done, NoSlot, NotAllowed, WaitOpen}
 use Rattle.sender.specs.declared.table.Outcome.{Outcome}
 use Rattle.sender.specs.declared.table.Slot.{Slot}
@@ -81,15 +79,15 @@ module _ (t : Table) (o : Sound t) (e mst ack : ℕ) where
         o.numbered.once j i h b (and_left (is_member (state_in t j)) (eqb (number_in t j) q) k) member
         (eqb-true (number_in t j) q (and_right (is_member (state_in t j)) (eqb (number_in t j) q) k))
 
-    own : holder_of t.slots n q ≡ At i
+    own : holder_of t.slots n q ≡ Some i
     own = holder_is t.slots q n i b (and-true (is_member (state_in t i)) (eqb q q) member (eq-eqb q q refl)) only
 
     -- another number leaves it
-    left_alone : (f : Bool) (found : Found) (new : List Slot) → (found ≡ At i → ⊥) → slot_at (spoken_to f found new) i ≡ slot_at new i
-    left_alone f Nothing new d = refl
-    left_alone f (At j) new d = get_or-set_other new j i _ _ (λ (g : i ≡ j). d (ap At (sym g)))
+    left_alone : (f : Bool) (found : Option ℕ) (new : List Slot) → (found ≡ Some i → ⊥) → slot_at (spoken_to f found new) i ≡ slot_at new i
+    left_alone f None new d = refl
+    left_alone f (Some j) new d = get_or-set_other new j i _ _ (λ (g : i ≡ j). d (ap Some (sym g)))
 
-    not_found : (k : ℕ) → F + k ≢ q → holder_of t.slots n (F + k) ≡ At i → ⊥
+    not_found : (k : ℕ) → F + k ≢ q → holder_of t.slots n (F + k) ≡ Some i → ⊥
     not_found k d g =
         let s = holder_said t.slots (F + k) n i g in
         d (sym (eqb-true q (F + k) (and_right (is_member (state_in t i)) (eqb q (F + k)) s.1)))

@@ -4,11 +4,11 @@ use Rattle.sender.specs.Laws.Sizes.{size_le}
 use Rattle.sender.proofs.board.board_of.Goals as goal
 
 pub rows_of-requires : goal.rows_of-requires
-rows_of-requires c = rw c.size-n.ensures (size_le _)
+rows_of-requires c = rw c.size-n.ensures.value (size_le _)
 
 pub overflow_cast-result : goal.overflow_cast-result
-overflow_cast-result c = rw c.size-n.ensures (omega (arith, size_le c.args.table.count))
+overflow_cast-result c = rw c.size-n.ensures.value (omega arith)
 
 pub returns : goal.returns
 unfolding board_of
-returns c = rw (c.rows_of.ensures, c.size-n.ensures)
+returns c = rw (c.rows_of.ensures, c.size-n.ensures.value)

@@ -1,10 +1,8 @@
+use Rattle.std.proofs.Common.{arith}
 use Rattle.sender.specs.Commands.{added_to}
-use Rattle.sender.specs.Laws.Sizes.{size_le}
+use Rattle.sender.proofs.Firsts.{members_first}
 use Rattle.sender.proofs.commands.added_to.Goals as goal
-
-pub members-free-requires : goal.members-free-requires
-members-free-requires c = rw c.size-n.ensures (size_le _)
 
 pub returns : goal.returns
 unfolding added_to
-returns c = rw (c.members-free.ensures, c.size-n.ensures)
+returns c = rw (members_first c.args.table.slots (omega arith) c.members.ensures, c.size-n.ensures.value)

@@ -1,13 +1,12 @@
-use Prim.Native.Nat.{◌<◌}
-use native.Mathlib.Omega.{arith}
-use Rattle.sender.proofs.Answers.{falls_below, fall_falls, fall_stays}
+use Rattle.std.proofs.Common.{arith}
+use Rattle.std.proofs.lemmas.Grind.{common_steps}
+use Rattle.sender.specs.Commands.{fallen}
 use Rattle.sender.proofs.commands.fall.Goals as goal
 
-pub overflow_sub-result : goal.overflow_sub-result
-overflow_sub-result c = let h : c.args.number < c.args.slot.number = falls_below _ _ c.is_member.result c.if-falls.true in omega arith
+pub returns-then-number-slot : goal.returns-then-number-slot
+unfolding fallen
+returns-then-number-slot c = grind (arith, common_steps)
 
-pub returns-then-falls : goal.returns-then-falls
-returns-then-falls c = fall_falls _ _ _ c.is_member.ensures c.if-falls.true
-
-pub returns-else-falls : goal.returns-else-falls
-returns-else-falls c = fall_stays _ _ _ c.is_member.ensures c.if-falls.false
+pub returns-else-is_member : goal.returns-else-is_member
+unfolding fallen
+returns-else-is_member c = grind (arith, common_steps)

@@ -1,15 +1,10 @@
-use mathlib.Core.Path.{◌∙◌, ap}
-use native.Mathlib.Omega.{arith}
-use Rattle.sender.specs.Commands.{fallen, fallen_in}
-use Rattle.ground.specs.Counting.Each.{done_none, done_more, done_next, done_all}
+use Rattle.std.proofs.Common.{arith}
+use Rattle.std.proofs.lemmas.List.{get_or_default}
+use Rattle.std.proofs.lemmas.List.Edits.{map_over_more}
+use Rattle.sender.specs.declared.table.Slot.{Slot}
+use Rattle.sender.specs.Commands.{fallen}
 use Rattle.sender.proofs.commands.fall_in.Goals as goal
 
-pub loop-i-init : goal.loop-i-init
-loop-i-init c = (omega arith, omega arith, done_none _ _)
-
-pub loop-i-preserved : goal.loop-i-preserved
-loop-i-preserved c = (c.loop-i.invariant.0, omega arith, done_more _ c.loop-i.invariant.2 (c.fall-next.ensures ∙ ap (λ s. fallen c.args.number s) (done_next _ c.loop-i.invariant.2)))
-
-pub returns : goal.returns
-unfolding fallen_in
-returns c = done_all c.loop-i.invariant.2 (omega arith)
+pub loop-slot-preserved : goal.loop-slot-preserved
+loop-slot-preserved c =
+    rw c.fall.ensures (map_over_more (λ (s : Slot). fallen c.args.number s) c.args.slots.now c.loop-slot.slot-items c.loop-slot.slot-index _ (omega arith) c.loop-slot.invariant (get_or_default c.loop-slot.slot-items c.loop-slot.slot-index _ _ (omega arith)))

@@ -1,14 +1,8 @@
--- `fall_in` meets its contract. By the loop: the first i slots have closed the gap that a number left.
-use mathlib.Core.Path.{◌≡◌}
-use Prim.Native.Nat.{◌≤◌, ◌-◌}
-use lib.ListN.{length}
+-- The first of the slots have closed the gap that a number left.
+use Rattle.std.proofs.Common.{◌≡◌, ◌++◌, map, take, drop}
+use Rattle.sender.specs.declared.table.Slot.{Slot}
 use Rattle.sender.specs.Commands.{fallen}
-use Rattle.sender.specs.Table.{slot_at}
-use Rattle.ground.specs.Counting.Each.{Done}
 use Rattle.sender.proofs.commands.fall_in.Given as goal
 
-abbrev pub invariant-loop-i : goal.invariant-loop-i
-invariant-loop-i l = (length l.initial.out ≡ 64) × (l.i ≤ l.n) × Done l.i (λ j. fallen l.number (slot_at l.initial.out j)) l.initial.out l.out
-
-abbrev pub decreases-loop-i : goal.decreases-loop-i
-decreases-loop-i l = l.n - l.i
+abbrev pub invariant-loop-slot : goal.invariant-loop-slot
+invariant-loop-slot l = l.slot-items ≡ map (λ (s : Slot). fallen l.number s) (take l.slot-index l.initial.slot-items) ++ drop l.slot-index l.initial.slot-items

@@ -3,4 +3,4 @@ use Rattle.sender.proofs.commands.fresh.Goals as goal
 
 pub returns : goal.returns
 unfolding fresh_of
-returns c = rw c.idle_slot-idle.ensures
+returns c = rw c.idle_slot.ensures

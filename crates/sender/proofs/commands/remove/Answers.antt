@@ -7,10 +7,10 @@ use Rattle.sender.proofs.Answers.{remove_no_slot, remove_wait, remove_not_allowe
 use Rattle.sender.proofs.commands.remove.Goals as goal
 
 pub returns-then-at-n : goal.returns-then-at-n
-returns-then-at-n c = remove_no_slot _ _ c.size-n.ensures c.if-at-n.true
+returns-then-at-n c = remove_no_slot _ _ c.size-n.ensures.value c.if-at-n.true
 
 pub returns-then-table : goal.returns-then-table
-returns-then-table c = remove_wait _ _ c.size-n.ensures c.if-at-n.false c.if-table.true
+returns-then-table c = remove_wait _ _ c.size-n.ensures.value c.if-at-n.false c.if-table.true
 
 pub bounds-table-at : goal.bounds-table-at
 bounds-table-at c = omega (arith, size_le c.args.table.count)
@@ -19,7 +19,7 @@ pub removed_from-requires : goal.removed_from-requires
 removed_from-requires c = let h : c.args.slot < 64 = omega (arith, size_le c.args.table.count) in h
 
 pub returns-then-is_member : goal.returns-then-is_member
-returns-then-is_member c = remove_done _ _ c.size-n.ensures c.if-at-n.false c.if-table.false (sym c.is_member.ensures ∙ c.if-is_member.true) c.removed_from.ensures
+returns-then-is_member c = remove_done _ _ c.size-n.ensures.value c.if-at-n.false c.if-table.false (sym c.is_member.ensures ∙ c.if-is_member.true) c.removed_from.ensures
 
 pub returns : goal.returns
-returns c = remove_not_allowed _ _ c.size-n.ensures c.if-at-n.false c.if-table.false (sym c.is_member.ensures ∙ c.if-is_member.false)
+returns c = remove_not_allowed _ _ c.size-n.ensures.value c.if-at-n.false c.if-table.false (sym c.is_member.ensures ∙ c.if-is_member.false)

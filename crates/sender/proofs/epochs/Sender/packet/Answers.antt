@@ -8,15 +8,15 @@ use Rattle.sender.proofs.Sending.{packet_no_slot, packet_length, packet_early, p
 use Rattle.sender.proofs.epochs.Sender.packet.Goals as goal
 
 pub returns-then-at-size : goal.returns-then-at-size
-returns-then-at-size c = packet_no_slot _ _ c.size.ensures _ c.if-at-size.true
+returns-then-at-size c = packet_no_slot _ _ c.size.ensures.value _ c.if-at-size.true
 
 pub returns-then-h4-epoch_frames : goal.returns-then-h4-epoch_frames
 returns-then-h4-epoch_frames c =
-    packet_length _ _ c.size.ensures _ c.if-at-size.false c.epoch_frames.ensures c.if-h4-epoch_frames.true
+    packet_length _ _ c.size.ensures.value _ c.if-at-size.false c.epoch_frames.ensures c.if-h4-epoch_frames.true
 
 pub returns-then-not-self : goal.returns-then-not-self
 returns-then-not-self c =
-    packet_early _ _ c.size.ensures _ c.if-at-size.false c.epoch_frames.ensures c.if-h4-epoch_frames.false (not-true _ c.if-not-self.true)
+    packet_early _ _ c.size.ensures.value _ c.if-at-size.false c.epoch_frames.ensures c.if-h4-epoch_frames.false (not-true _ c.if-not-self.true)
 
 pub packet_fields-requires : goal.packet_fields-requires
 packet_fields-requires c =
@@ -24,4 +24,4 @@ packet_fields-requires c =
 
 pub returns : goal.returns
 returns c =
-    packet_sent_lem _ _ c.size.ensures _ c.if-at-size.false c.epoch_frames.ensures c.if-h4-epoch_frames.false (not-false _ c.if-not-self.false) c.packet_fields.ensures c.write_by.ensures.0 c.write_by.ensures.1 c.written_as.ensures
+    packet_sent_lem _ _ c.size.ensures.value _ c.if-at-size.false c.epoch_frames.ensures c.if-h4-epoch_frames.false (not-false _ c.if-not-self.false) c.packet_fields.ensures c.write_by.ensures.0 c.write_by.ensures.1 c.written_as.ensures

@@ -2,4 +2,4 @@ use Rattle.sender.proofs.Sending.{outcome_put}
 use Rattle.sender.proofs.epochs.Sender.remove.Goals as goal
 
 pub returns : goal.returns
-returns c = outcome_put c.args.self c.remove-outcome.ensures c.with_outcome.ensures
+returns c = outcome_put c.args.self c.remove.ensures c.with_outcome.ensures

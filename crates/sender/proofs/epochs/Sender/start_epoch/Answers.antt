@@ -1,8 +1,12 @@
-use Rattle.sender.proofs.Sending.{start_refused, start_kept}
+use Rattle.std.proofs.Common.{arith}
+use Rattle.std.proofs.lemmas.Grind.{common_steps}
+use Rattle.sender.specs.Epochs.{start_epoch_of, started_sender}
 use Rattle.sender.proofs.epochs.Sender.start_epoch.Goals as goal
 
-pub returns-then-not-fits : goal.returns-then-not-fits
-returns-then-not-fits c = start_refused _ _ _ _ (c.if-not-fits.true)
+pub returns-then-gid-ge2 : goal.returns-then-gid-ge2
+unfolding start_epoch_of
+returns-then-gid-ge2 c = grind (arith, common_steps)
 
 pub returns : goal.returns
-returns c = start_kept _ _ _ _ (c.if-not-fits.false) c.board_of.ensures c.epoch_started.ensures
+unfolding start_epoch_of started_sender
+returns c = grind (arith, common_steps)

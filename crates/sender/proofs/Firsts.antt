@@ -1,0 +1,147 @@
+-- Some, how many and which of the first n of a list: what a chain of iterators over `&xs[..n]` gives is what the definitions have.
+use Rattle.std.specs.Prelude.{◌≡◌, refl, Bool, true, false, cond, not, ◌&&◌, ◌||◌, List, Option, Some, None, ℕ, zero, suc, ◌+◌, ◌≤◌, ◌<◌, ltb, length, get_or, take, count_by, position}
+use Rattle.std.specs.List.{list_any, position_or_len, zip}
+use Rattle.std.proofs.Common.{◌++◌, map, drop, set, subst, sym, ap, ◌∙◌, add-one, arith, length-take, ltb-true}
+use Rattle.std.proofs.lemmas.Bool.{ltb-false}
+use Rattle.std.proofs.lemmas.List.{get_or-take, get_or_default, length-take-le, take_all}
+use Rattle.std.proofs.lemmas.List.Edits.{map_over_more}
+use Rattle.std.proofs.lemmas.List.Folds.{list_any_more}
+use Rattle.std.proofs.lemmas.List.Sums.{count_by_more_no, count_by_more_yes, fails_before_first, passes_at_first}
+use Rattle.std.proofs.lemmas.Slice.Zip.{get_or-zip, length-zip}
+use Rattle.ground.specs.Counting.Each.{Done, done_none, done_more, done_next, done_all}
+use Rattle.ground.specs.Counting.Laws.Numbers.{count_ext}
+use Rattle.ground.specs.Counting.Laws.Tests.{some_ext}
+use Rattle.ground.specs.Counting.Words.{count, some}
+use Rattle.sender.specs.declared.board.Row.{Row}
+use Rattle.sender.specs.declared.table.Slot.{Slot}
+use Rattle.sender.specs.declared.table.State.TheVariants.{Idle}
+use Rattle.sender.specs.Board.{highest}
+use Rattle.sender.specs.Commands.{fallen, fallen_in}
+use Rattle.sender.specs.Laws.Finding.{holder_here, holder_nowhere}
+use Rattle.sender.specs.Ranks.{carries, carriers_in, rank_of, rank_under}
+use Rattle.sender.specs.Reports.{comes_before, number_after, opens_wait}
+use Rattle.sender.specs.Table.{holder_of, holds, is_active, is_add, is_member, members_of, slot_at}
+
+module _ {X : Type 0} (p : X → Bool) (xs : List X) (d : X) where
+  count_next : (n : ℕ) → n < length xs → count_by p (take (n + 1) xs) ≡ count_by p (take n xs) + cond (p (get_or xs n d)) 1 0
+  count_next n h = go (p (get_or xs n d)) refl
+    where
+      go : (b : Bool) → p (get_or xs n d) ≡ b → count_by p (take (n + 1) xs) ≡ count_by p (take n xs) + cond b 1 0
+      go true e = count_by_more_yes p xs n d h e
+      go false e = count_by_more_no p xs n d h e ∙ (omega arith)
+
+  count_first : (n : ℕ) → n ≤ length xs → count_by p (take n xs) ≡ count n (λ i. p (get_or xs i d))
+  count_first zero h = refl
+  count_first (suc n) h =
+      let rest : count_by p (take n xs) ≡ count n (λ i. p (get_or xs i d)) = count_first n (omega arith) in
+      let next : count_by p (take (suc n) xs) ≡ count_by p (take n xs) + cond (p (get_or xs n d)) 1 0 = rw add-one at (count_next n (omega arith)) in
+      next ∙ ap (λ m. m + cond (p (get_or xs n d)) 1 0) rest
+
+  some_first : (n : ℕ) → n ≤ length xs → list_any p (take n xs) ≡ some n (λ i. p (get_or xs i d))
+  some_first zero h = refl
+  some_first (suc n) h =
+      let rest : list_any p (take n xs) ≡ some n (λ i. p (get_or xs i d)) = some_first n (omega arith) in
+      let next : list_any p (take (suc n) xs) ≡ (list_any p (take n xs) || p (get_or xs n d)) = rw add-one at (list_any_more p xs n d (omega arith)) in
+      next ∙ ap (λ b. b || p (get_or xs n d)) rest
+
+-- the first n of a list written anew in place, each by what stands there
+module _ {X : Type 0} (f : X → X) (xs : List X) (d : X) where
+  written : (n : ℕ) → n ≤ length xs → Done n (λ j. f (get_or xs j d)) xs (map f (take n xs) ++ drop n xs)
+  written zero h = done_none _ _
+  written (suc n) h =
+      let ys : List X = map f (take n xs) ++ drop n xs in
+      let x : X = get_or xs n d in
+      let rest : Done n (λ j. f (get_or xs j d)) xs ys = written n (omega arith) in
+      let here : x ≡ get_or ys n x = get_or_default xs n d x (omega arith) ∙ sym (done_next x rest) in
+      let one : set ys n (f x) ≡ map f (take (n + 1) xs) ++ drop (n + 1) xs = map_over_more f xs ys n x (omega arith) refl here in
+      rw (← add-one) (subst (λ (l : List X). Done (n + 1) (λ j. f (get_or xs j d)) xs l) one (done_more (f x) rest refl))
+
+module _ (slots : List Slot) {n : ℕ} (h : n ≤ length slots) where
+  pub members_first : {r : ℕ} → r ≡ count_by (λ s. is_member s.state) (take n slots) → r ≡ members_of slots n
+  unfolding members_of
+  members_first e = e ∙ count_first (λ s. is_member s.state) slots _ n h
+
+  pub higher_first : (q : ℕ) {r : Bool} → r ≡ list_any (λ s. is_active s.state && ltb q s.number) (take n slots) → not r ≡ highest slots n q
+  unfolding highest
+  higher_first q e = ap not (e ∙ some_first (λ s. is_active s.state && ltb q s.number) slots _ n h)
+
+  pub fallen_first : (q : ℕ) {r : List Slot} → r ≡ map (λ s. fallen q s) (take n slots) → r ++ drop n slots ≡ fallen_in slots n q
+  unfolding fallen_in
+  fallen_first q e = ap (λ (l : List Slot). l ++ drop n slots) e ∙ done_all (written (λ s. fallen q s) slots _ n h) refl
+
+module _ (rows : List Row) {n : ℕ} (h : n ≤ length rows) where
+  pub carriers_first : {r : ℕ} → r ≡ count_by (λ r. carries r) (take n rows) → r ≡ carriers_in rows n
+  unfolding carriers_in
+  carriers_first e = e ∙ count_first (λ r. carries r) rows _ n h
+
+  pub rank_first : (q : ℕ) {r : ℕ} → r ≡ count_by (λ r. rank_under r q) (take n rows) → r ≡ rank_of rows n q
+  unfolding rank_of
+  rank_first q e = e ∙ count_first (λ r. rank_under r q) rows _ n h
+
+-- two lists side by side
+module _ {X : Type 0} (f : X → X → Bool) (xs ys : List X) (d : X) (n : ℕ) (a : n ≤ length xs) (b : n ≤ length ys) where
+  pairs : List (X × X)
+  pairs = zip (take n xs) (take n ys)
+
+  pairs_length : length pairs ≡ n
+  unfolding pairs
+  pairs_length = simp (length-zip, length-take) (omega arith)
+
+  pair_at : (k : ℕ) → k < n → get_or pairs k (d, d) ≡ (get_or xs k d, get_or ys k d)
+  unfolding pairs
+  pair_at k h =
+      let left : k < length (take n xs) = simp length-take (omega arith) in
+      let right : k < length (take n ys) = simp length-take (omega arith) in
+      get_or-zip (take n xs) (take n ys) k (d, d) left right ∙ rw (get_or-take n xs k d h, get_or-take n ys k d h) refl
+
+  test : X × X → Bool
+  test p = f p.0 p.1
+
+  whole : take n pairs ≡ pairs
+  whole = let l : length pairs ≤ n = omega (arith, pairs_length) in take_all n pairs l
+
+  tested : (k : ℕ) → k < n → test (get_or pairs k (d, d)) ≡ f (get_or xs k d) (get_or ys k d)
+  unfolding test
+  tested k h = ap test (pair_at k h)
+
+  count_pairs : count_by test pairs ≡ count n (λ i. f (get_or xs i d) (get_or ys i d))
+  count_pairs =
+      sym (ap (λ (l : List (X × X)). count_by test l) whole) ∙ count_first test pairs (d, d) n (omega (arith, pairs_length))
+      ∙ count_ext n _ _ tested
+
+  some_pairs : list_any test pairs ≡ some n (λ i. f (get_or xs i d) (get_or ys i d))
+  some_pairs =
+      sym (ap (λ (l : List (X × X)). list_any test l) whole) ∙ some_first test pairs (d, d) n (omega (arith, pairs_length))
+      ∙ some_ext n _ _ tested
+
+module _ (was is : List Slot) {n : ℕ} (a : n ≤ length was) (b : n ≤ length is) where
+  pub opens_first : {r : Bool} → r ≡ list_any (λ p. is_add p.0.state && is_active p.1.state) (zip (take n was) (take n is)) → r ≡ opens_wait was is n
+  unfolding opens_wait pairs test
+  opens_first e = e ∙ some_pairs (λ (s r : Slot). is_add s.state && is_active r.state) was is _ n a b
+
+  pub number_first : (q turn : ℕ) {r : ℕ} → r ≡ count_by (λ p. comes_before p.0 p.1 q turn) (zip (take n was) (take n is)) → r ≡ number_after was is n q turn
+  unfolding number_after pairs test
+  number_first q turn e = e ∙ count_pairs (λ (s r : Slot). comes_before s r q turn) was is _ n a b
+
+-- the first that holds a number
+module _ (slots : List Slot) (n q : ℕ) (h : n ≤ length slots) where
+  low : (k : ℕ) → k < n → get_or (take n slots) k (record { state = Idle; number = 0 }) ≡ slot_at slots k
+  low k b = get_or-take n slots k _ b
+
+  found : (at : ℕ) → position_or_len (λ s. holds s q) (take n slots) ≡ at → cond (ltb at (length (take n slots))) (Some at) None ≡ holder_of slots n q
+  found at e = go (ltb at (length (take n slots))) refl
+    where
+      before : (k : ℕ) → k < at → k < n → holds (slot_at slots k) q ≡ false
+      before k b l = sym (ap (λ s. holds s q) (low k l)) ∙ fails_before_first (λ s. holds s q) (take n slots) k _ (rw e b)
+
+      go : (b : Bool) → ltb at (length (take n slots)) ≡ b → cond b (Some at) None ≡ holder_of slots n q
+      go true t =
+          let l : at < n = omega (arith, ltb-true at (length (take n slots)) t, length-take-le n slots h) in
+          let here : holds (get_or (take n slots) at (record { state = Idle; number = 0 })) q ≡ true = rw e at (passes_at_first (λ s. holds s q) (take n slots) (record { state = Idle; number = 0 }) (rw e (ltb-true at (length (take n slots)) t))) in
+          sym (holder_here slots q at n l (holder_nowhere slots q at (λ k b. before k b (omega arith))) (sym (ap (λ s. holds s q) (low at l)) ∙ here))
+      go false t =
+          let l : n ≤ at = omega (arith, ltb-false at (length (take n slots)) t, length-take-le n slots h) in
+          sym (holder_nowhere slots q n (λ k b. before k (omega arith) b))
+
+pub holder_first : (slots : List Slot) {n : ℕ} → n ≤ length slots → (q : ℕ) {r : Option ℕ} → r ≡ position (λ s. holds s q) (take n slots) → r ≡ holder_of slots n q
+holder_first slots {n} h q e = e ∙ found slots n q h (position_or_len (λ s. holds s q) (take n slots)) refl
