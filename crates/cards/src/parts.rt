@@ -19,20 +19,16 @@ pub fn sender_of(card: Card, group: u32) -> Sender
 fn with_sender(card: Card, group: u32, sender: Sender) -> Card
     ensures { result ≡ with_sender card group sender }
 {
-    let owners = card.owners;
     if group == 0 {
-        let second = card.second;
-        return Card {
-            owners,
+        Card {
             first: sender,
-            second,
-        };
-    }
-    let first = card.first;
-    Card {
-        owners,
-        first,
-        second: sender,
+            ..card
+        }
+    } else {
+        Card {
+            second: sender,
+            ..card
+        }
     }
 }
 
@@ -40,8 +36,7 @@ fn with_sender(card: Card, group: u32, sender: Sender) -> Card
 fn empty_sender() -> Sender
     ensures { result ≡ empty_sender }
 {
-    let outcome = Sender::start(kinds::H4, 0, 0);
-    outcome.sender
+    Sender::start(kinds::H4, 0, 0).sender
 }
 
 pub(crate) fn shown_sender(card: Card, group: u32) -> Sender
@@ -58,24 +53,20 @@ pub(crate) fn shown_sender(card: Card, group: u32) -> Sender
 fn size(count: u8) -> u32
     ensures { result ≡ slot_count count }
 {
-    ground::size_byte(count) as u32
+    u32::from(ground::size_byte(count))
 }
 
 // 1: 'a group other than the two', or a slot not below that group's own count.
 pub(crate) fn is_slot(card: Card, group: u32, slot: u32) -> bool
     ensures { result ≡ is_slot card group slot }
 {
-    let sender = sender_of(card, group);
-    let table = sender.table;
-    let n = size(table.count);
-    (group < 2) & (slot < n)
+    group < 2 && slot < size(sender_of(card, group).table.count)
 }
 
 pub(crate) fn is_own(card: Card, group: u32, slot: u32) -> bool
     ensures { result ≡ owns card group slot }
 {
-    let owners = card.owners;
-    owners::is_marked(owners, group, slot)
+    owners::is_marked(card.owners, group, slot)
 }
 
 // Not IDLE in the group's table.
@@ -84,10 +75,7 @@ pub(crate) fn is_used(card: Card, group: u32, slot: u32) -> bool
     ensures { result ≡ is_used card group slot }
 {
     let sender = sender_of(card, group);
-    let table = sender.table;
-    let given = table.slots[slot as usize];
-    let state = given.state;
-    sender::is_member(state)
+    sender::is_member(sender.table.slots[slot as usize].state)
 }
 
 pub(crate) fn refuse(card: Card, answer: Answer) -> CardOutcome
@@ -100,14 +88,10 @@ pub(crate) fn mark(card: Card, slot: u32, owner: u8) -> CardOutcome
     requires { slot < 64 }
     ensures { result ≡ marked card slot owner }
 {
-    let given = card.owners;
-    let first = card.first;
-    let second = card.second;
     CardOutcome {
         card: Card {
-            owners: owners::with_owner(given, slot, owner),
-            first,
-            second,
+            owners: owners::with_owner(card.owners, slot, owner),
+            ..card
         },
         answer: Answer::Done,
     }
@@ -116,10 +100,8 @@ pub(crate) fn mark(card: Card, slot: u32, owner: u8) -> CardOutcome
 pub(crate) fn group_outcome(card: Card, group: u32, outcome: SenderOutcome) -> CardOutcome
     ensures { result ≡ group_outcome card group outcome }
 {
-    let sender = outcome.sender;
-    let answer = outcome.answer;
     CardOutcome {
-        card: with_sender(card, group, sender),
-        answer: answers::from_sender(answer),
+        card: with_sender(card, group, outcome.sender),
+        answer: answers::from_sender(outcome.answer),
     }
 }

@@ -1,15 +1,23 @@
-use mathlib.Core.Path.{refl, ◌∙◌}
-use native.Mathlib.Omega.{arith}
-use Rattle.cards.specs.Owners.{owned_bytes}
-use Rattle.ground.specs.Counting.Each.{done_none, done_more, done_table}
+use mir.Val.{bool_byte}
+use Rattle.std.specs.Prelude.{◌≡◌, refl, Bool, true, false, ◌&&◌, ◌==◌, ℕ}
+use Rattle.std.proofs.Common.{◌∙◌, ap, arith}
+use Rattle.ground.specs.Counting.Each.{done_none, done_more, done_next, done_table}
+use Rattle.ground.specs.Flags.{one_if}
+use Rattle.ground.specs.Plain.{◌<?◌}
+use Rattle.cards.specs.Owners.{mark_of, owned_bytes}
 use Rattle.cards.proofs.owners.owned_bytes.Goals as goal
 
-pub loop-i-init : goal.loop-i-init
-loop-i-init c = (refl, omega arith, done_none _ _)
+byte_is : (b : Bool) → bool_byte b ≡ one_if b
+byte_is true = refl
+byte_is false = refl
 
-pub loop-i-preserved : goal.loop-i-preserved
-loop-i-preserved c = (c.loop-i.invariant.0, omega arith, done_more _ c.loop-i.invariant.2 c.one_if.ensures)
+pub loop-owner-init : goal.loop-owner-init
+loop-owner-init c = done_none _ _
+
+pub loop-owner-preserved : goal.loop-owner-preserved
+loop-owner-preserved c =
+    done_more _ c.loop-owner.invariant (c.from.ensures ∙ byte_is _ ∙ ap one_if (c.is_of.ensures ∙ ap (λ (o : ℕ). c.args.group <? 2 && o == mark_of c.args.group) (done_next 0 c.loop-owner.invariant)))
 
 pub returns : goal.returns
 unfolding owned_bytes
-returns c = done_table c.loop-i.invariant.2 (omega arith) c.loop-i.invariant.0 ∙ rw c.mark_of-mark.ensures
+returns c = done_table {n = 64} c.loop-owner.invariant (omega arith) (omega arith)

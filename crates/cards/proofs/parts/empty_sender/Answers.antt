@@ -3,4 +3,4 @@ use Rattle.cards.proofs.parts.empty_sender.Goals as goal
 
 pub returns : goal.returns
 unfolding empty_sender
-returns c = rw c.start-outcome.ensures
+returns c = rw c.start.ensures

@@ -1,6 +1,11 @@
+use Rattle.std.proofs.Common.{lt-ltb, le-ltb}
 use Rattle.cards.specs.Parts.{is_slot}
 use Rattle.cards.proofs.parts.is_slot.Goals as goal
 
-pub returns : goal.returns
+pub returns-then-group-lt2 : goal.returns-then-group-lt2
 unfolding is_slot
-returns c = rw (c.size-n.ensures, c.sender_of-sender.ensures)
+returns-then-group-lt2 c = rw (lt-ltb c.args.group 2 c.if-group-lt2.true, c.size.ensures, c.sender_of.ensures)
+
+pub returns-else-group-lt2 : goal.returns-else-group-lt2
+unfolding is_slot
+returns-else-group-lt2 c = rw (le-ltb c.args.group 2 c.if-group-lt2.false)

@@ -6,6 +6,6 @@ pub returns-then-group-eq0 : goal.returns-then-group-eq0
 unfolding with_sender
 returns-then-group-eq0 c = rw (eq-eqb _ 0 c.if-group-eq0.true)
 
-pub returns : goal.returns
+pub returns-else-group-eq0 : goal.returns-else-group-eq0
 unfolding with_sender
-returns c = rw (ne_eqb _ 0 c.if-group-eq0.false)
+returns-else-group-eq0 c = rw (ne_eqb _ 0 c.if-group-eq0.false)
