@@ -8,6 +8,7 @@ pub mod Division
 pub mod Drawn
 pub mod Finding
 pub mod Finite
+pub mod FlagBytes
 pub mod Flags
 pub mod Opened
 pub mod Plain

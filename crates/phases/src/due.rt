@@ -1,8 +1,7 @@
 // When an epoch is due, and when no port is readable any more.
-ghost use Rattle.std.specs.Prelude.{◌≡◌, not};
+ghost use Rattle.std.specs.Prelude.{◌≡◌};
 ghost use Rattle.rows.specs.Packets.{marks_at};
 ghost use Rattle.rows.specs.Step.{step_at};
-ghost use Rattle.step.specs.Arrival.{readable};
 ghost use Rattle.phases.specs.Due.{brought, owes_nothing, silent};
 
 use crate::flags::is_set;
@@ -12,9 +11,9 @@ use store::marks;
 fn owes_nothing(group: Group, step: Step, row: [u8; 16]) -> bool
     ensures { result ≡ owes_nothing group step row }
 {
-    let readable = step::is_readable(group, step);
-    let first = marks::first(row);
-    !readable | first | is_set(step.joined) & is_set(step.joined_at)
+    !step::is_readable(group, step)
+        | marks::first(row)
+        | (is_set(step.joined) & is_set(step.joined_at))
 }
 
 fn port_owes_nothing(group: Group, state: &[[u8; 16]], port: u8) -> bool
@@ -29,32 +28,11 @@ fn port_owes_nothing(group: Group, state: &[[u8; 16]], port: u8) -> bool
 pub fn is_complete(group: Group, state: &[[u8; 16]], ports: u8) -> bool
     ensures { result ≡ brought group state.now ports }
 {
-    let mut i = 0;
-    while i < ports {
-        if !port_owes_nothing(group, state, i) {
-            return false;
-        }
-        i += 1;
-    }
-    true
-}
-
-fn is_unreadable(group: Group, state: &[[u8; 16]], port: u8) -> bool
-    ensures { result ≡ not (readable group (step_at state.now port)) }
-{
-    let step = rows::step::get(state, port);
-    !step::is_readable(group, step)
+    (0..ports).all(|i| port_owes_nothing(group, state, i))
 }
 
 pub(crate) fn is_silent(group: Group, state: &[[u8; 16]], ports: u8) -> bool
     ensures { result ≡ silent group state.now ports }
 {
-    let mut i = 0;
-    while i < ports {
-        if !is_unreadable(group, state, i) {
-            return false;
-        }
-        i += 1;
-    }
-    true
+    (0..ports).all(|i| !step::is_readable(group, rows::step::get(state, i)))
 }

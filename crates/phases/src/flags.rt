@@ -1,2 +1,2 @@
 // A flag kept in a byte: other than 0 counts as set.
-pub(crate) use ground::{is_set, one_if as flag_for};
+pub(crate) use ground::is_set;

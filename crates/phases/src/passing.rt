@@ -4,7 +4,6 @@ ghost use Rattle.store.specs.Frames.{ring_of};
 ghost use Rattle.phases.specs.ByTable.{passed_port_with, passed_ports_with, passed_with};
 ghost use Rattle.phases.specs.Passing.{group_to, noted_by, passed_group, passed_of, passed_step, ruled_by};
 
-use crate::flags::flag_for;
 use packet::{Ruling, kinds};
 use rows::{Group, Member, Step};
 use store::{frames, marks};
@@ -23,26 +22,16 @@ fn ruled_by(packets: [[u8; 16]; 2], whole: bool, nibbles: [u8; 16]) -> [[u8; 16]
 fn one_less(later: u8) -> u8
     ensures { result ≡ later - 1 }
 {
-    if later == 0 { 0 } else { later - 1 }
+    later.saturating_sub(1)
 }
 
 fn passed_step(s: Step, whole: bool) -> Step
     ensures { result ≡ passed_step s whole }
 {
-    let spare = s.spare;
     Step {
-        spare,
-        heard: s.heard,
-        failed: s.failed,
-        count: s.count,
-        next: s.next,
-        joined: s.joined,
-        ever_since: s.ever_since,
         joined_at: one_less(s.joined_at),
-        whole: flag_for(whole),
-        breaks: s.breaks,
-        odd: s.odd,
-        bits: s.bits,
+        whole: u8::from(whole),
+        ..s
     }
 }
 
@@ -56,18 +45,10 @@ fn good_byte(whole: bool, good: bool, new: u8, old: u8) -> u8
 fn noted_by(m: Member, whole: bool, r: Ruling) -> Member
     ensures { result ≡ noted_by m whole r }
 {
-    let spare = m.spare;
     Member {
-        spare,
         word: good_byte(whole, r.good, r.word, m.word),
         number: good_byte(whole, r.good, r.number, m.number),
-        state: m.state,
-        state_number: m.state_number,
-        told_word: m.told_word,
-        told_number: m.told_number,
-        hold_off: m.hold_off,
-        restore: m.restore,
-        elapsed: m.elapsed,
+        ..m
     }
 }
 
@@ -94,28 +75,21 @@ fn pass_port(table: &[[u8; 256]; 7], group: Group, store: &[u8], port: u8, state
 fn pass_ports(table: &[[u8; 256]; 7], group: Group, store: &[u8], ports: u8, state: &mut [[u8; 16]])
     ensures { state.new ≡ passed_ports_with table.now group store.now ports state.old }
 {
-    let mut i = 0;
-    while i < ports {
+    for i in 0..ports {
         pass_port(table, group, store, i, state);
-        i += 1;
     }
 }
 
 pub(crate) fn group_to(g: Group, begun: u8, gathered: u8, oldest: u8, origin: u16, ack: u8) -> Group
     ensures { result ≡ group_to g begun gathered oldest origin ack }
 {
-    let spare = g.spare;
     Group {
-        spare,
-        kind: g.kind,
-        count: g.count,
-        payload: g.payload,
-        window: g.window,
         begun,
         gathered,
         oldest,
         origin,
         rs_ack: ack,
+        ..g
     }
 }
 

@@ -2,7 +2,7 @@
 ghost use Rattle.std.specs.Prelude.{◌≡◌};
 ghost use Rattle.phases.specs.Settling.{begin_by, begun_of, cleared_port, cleared_ports, cleared_step, gather_by, settled_of, stop_by, stopped_of};
 
-use crate::flags::{flag_for, is_set};
+use crate::flags::is_set;
 use crate::{due, passing, starting};
 use packet::kinds;
 use rows::{Group, Step};
@@ -10,20 +10,12 @@ use rows::{Group, Step};
 fn cleared_step(s: Step, since: bool) -> Step
     ensures { result ≡ cleared_step s since }
 {
-    let spare = s.spare;
     Step {
-        spare,
-        heard: s.heard,
-        failed: s.failed,
-        count: s.count,
-        next: s.next,
         joined: 0,
-        ever_since: flag_for(since),
+        ever_since: u8::from(since),
         joined_at: 0,
         whole: 0,
-        breaks: s.breaks,
-        odd: s.odd,
-        bits: s.bits,
+        ..s
     }
 }
 
@@ -40,10 +32,8 @@ fn clear_port(group: Group, beginning: bool, port: u8, state: &mut [[u8; 16]])
 fn clear_ports(group: Group, beginning: bool, ports: u8, state: &mut [[u8; 16]])
     ensures { state.new ≡ cleared_ports group beginning ports state.old }
 {
-    let mut i = 0;
-    while i < ports {
+    for i in 0..ports {
         clear_port(group, beginning, i, state);
-        i += 1;
     }
 }
 

@@ -54,11 +54,8 @@ pub fn foremost(group: Group, state: &[[u8; 16]], ports: u8) -> u16
     ensures { result ≡ foremost group state.now ports }
 {
     let mut fore = no_tag(group);
-    let mut i = 0;
-    while i < ports {
-        let step = rows::step::get(state, i);
-        fore = further(group, fore, step);
-        i += 1;
+    for i in 0..ports {
+        fore = further(group, fore, rows::step::get(state, i));
     }
     fore
 }
@@ -77,29 +74,13 @@ fn is_in_arc(group: Group, fore: u16, step: Step) -> bool
 fn all_ready(group: Group, state: &[[u8; 16]], ports: u8) -> bool
     ensures { result ≡ every ports (λ i. ready group (step_at state.now i)) }
 {
-    let mut i = 0;
-    while i < ports {
-        let step = rows::step::get(state, i);
-        if !is_ready(group, step) {
-            return false;
-        }
-        i += 1;
-    }
-    true
+    (0..ports).all(|i| is_ready(group, rows::step::get(state, i)))
 }
 
 fn all_in_arc(group: Group, fore: u16, state: &[[u8; 16]], ports: u8) -> bool
     ensures { result ≡ every ports (λ i. in_arc group fore (step_at state.now i)) }
 {
-    let mut i = 0;
-    while i < ports {
-        let step = rows::step::get(state, i);
-        if !is_in_arc(group, fore, step) {
-            return false;
-        }
-        i += 1;
-    }
-    true
+    (0..ports).all(|i| is_in_arc(group, fore, rows::step::get(state, i)))
 }
 
 pub(crate) fn is_begun_by(group: Group, state: &[[u8; 16]], ports: u8) -> bool
@@ -109,7 +90,6 @@ pub(crate) fn is_begun_by(group: Group, state: &[[u8; 16]], ports: u8) -> bool
         return false;
     }
     let fore = foremost(group, state, ports);
-    let none = no_tag(group);
     let within = all_in_arc(group, fore, state, ports);
-    !(fore == none) & within
+    (fore != no_tag(group)) & within
 }

@@ -37,11 +37,9 @@ pub fn put(store: &mut [u8], place: usize, payload: &[u8], h4: u8)
     ensures { store.new ≡ stored_at store.old place payload.now h4 }
 {
     let n = payload.len();
-    if n < store.len() {
-        if place < store.len() - n {
-            payload::lay(payload, place, store);
-            store[place + n] = h4;
-        }
+    if n < store.len() && place < store.len() - n {
+        payload::lay(payload, place, store);
+        store[place + n] = h4;
     }
 }
 
@@ -56,14 +54,11 @@ fn packet_by(kind: u8, group: Group, port: u8, store: &[u8]) -> [u8; 16]
 {
     let frames = kinds::epoch_frames(kind);
     let mut row = [0; 16];
-    let mut k = 0;
-    while k < frames {
+    for k in 0..frames {
         let at = place(group, port, k as u16);
         let h4 = byte_at(store, at + group.payload as usize);
         let entry = symbols::entry_at(kind, k);
-        let old = row[entry as usize];
-        row[entry as usize] = symbols::entry_with(kind, old, k, h4);
-        k += 1;
+        row[entry as usize] = symbols::entry_with(kind, row[entry as usize], k, h4);
     }
     row
 }

@@ -49,10 +49,8 @@ pub fn cut(row: [u8; 16], i: u8) -> [u8; 16]
     ensures { result ≡ cut_from row i }
 {
     let mut marks = [0; 16];
-    let mut k = 0;
-    while k < 16 {
+    for k in 0..16u8 {
         marks[k as usize] = cut_byte(row[k as usize], k, i);
-        k += 1;
     }
     marks
 }
@@ -68,10 +66,8 @@ pub fn pass(row: [u8; 16]) -> [u8; 16]
     ensures { result ≡ passed_marks row }
 {
     let mut marks = [0; 16];
-    let mut k = 0;
-    while k < 15 {
+    for k in 0..15 {
         marks[k] = passed_byte(row[k], row[k + 1]);
-        k += 1;
     }
     marks[15] = row[15] / 2;
     marks

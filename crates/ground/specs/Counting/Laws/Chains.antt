@@ -1,9 +1,12 @@
 -- What a chain of iterators over the first n of a list says, as counting over the numbers below n.
 use Rattle.std.specs.Prelude.{◌≡◌, refl, Bool, true, false, cond, ◌&&◌, ◌||◌, List, ℕ, zero, suc, ◌+◌, ◌≤◌, ◌<◌, length, get_or, take, count_by}
-use Rattle.std.specs.List.{list_all, list_any}
-use Rattle.std.proofs.Common.{ap, ◌∙◌, add-one, arith}
+use Rattle.std.specs.List.{list_all, list_any, range_with_len}
+use Rattle.std.proofs.Common.{ap, ◌∙◌, add-one, zero-add, arith}
+use Rattle.std.proofs.Math.Seq.{take-length}
 use Rattle.std.proofs.lemmas.List.Folds.{list_all_more, list_any_more}
+use Rattle.std.proofs.lemmas.List.FromFn.{get_or-range_with_len, length-range_with_len}
 use Rattle.std.proofs.lemmas.List.Sums.{count_by_more_no, count_by_more_yes}
+use Rattle.ground.specs.Counting.Laws.Tests.{every_ext}
 use Rattle.ground.specs.Counting.Words.{count, every, some}
 
 module _ {A : Type 0} (test : A → Bool) (xs : List A) (d : A) where
@@ -34,3 +37,9 @@ module _ {A : Type 0} (test : A → Bool) (xs : List A) (d : A) where
       let rest : count_by test (take n xs) ≡ count n (λ i. test (get_or xs i d)) = count_first n (omega arith) in
       let next : count_by test (take (suc n) xs) ≡ count_by test (take n xs) + cond (test (get_or xs n d)) 1 0 = rw add-one at (count_next n (omega arith)) in
       next ∙ ap (λ m. m + cond (test (get_or xs n d)) 1 0) rest
+
+-- and over the numbers below n themselves
+pub all_numbers : (test : ℕ → Bool) (n : ℕ) → list_all test (range_with_len 0 n) ≡ every n test
+all_numbers test n =
+    rw (take-length, length-range_with_len) at (all_first test (range_with_len 0 n) 0 (length (range_with_len 0 n)) (omega arith))
+    ∙ every_ext n (λ k. test (get_or (range_with_len 0 n) k 0)) test (λ k h. ap test (get_or-range_with_len 0 n k 0 h ∙ zero-add k))

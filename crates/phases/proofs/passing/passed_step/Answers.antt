@@ -1,7 +1,7 @@
-use mathlib.Core.Path.{refl}
+use Rattle.ground.specs.FlagBytes.{byte_of_flag}
 use Rattle.phases.specs.Passing.{passed_step}
 use Rattle.phases.proofs.passing.passed_step.Goals as goal
 
 pub returns : goal.returns
 unfolding passed_step
-returns c = rw (c.one_if.ensures, c.one_less.ensures) refl
+returns c = rw (c.from.ensures, byte_of_flag c.args.whole, c.one_less.ensures)

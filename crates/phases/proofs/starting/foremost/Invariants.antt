@@ -1,11 +1,8 @@
 -- `foremost` meets its contract. By the loop: the foremost of the first i ports' tags.
-use Prim.Native.Nat.{◌≤◌, ◌-◌}
+
 use mathlib.Core.Path.{◌≡◌}
 use Rattle.phases.specs.Beginning.{foremost}
 use Rattle.phases.proofs.starting.foremost.Given as goal
 
 abbrev pub invariant-loop-i : goal.invariant-loop-i
-invariant-loop-i l = (l.i ≤ l.ports) × (l.fore ≡ foremost l.group l.state l.i)
-
-abbrev pub decreases-loop-i : goal.decreases-loop-i
-decreases-loop-i l = l.ports - l.i
+invariant-loop-i l = (l.fore ≡ foremost l.group l.state l.i)

@@ -9,4 +9,4 @@ returns-then-not-all_ready c = rw (← c.all_ready.ensures, c.if-not-all_ready.t
 
 pub returns : goal.returns
 unfolding begins
-returns c = rw (← c.all_ready.ensures, c.if-not-all_ready.false, ← c.foremost-fore.ensures, ← c.no_tag-none.ensures, ← c.all_in_arc-within.ensures) refl
+returns c = rw (← c.all_ready.ensures, c.if-not-all_ready.false, ← c.foremost-fore.ensures, ← c.no_tag.ensures, ← c.all_in_arc-within.ensures) refl

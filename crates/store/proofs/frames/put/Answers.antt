@@ -8,8 +8,5 @@ pub returns-then-place-store : goal.returns-then-place-store
 returns-then-place-store c =
     put_frame c.args.store.now c.args.payload.now _ c.args.place c.args.h4 (omega arith) c.lay.ensures
 
-pub returns-else-place-store : goal.returns-else-place-store
-returns-else-place-store c = let a = c.args in put_none a.store.now a.payload.now a.place a.h4 (omega arith)
-
 pub returns-else-n-store : goal.returns-else-n-store
 returns-else-n-store c = let a = c.args in put_none a.store.now a.payload.now a.place a.h4 (omega arith)

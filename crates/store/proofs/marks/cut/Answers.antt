@@ -1,15 +1,14 @@
-use mathlib.Core.Path.{refl}
-use native.Mathlib.Omega.{arith}
+use Rattle.std.proofs.Common.{refl, arith}
 use Rattle.ground.specs.Counting.Each.{done_none, done_more, done_table}
 use Rattle.store.specs.Marks.{cut_from}
 use Rattle.store.proofs.marks.cut.Goals as goal
 
 pub loop-k-init : goal.loop-k-init
-loop-k-init c = (refl, omega arith, done_none _ _)
+loop-k-init c = done_none _ _
 
 pub loop-k-preserved : goal.loop-k-preserved
-loop-k-preserved c = (c.loop-k.invariant.0, omega arith, done_more _ c.loop-k.invariant.2 c.cut_byte.ensures)
+loop-k-preserved c = done_more _ c.loop-k.invariant c.cut_byte.ensures
 
 pub returns : goal.returns
 unfolding cut_from
-returns c = done_table c.loop-k.invariant.2 (omega arith) refl
+returns c = done_table c.loop-k.invariant (omega arith) refl

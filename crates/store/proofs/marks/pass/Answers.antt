@@ -1,18 +1,17 @@
-use mathlib.Core.Path.{◌≡◌, ◌∙◌, refl}
-use native.Mathlib.Omega.{arith}
+use Rattle.std.proofs.Common.{◌≡◌, ◌∙◌, refl, arith}
 use Rattle.ground.specs.Counting.Each.{done_none, done_more, done_table}
 use Rattle.store.specs.Marks.{passed_marks}
 use Rattle.store.proofs.Rows.{passed_in, passed_last}
 use Rattle.store.proofs.marks.pass.Goals as goal
 
 pub loop-k-init : goal.loop-k-init
-loop-k-init c = (refl, omega arith, done_none _ _)
+loop-k-init c = done_none _ _
 
 pub loop-k-preserved : goal.loop-k-preserved
-loop-k-preserved c = (c.loop-k.invariant.0, omega arith, done_more _ c.loop-k.invariant.2 (c.passed_byte.ensures ∙ passed_in c.args.row c.loop-k.k (omega arith)))
+loop-k-preserved c = done_more _ c.loop-k.invariant (c.passed_byte.ensures ∙ passed_in c.args.row c.loop-k.k (omega arith))
 
 pub returns : goal.returns
 unfolding passed_marks
 returns c =
     let e : c.loop-k.k ≡ 15 = omega arith in
-    done_table (done_more _ (rw e at c.loop-k.invariant.2) (passed_last c.args.row)) refl refl
+    done_table (done_more _ (rw e at c.loop-k.invariant) (passed_last c.args.row)) refl refl
