@@ -4,6 +4,7 @@ ghost use Rattle.c_face.specs.Packets.{are_bytes, read_answer_c, read_fields_c, 
 ghost use Rattle.packet.specs.Fixed.{write_fixed_bytes};
 ghost use Rattle.packet.specs.Reading.{reading_number};
 
+use ground::Refusal;
 use packet::{Fields, Unread, Word, kinds};
 
 fn are_bytes(epoch: u32, word: u32, gid: u32, mst: u32, rs_ack: u32, sq: u32) -> bool
@@ -46,7 +47,7 @@ fn put_packet(
         sq: sq as u8,
         reserved,
     };
-    packet::writing_number(packet::write_by(kind, fields, frames))
+    ground::number_told(packet::write_by(kind, fields, frames))
 }
 
 pub fn levelspruce_packet_write(
@@ -141,7 +142,7 @@ pub fn levelspruce_packet_write_fixed(epoch: u32, sq: u32, h4: &mut [u8]) -> u8
     ensures { (result ≡ write_fixed_answer_c epoch sq h4.old)
         × (h4.new ≡ write_fixed_bytes epoch sq h4.old) }
 {
-    packet::writing_number(packet::write_fixed(epoch, sq, h4))
+    ground::number_told(packet::write_fixed(epoch, sq, h4))
 }
 
 pub fn levelspruce_packet_read_fixed(h4: &[u8], fields: &mut [u8]) -> u8

@@ -1,5 +1,6 @@
 -- A packet read (01, 'Answer numbers').
 use Rattle.std.specs.Prelude.{ℕ, List, [], ◌∷◌, length, take, if◌then◌else◌, ◌==◌, Result, Ok, Err}
+use Rattle.ground.specs.Refusals.{number_told}
 use Rattle.ground.specs.Types.{Bytes}
 use Rattle.packet.specs.declared.layout.Fields.{Fields}
 use Rattle.packet.specs.declared.reader.Unread.{Unread}
@@ -20,8 +21,7 @@ unread_number Fixed = 7
 unread_number Unassigned = 6
 
 abbrev pub reading_number : Reading → ℕ
-reading_number (Ok f) = 0
-reading_number (Err u) = unread_number u
+reading_number = number_told unread_number
 
 -- and its values: 'no packet' under a refusal
 abbrev pub reading_values : Reading → List ℕ

@@ -1,6 +1,7 @@
 -- A packet written (01, 'Answer numbers').
 use Rattle.std.specs.Prelude.{ℕ, ◌^◌, Bool, not, ◌&&◌, length, if◌then◌else◌, ◌==◌, Result, Ok, Err, ⊤}
 use Rattle.ground.specs.Plain.{◌<?◌}
+use Rattle.ground.specs.Refusals.{number_told}
 use Rattle.ground.specs.Types.{Bytes}
 use Rattle.packet.specs.declared.layout.Fields.{Fields}
 use Rattle.packet.specs.declared.writer.Unwritten.{Unwritten}
@@ -18,8 +19,7 @@ unwritten_number Length = 9
 unwritten_number Field = 8
 
 abbrev pub writing_number : Writing → ℕ
-writing_number (Ok u) = 0
-writing_number (Err u) = unwritten_number u
+writing_number = number_told unwritten_number
 
 -- 8: 'a field given for writing is too large, or its word is FIXED or unassigned', by how many epochs, numbers and values of the reserved bits a packet has room for
 abbrev pub fits_within : (epochs numbers values : ℕ) (f : Fields) → Bool

@@ -17,10 +17,10 @@ mod writer;
 
 pub use fixed::{fixed_ruling_of, read_fixed, read_fixed_nibbles, write_fixed};
 pub use layout::Fields;
-pub use reader::{Unread, read, read_nibbles, reading_number};
+pub use reader::{Unread, read, read_nibbles};
 pub use ruling::{Ruling, read_row, ruling_of};
 pub use sending::write_by;
 pub use shares::share_table;
 pub use vc12::{read_vc12, read_vc12_row, write_vc12};
 pub use words::Word;
-pub use writer::{Unwritten, write, writing_number};
+pub use writer::{Unwritten, write};

@@ -2,7 +2,8 @@
 ghost use Rattle.std.specs.Prelude.{◌≡◌, [], ◌∷◌, length};
 ghost use Rattle.packet.specs.ByTable.{read_nibbles_with};
 ghost use Rattle.packet.specs.Layout.{highs_of};
-ghost use Rattle.packet.specs.Reading.{read_answer, read_fields, reading_number, unread_number};
+ghost use Rattle.packet.specs.Reading.{read_answer, read_fields, unread_number};
+ghost use Rattle.std.proofs.Common.{rules};
 ghost use Rattle.packet.specs.Shares.{halves_of};
 
 use crate::crc::join;
@@ -10,6 +11,7 @@ use crate::layout;
 use crate::layout::{Fields, byte_of};
 use crate::shares::share_table;
 use crate::words::Word;
+use ground::Refusal;
 
 // Why there is no packet.
 #[derive(Clone, Copy, PartialEq, Eq)]
@@ -20,10 +22,10 @@ pub enum Unread {
     Unassigned,
 }
 
-impl Unread {
-    pub fn number(self) -> u8
-        ensures { result ≡ unread_number self }
-    {
+impl Refusal for Unread {
+    ghost number_of = { unread_number };
+
+    fn number(self) -> u8 {
         match self {
             Unread::Length => 9,
             Unread::Crc => 5,
@@ -31,16 +33,8 @@ impl Unread {
             Unread::Unassigned => 6,
         }
     }
-}
 
-// 01's number for what was read.
-pub fn reading_number(reading: Result<Fields, Unread>) -> u8
-    ensures { result ≡ reading_number reading }
-{
-    match reading {
-        Ok(_) => 0,
-        Err(unread) => unread.number(),
-    }
+    ghost is_no_zero = { Prim.search rules };
 }
 
 // The fields of a packet whose CRC is right.

@@ -1,11 +1,13 @@
 // A packet written (01, 'Answer numbers': for writing 9, then 8).
 ghost use Rattle.std.specs.Prelude.{◌≡◌};
-ghost use Rattle.packet.specs.Writing.{fits_within, write_answer, write_bytes, unwritten_number, writing_number};
+ghost use Rattle.packet.specs.Writing.{fits_within, write_answer, write_bytes, unwritten_number};
+ghost use Rattle.std.proofs.Common.{rules};
 
 use crate::layout;
 use crate::layout::Fields;
 use crate::shares::share_table;
 use crate::words::Word;
+use ground::Refusal;
 
 // Why nothing was written.
 #[derive(Clone, Copy, PartialEq, Eq)]
@@ -14,25 +16,17 @@ pub enum Unwritten {
     Field,
 }
 
-impl Unwritten {
-    pub fn number(self) -> u8
-        ensures { result ≡ unwritten_number self }
-    {
+impl Refusal for Unwritten {
+    ghost number_of = { unwritten_number };
+
+    fn number(self) -> u8 {
         match self {
             Unwritten::Length => 9,
             Unwritten::Field => 8,
         }
     }
-}
 
-// 01's number for a writing.
-pub fn writing_number(writing: Result<(), Unwritten>) -> u8
-    ensures { result ≡ writing_number writing }
-{
-    match writing {
-        Ok(()) => 0,
-        Err(unwritten) => unwritten.number(),
-    }
+    ghost is_no_zero = { Prim.search rules };
 }
 
 // Whether fields fit a packet that has room for so many epochs, numbers and values of the reserved bits.

@@ -6,6 +6,7 @@ ghost use Rattle.rows.specs.Packets.{packets_at};
 ghost use Rattle.step.specs.Carried.{other_number};
 
 use crate::{each, flags, report, shown};
+use ground::Refusal;
 use packet::{Fields, Unread};
 use rows::Group;
 use step::answers;

@@ -30,4 +30,4 @@ pub overflow_cast-fields-6 : goal.overflow_cast-fields-6
 overflow_cast-fields-6 c = let b = fit c in omega arith
 
 pub returns : goal.returns
-returns c = (c.writing_number.ensures ∙ ap writing_number c.write_by.ensures.0, c.write_by.ensures.1)
+returns c = (c.number_told.ensures ∙ ap writing_number c.write_by.ensures.0, c.write_by.ensures.1)
