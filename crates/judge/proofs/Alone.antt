@@ -2,6 +2,7 @@
 use mathlib.Core.Path.{◌≡◌, refl}
 use mathlib.Core.Bool.{Bool, true, false, cond, ◌&&◌, ◌||◌}
 use mathlib.Core.List.{List, [], ◌∷◌}
+use mir.Val.{bool_byte}
 use Prim.Native.Nat.{ℕ, ◌+◌}
 use lib.Dec.{eqb}
 use Rattle.ground.specs.Counting.Words.{every}
@@ -64,6 +65,10 @@ x_alone p = one_more (active_seen p)
 
 abbrev alone : ℕ → Order
 alone x = record { ports = tabulate 64 (λ (r : ℕ). 0); x = x }
+
+pub byte_is : (b : Bool) → bool_byte b ≡ cond b 1 0
+byte_is true = refl
+byte_is false = refl
 
 pub order_alone : (p : Seen) (x : ℕ) → x ≡ cond (active_seen p) 1 0 → alone x ≡ order_of (p ∷ []) 1
 unfolding order_of

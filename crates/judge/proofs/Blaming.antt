@@ -1,18 +1,14 @@
 -- The lowest port to which a clause applies.
 use mathlib.Core.Path.{◌≡◌, refl}
-use mathlib.Core.Bool.{Bool, true, false}
+use mathlib.Core.Bool.{true, false}
 use mathlib.Core.List.{List}
-use Prim.Native.Nat.{ℕ, ◌+◌, ◌<◌}
-use native.Mathlib.Numerals.{add-one}
+use Prim.Native.Nat.{ℕ, ◌<◌}
 use Rattle.ground.specs.Counting.Laws.Tests.{some_at}
 use Rattle.ground.specs.Counting.Words.{some}
 use Rattle.judge.specs.declared.seen.Seen.{Seen}
 use Rattle.judge.specs.Cause.{applies, blamed_by}
 use Rattle.judge.specs.Laws.Lowest.{lowest_first}
 use Rattle.judge.specs.Verdict.{highest}
-
-pub none_more : (f : ℕ → Bool) (i : ℕ) → some i f ≡ false → f i ≡ false → some (i + 1) f ≡ false
-none_more f i e h = rw (add-one, e, h) refl
 
 module _ (ports : List Seen) (n cause top : ℕ) (e : top ≡ highest ports n) where
   pub blamed_first : (i : ℕ) → i < n → some i (applies ports top cause) ≡ false → applies ports top cause i ≡ true → i ≡ blamed_by ports n cause

@@ -1,5 +1,7 @@
 pub mod Alone
 pub mod Blaming
-pub mod Counts
+pub mod Chains
+pub mod Deciding
+pub mod First
 pub mod Judging
 pub mod Placing

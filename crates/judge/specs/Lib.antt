@@ -3,6 +3,7 @@ pub mod Full
 pub mod Laws
 pub mod Lowest
 pub mod Marked
+pub mod Named
 pub mod Numbers
 pub mod Opened
 pub mod Order

@@ -43,6 +43,14 @@ eos_alone_by ports n top = every n (λ i. beq (eos_seen (seen_at ports i)) (acti
 unfoldable pub exact_to : (ports : List Seen) (count limit : ℕ) → Bool
 exact_to ports n limit = every limit (λ q. takes ports n q)
 
+-- the first of the clauses that hold an epoch of any group, 0 where none does
+abbrev pub common_cause : (t : Tally) (repeated : Bool) → ℕ
+common_cause t repeated =
+    if t.refused then 1
+    else if t.lacking then 2
+    else if repeated then 3
+    else 0
+
 -- the first clause that holds the epoch, 0 where none does
 abbrev pub held_cause : (t : Tally) (repeated alone : Bool) → ℕ
 held_cause t repeated alone =

@@ -2,12 +2,14 @@
 #![tactic(auto)]
 
 mod blame;
+mod named;
 mod numbers;
 mod order;
 mod seen;
 mod verdict;
 
 pub use blame::blamed;
+pub use named::Mark;
 pub use order::{Order, ordered};
 pub use seen::Seen;
-pub use verdict::{DOUBTFUL, HELD, SURE, cause, mark};
+pub use verdict::{cause, mark};

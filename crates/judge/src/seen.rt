@@ -1,9 +1,10 @@
-// What is seen of a port: the packet that rules it, and whether its frames stand in the store.
-ghost use Rattle.std.specs.Prelude.{◌≡◌};
-ghost use Rattle.judge.specs.Seen.{active_seen, eos_seen, lacking_seen, numbered_seen, refused_seen, unidle_seen};
+// What is seen of a port: the packet that rules it, and whether its frames stand in the store. And the ports of a group.
+ghost use Rattle.std.specs.Prelude.{◌≡◌, ◌≤◌, ◌<◌, List, length, take};
+ghost use Rattle.judge.specs.declared.seen.Seen.{Seen};
+ghost use Rattle.judge.specs.Seen.{active_seen, eos_seen, lacking_seen, numbered_seen, refused_seen, size_of, unidle_seen};
 
-pub(crate) use ground::{one_if, size_of};
 use packet::Word;
+use std::marker::Model;
 
 #[derive(Clone, Copy)]
 pub struct Seen {
@@ -18,45 +19,86 @@ pub struct Seen {
     pub here: bool,
 }
 
-pub(crate) fn is_refused(port: Seen) -> bool
-    ensures { result ≡ refused_seen port }
-{
-    port.whole & !port.good
+impl Seen {
+    pub(crate) fn is_refused(self) -> bool
+        ensures { result ≡ refused_seen self }
+    {
+        self.whole & !self.good
+    }
+
+    pub(crate) fn is_active(self) -> bool
+        ensures { result ≡ active_seen self }
+    {
+        self.whole
+            & self.good
+            & ((self.word == Word::NORM.0)
+                | (self.word == Word::EOS.0)
+                | (self.word == Word::FIXED.0))
+    }
+
+    pub(crate) fn is_numbered(self) -> bool
+        ensures { result ≡ numbered_seen self }
+    {
+        self.whole
+            & self.good
+            & ((self.word == Word::NORM.0)
+                | (self.word == Word::EOS.0)
+                | (self.word == Word::FIXED.0)
+                | (self.word == Word::DNU.0))
+    }
+
+    pub(crate) fn is_eos(self) -> bool
+        ensures { result ≡ eos_seen self }
+    {
+        self.whole & self.good & (self.word == Word::EOS.0)
+    }
+
+    pub(crate) fn is_unidle(self) -> bool
+        ensures { result ≡ unidle_seen self }
+    {
+        self.whole & self.good & (self.word != Word::IDLE.0)
+    }
+
+    pub(crate) fn is_lacking(self) -> bool
+        ensures { result ≡ lacking_seen self }
+    {
+        self.is_active() & !self.here
+    }
 }
 
-pub(crate) fn is_active(port: Seen) -> bool
-    ensures { result ≡ active_seen port }
-{
-    port.whole
-        & port.good
-        & ((port.word == Word::NORM.0) | (port.word == Word::EOS.0) | (port.word == Word::FIXED.0))
+// The ports of a group. In a clause they are a list.
+#[derive(Drop)]
+pub(crate) struct Ports<'a> {
+    pub(crate) seen: &'a [Seen],
 }
 
-pub(crate) fn is_numbered(port: Seen) -> bool
-    ensures { result ≡ numbered_seen port }
-{
-    port.whole
-        & port.good
-        & ((port.word == Word::NORM.0)
-            | (port.word == Word::EOS.0)
-            | (port.word == Word::FIXED.0)
-            | (port.word == Word::DNU.0))
+impl<'a> Model for Ports<'a> {
+    ghost Value = { List Seen };
+
+    ghost view = { λ ports. ports.seen.now };
+
+    ghost invariant = { λ ports. length ports.seen.now ≤ 64 };
 }
 
-pub(crate) fn is_eos(port: Seen) -> bool
-    ensures { result ≡ eos_seen port }
-{
-    port.whole & port.good & (port.word == Word::EOS.0)
-}
+impl<'a> Ports<'a> {
+    // The first ports of a table.
+    pub(crate) fn of(table: &'a [Seen; 64], count: u8) -> Ports<'a>
+        ensures first { result ≡ take (size_of count) table.now }
+        ensures many { length result ≡ size_of count }
+    {
+        Ports {
+            seen: &table[..ground::size_of(count)],
+        }
+    }
 
-pub(crate) fn is_unidle(port: Seen) -> bool
-    ensures { result ≡ unidle_seen port }
-{
-    port.whole & port.good & !(port.word == Word::IDLE.0)
-}
-
-pub(crate) fn is_lacking(port: Seen) -> bool
-    ensures { result ≡ lacking_seen port }
-{
-    is_active(port) & !port.here
+    // The first i of them.
+    pub(crate) fn below(&self, i: usize) -> Ports<'a>
+        requires { i ≤ length self.now }
+        ensures first { result ≡ take i self.now }
+        ensures many { length result ≡ i }
+    {
+        Ports {
+            seen: &self.seen[..i],
+        }
+    }
 }

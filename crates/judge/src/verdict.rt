@@ -1,41 +1,18 @@
 // Held, doubtful, sure, and why (01, 'Report of an epoch').
-ghost use Rattle.std.specs.Prelude.{◌≡◌, true, [], ◌∷◌, ◌≤◌, ◌<◌, if◌then◌else◌};
+ghost use Rattle.std.specs.Prelude.{◌≡◌, true, [], ◌∷◌, ◌≤◌, ◌<◌, length};
 ghost use Rattle.judge.specs.Full.{Full};
 ghost use Rattle.judge.specs.Cause.{cause_of, fixed_cause, lcas_cause, mark_of};
+ghost use Rattle.judge.specs.Named.{decided_number, mark_number};
 ghost use Rattle.judge.specs.Seen.{size_of};
-ghost use Rattle.judge.specs.Tally.{doubt_cause, eos_alone_by, exact_to, fixed_cause_with, held_cause, tally_of, tally_with};
+ghost use Rattle.judge.specs.Tally.{common_cause, doubt_cause, eos_alone_by, exact_to, fixed_cause_with, held_cause, tally_of, tally_with};
 ghost use Rattle.judge.specs.Verdict.{highest, repeats, takes};
 
-use crate::seen::Seen;
-use crate::{numbers, seen};
+use crate::named::{Cause, Mark, decided_number};
+use crate::seen::{Ports, Seen};
 use packet::kinds;
 
-// The marks of a report. 0 says that none is due.
-pub const HELD: u8 = 1;
-
-pub const DOUBTFUL: u8 = 2;
-
-pub const SURE: u8 = 3;
-
-// The causes of a mark, the clauses in 01's order. 0 says that none decided.
-pub(crate) const NONE: u8 = 0;
-
-pub(crate) const REFUSED: u8 = 1;
-
-pub(crate) const LACKING: u8 = 2;
-
-pub(crate) const REPEATED: u8 = 3;
-
-pub(crate) const GID: u8 = 4;
-
-pub(crate) const EOS: u8 = 5;
-
-pub(crate) const UNSEEN: u8 = 6;
-
-pub(crate) const NUMBERS: u8 = 7;
-
 // What one walk over the ports finds.
-#[derive(Clone, Copy)]
+#[derive(Clone, Copy, Default)]
 struct Tally {
     refused: bool,
     lacking: bool,
@@ -51,254 +28,205 @@ struct Tally {
     numbered: u8,
 }
 
-fn choose(test: bool, one: u8, other: u8) -> u8
-    ensures { result ≡ (if test then one else other) }
-{
-    if test { one } else { other }
-}
+impl Tally {
+    fn with(self, port: Seen) -> Tally
+        requires { self.numbered < 64 }
+        ensures { result ≡ tally_with self port }
+    {
+        let higher = port.is_active() & (self.highest < port.number);
+        Tally {
+            refused: self.refused | port.is_refused(),
+            lacking: self.lacking | port.is_lacking(),
+            zero: self.zero | (port.is_unidle() & (port.gid == 0)),
+            other: self.other | (port.is_unidle() & (port.gid != 0)),
+            active: self.active | port.is_active(),
+            eos: self.eos | port.is_eos(),
+            missing: self.missing | !port.whole,
+            highest: if higher { port.number } else { self.highest },
+            numbered: self.numbered + u8::from(port.is_numbered()),
+        }
+    }
 
-fn with_port(tally: Tally, port: Seen) -> Tally
-    requires { tally.numbered < 64 }
-    ensures { result ≡ tally_with tally port }
-{
-    let active = seen::is_active(port);
-    let unidle = seen::is_unidle(port);
-    let higher = active & (tally.highest < port.number);
-    Tally {
-        refused: tally.refused | seen::is_refused(port),
-        lacking: tally.lacking | seen::is_lacking(port),
-        zero: tally.zero | (unidle & (port.gid == 0)),
-        other: tally.other | (unidle & !(port.gid == 0)),
-        active: tally.active | active,
-        eos: tally.eos | seen::is_eos(port),
-        missing: tally.missing | !port.whole,
-        highest: choose(higher, port.number, tally.highest),
-        numbered: tally.numbered + seen::one_if(seen::is_numbered(port)),
+    // The clauses that hold an epoch in any group.
+    fn common_cause(self, repeated: bool) -> Option<Cause>
+        ensures { decided_number result ≡ common_cause self repeated }
+    {
+        if self.refused {
+            return Some(Cause::Refused);
+        }
+        if self.lacking {
+            return Some(Cause::Lacking);
+        }
+        if repeated {
+            Some(Cause::Repeated)
+        } else {
+            None
+        }
+    }
+
+    fn held_cause(self, repeated: bool, alone: bool) -> Option<Cause>
+        ensures { decided_number result ≡ held_cause self repeated alone }
+    {
+        let common = self.common_cause(repeated);
+        if common.is_some() {
+            return common;
+        }
+        if self.zero & self.other {
+            return Some(Cause::Gid);
+        }
+        if self.active & !alone & !(!self.eos & self.missing) {
+            return Some(Cause::Eos);
+        }
+        None
+    }
+
+    // A fixed group (request 2026-12).
+    fn fixed_cause(self, repeated: bool, exact: bool) -> Option<Cause>
+        ensures { decided_number result ≡ fixed_cause_with self repeated exact }
+    {
+        if self.missing {
+            return Some(Cause::Unseen);
+        }
+        let held = self.common_cause(repeated);
+        if held.is_some() {
+            return held;
+        }
+        if exact { None } else { Some(Cause::Numbers) }
     }
 }
 
-fn no_tally() -> Tally
-    ensures { result ≡ tally_of [] 0 }
+fn doubt_cause(unseen: bool, exact: bool) -> Option<Cause>
+    ensures { decided_number result ≡ doubt_cause unseen exact }
 {
-    Tally {
-        refused: false,
-        lacking: false,
-        zero: false,
-        other: false,
-        active: false,
-        eos: false,
-        missing: false,
-        highest: 0,
-        numbered: 0,
+    if unseen {
+        return Some(Cause::Unseen);
     }
+    if exact { None } else { Some(Cause::Numbers) }
 }
 
-fn tallied(ports: [Seen; 64], n: usize) -> Tally
-    requires { n ≤ 64 }
-    ensures { result ≡ tally_of ports n }
-{
-    let mut sum = no_tally();
-    let mut i = 0;
-    while i < n {
-        let port = ports[i];
-        let next = with_port(sum, port);
-        sum = next;
-        i += 1;
+impl Ports<'_> {
+    fn tally(&self) -> Tally
+        ensures { result ≡ tally_of self.now (length self.now) }
+    {
+        let mut tally = Tally::default();
+        for port in self.seen {
+            tally = tally.with(*port);
+        }
+        tally
     }
-    sum
-}
 
-// The highest number of an active port.
-pub(crate) fn highest_of(ports: [Seen; 64], n: usize) -> u8
-    requires { n ≤ 64 }
-    ensures { result ≡ highest ports n }
-{
-    let tally = tallied(ports, n);
-    tally.highest
-}
-
-// One of the first n active and DNU ports has the number.
-pub(crate) fn is_taken(ports: [Seen; 64], n: usize, number: u8) -> bool
-    requires { n ≤ 64 }
-    ensures { result ≡ takes ports n number }
-{
-    let mut found = false;
-    let mut i = 0;
-    while i < n {
-        let port = ports[i];
-        found = found | (seen::is_numbered(port) & (port.number == number));
-        i += 1;
+    // The highest number of an active port.
+    pub(crate) fn highest(&self) -> u8
+        ensures { result ≡ highest self.now (length self.now) }
+    {
+        self.tally().highest
     }
-    found
-}
 
-fn has_pairs(ports: [Seen; 64], n: usize) -> bool
-    requires { n ≤ 64 }
-    ensures { result ≡ repeats ports n }
-{
-    let mut found = false;
-    let mut i = 0;
-    while i < n {
-        let port = ports[i];
-        found = found | (seen::is_numbered(port) & is_taken(ports, i, port.number));
-        i += 1;
+    // An active or DNU port has the number.
+    pub(crate) fn is_taken(&self, number: u8) -> bool
+        ensures { result ≡ takes self.now (length self.now) number }
+    {
+        self.seen
+            .iter()
+            .any(|port| port.is_numbered() & (port.number == number))
     }
-    found
-}
 
-// 'numbers of active and DNU ports repeat'
-fn has_repeats(ports: [Seen; 64], n: usize, full: bool) -> bool
-    requires { (n ≤ 64) × (full ≡ true → Full ports n) }
-    ensures { result ≡ repeats ports n }
-{
-    if full {
-        return false;
+    fn has_pairs(&self) -> bool
+        ensures { result ≡ repeats self.now (length self.now) }
+    {
+        let mut found = false;
+        for (i, port) in self.seen.iter().enumerate() {
+            found |= port.is_numbered() & self.below(i).is_taken(port.number);
+        }
+        found
     }
-    has_pairs(ports, n)
-}
 
-fn is_eos_alone(ports: [Seen; 64], n: usize, highest: u8) -> bool
-    requires { n ≤ 64 }
-    ensures { result ≡ eos_alone_by ports n highest }
-{
-    let mut all = true;
-    let mut i = 0;
-    while i < n {
-        let port = ports[i];
-        let last = seen::is_active(port) & (port.number == highest);
-        all = all & (seen::is_eos(port) == last);
-        i += 1;
+    // 'numbers of active and DNU ports repeat'
+    fn has_repeats(&self, full: bool) -> bool
+        requires { full ≡ true → Full self.now (length self.now) }
+        ensures { result ≡ repeats self.now (length self.now) }
+    {
+        !full && self.has_pairs()
     }
-    all
-}
 
-fn are_taken(ports: [Seen; 64], n: usize, limit: u8) -> bool
-    requires { n ≤ 64 }
-    ensures { result ≡ exact_to ports n limit }
-{
-    let mut all = true;
-    let mut number = 0;
-    while number < limit {
-        all = all & is_taken(ports, n, number);
-        number += 1;
+    fn is_eos_alone(&self, highest: u8) -> bool
+        ensures { result ≡ eos_alone_by self.now (length self.now) highest }
+    {
+        self.seen.iter().all(|port| port.is_eos() == (port.is_active() & (port.number == highest)))
     }
-    all
-}
 
-// Each of the numbers below the limit is taken.
-fn is_exact(ports: [Seen; 64], n: usize, limit: u8, full: bool) -> bool
-    requires { (n ≤ 64) × (limit ≤ n) × (full ≡ true → Full ports n) }
-    ensures { result ≡ exact_to ports n limit }
-{
-    if full {
-        return true;
+    // Each of the numbers below the limit is taken.
+    fn is_exact(&self, limit: u8, full: bool) -> bool
+        requires { (limit ≤ length self.now) × (full ≡ true → Full self.now (length self.now)) }
+        ensures { result ≡ exact_to self.now (length self.now) limit }
+    {
+        full || (0..limit).all(|number| self.is_taken(number))
     }
-    are_taken(ports, n, limit)
-}
 
-fn held_cause(tally: Tally, repeated: bool, alone: bool) -> u8
-    ensures { result ≡ held_cause tally repeated alone }
-{
-    let eos = choose(
-        tally.active & !alone & !(!tally.eos & tally.missing),
-        EOS,
-        NONE,
-    );
-    let gid = choose(tally.zero & tally.other, GID, eos);
-    let numbers = choose(repeated, REPEATED, gid);
-    let frames = choose(tally.lacking, LACKING, numbers);
-    choose(tally.refused, REFUSED, frames)
-}
-
-fn doubt_cause(unseen: bool, exact: bool) -> u8
-    ensures { result ≡ doubt_cause unseen exact }
-{
-    let numbers = choose(exact, NONE, NUMBERS);
-    choose(unseen, UNSEEN, numbers)
-}
-
-fn lcas_cause(ports: [Seen; 64], n: usize) -> u8
-    requires { n ≤ 64 }
-    ensures { result ≡ lcas_cause ports n }
-{
-    let full = numbers::is_full(ports, n);
-    let tally = tallied(ports, n);
-    let repeated = has_repeats(ports, n, full);
-    let alone = is_eos_alone(ports, n, tally.highest);
-    let held = held_cause(tally, repeated, alone);
-    if NONE < held {
-        return held;
+    fn lcas_cause(&self) -> Option<Cause>
+        ensures { decided_number result ≡ lcas_cause self.now (length self.now) }
+    {
+        let full = self.is_full();
+        let tally = self.tally();
+        let repeated = self.has_repeats(full);
+        let alone = self.is_eos_alone(tally.highest);
+        let held = tally.held_cause(repeated, alone);
+        if held.is_some() {
+            return held;
+        }
+        doubt_cause(tally.missing, self.is_exact(tally.numbered, full))
     }
-    let exact = is_exact(ports, n, tally.numbered, full);
-    doubt_cause(tally.missing, exact)
-}
 
-fn fixed_cause_with(tally: Tally, repeated: bool, exact: bool) -> u8
-    ensures { result ≡ fixed_cause_with tally repeated exact }
-{
-    let numbers = choose(exact, NONE, NUMBERS);
-    let twice = choose(repeated, REPEATED, numbers);
-    let frames = choose(tally.lacking, LACKING, twice);
-    let packets = choose(tally.refused, REFUSED, frames);
-    choose(tally.missing, UNSEEN, packets)
-}
-
-// A fixed group (request 2026-12). X is the number of its ports, so no report of it is doubtful.
-fn fixed_cause(ports: [Seen; 64], n: usize) -> u8
-    requires { n ≤ 64 }
-    ensures { result ≡ fixed_cause ports n }
-{
-    let full = numbers::is_full(ports, n);
-    let tally = tallied(ports, n);
-    let repeated = has_repeats(ports, n, full);
-    let exact = is_exact(ports, n, n as u8, full);
-    fixed_cause_with(tally, repeated, exact)
+    // X is the number of its ports, so no report of a fixed group is doubtful.
+    fn fixed_cause(&self) -> Option<Cause>
+        ensures { decided_number result ≡ fixed_cause self.now (length self.now) }
+    {
+        let full = self.is_full();
+        let repeated = self.has_repeats(full);
+        let exact = self.is_exact(self.seen.len() as u8, full);
+        self.tally().fixed_cause(repeated, exact)
+    }
 }
 
 // A port alone is judged by itself: no table of 64 is handed on.
 fn tallied_alone(port: Seen) -> Tally
     ensures { result ≡ tally_of (port ∷ []) 1 }
 {
-    let none = no_tally();
-    with_port(none, port)
+    Tally::default().with(port)
 }
 
 fn is_eos_last(port: Seen, highest: u8) -> bool
     ensures { result ≡ eos_alone_by (port ∷ []) 1 highest }
 {
-    let last = seen::is_active(port) & (port.number == highest);
-    seen::is_eos(port) == last
+    port.is_eos() == (port.is_active() & (port.number == highest))
 }
 
 fn has_zero(port: Seen) -> bool
     ensures { result ≡ takes (port ∷ []) 1 0 }
 {
-    seen::is_numbered(port) & (port.number == 0)
+    port.is_numbered() & (port.number == 0)
 }
 
-fn lcas_alone(port: Seen) -> u8
-    ensures { result ≡ lcas_cause (port ∷ []) 1 }
+fn lcas_alone(port: Seen) -> Option<Cause>
+    ensures { decided_number result ≡ lcas_cause (port ∷ []) 1 }
 {
     let tally = tallied_alone(port);
     let alone = is_eos_last(port, tally.highest);
-    let held = held_cause(tally, false, alone);
-    if NONE < held {
+    let held = tally.held_cause(false, alone);
+    if held.is_some() {
         return held;
     }
-    let zero = has_zero(port);
-    doubt_cause(tally.missing, (tally.numbered == 0) | zero)
+    doubt_cause(tally.missing, (tally.numbered == 0) | has_zero(port))
 }
 
-fn fixed_alone(port: Seen) -> u8
-    ensures { result ≡ fixed_cause (port ∷ []) 1 }
+fn fixed_alone(port: Seen) -> Option<Cause>
+    ensures { decided_number result ≡ fixed_cause (port ∷ []) 1 }
 {
-    let tally = tallied_alone(port);
-    let zero = has_zero(port);
-    fixed_cause_with(tally, false, zero)
+    tallied_alone(port).fixed_cause(false, has_zero(port))
 }
 
-fn cause_alone(kind: u8, port: Seen) -> u8
-    ensures { result ≡ cause_of kind (port ∷ []) 1 }
+fn cause_alone(kind: u8, port: Seen) -> Option<Cause>
+    ensures { decided_number result ≡ cause_of kind (port ∷ []) 1 }
 {
     if kind == kinds::FIXED {
         return fixed_alone(port);
@@ -306,29 +234,36 @@ fn cause_alone(kind: u8, port: Seen) -> u8
     lcas_alone(port)
 }
 
-// Why the epoch is held or doubtful; the mark follows from it.
+// Apart from `cause`, since a table that is lent is copied first, which a port alone need not pay for.
+fn cause_among(kind: u8, ports: [Seen; 64], count: u8) -> Option<Cause>
+    ensures { decided_number result ≡ cause_of kind ports (size_of count) }
+{
+    let group = Ports::of(&ports, count);
+    if kind == kinds::FIXED {
+        return group.fixed_cause();
+    }
+    group.lcas_cause()
+}
+
+// Why the epoch is held or doubtful; the mark follows from it. A number, as the report and the host have it.
 pub fn cause(kind: u8, ports: [Seen; 64], count: u8) -> u8
     ensures { result ≡ cause_of kind ports (size_of count) }
 {
     if count == 1 {
-        let port = ports[0];
-        return cause_alone(kind, port);
+        return decided_number(cause_alone(kind, ports[0]));
     }
-    let n = seen::size_of(count);
-    if kind == kinds::FIXED {
-        return fixed_cause(ports, n);
-    }
-    lcas_cause(ports, n)
+    decided_number(cause_among(kind, ports, count))
 }
 
-pub fn mark(kind: u8, cause: u8) -> u8
-    ensures { result ≡ mark_of kind cause }
+// By any number of a clause.
+pub fn mark(kind: u8, cause: u8) -> Mark
+    ensures { mark_number result ≡ mark_of kind cause }
 {
-    if cause == NONE {
-        return SURE;
+    if cause == 0 {
+        return Mark::Sure;
     }
-    if (kind == kinds::FIXED) | (cause < UNSEEN) {
-        return HELD;
+    if (kind == kinds::FIXED) | (cause < Cause::Unseen.number()) {
+        return Mark::Held;
     }
-    DOUBTFUL
+    Mark::Doubtful
 }

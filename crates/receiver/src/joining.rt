@@ -1,11 +1,12 @@
 // The sixteen group frames of a report, and what the report says (01, 'Report of an epoch', 'Payload order').
 ghost use Rattle.std.specs.Prelude.{◌≡◌, ◌+◌, ◌*◌, get_or, if◌then◌else◌, ◌==◌};
+ghost use Rattle.judge.specs.Named.{mark_number};
 ghost use Rattle.judge.specs.Verdict.{HELD};
 ghost use Rattle.receiver.specs.Laws.Rings.{rings_of};
 ghost use Rattle.receiver.specs.Report.{frame_into, frames_into, output_by, report_by};
 
 use crate::report::Report;
-use judge::Order;
+use judge::{Mark, Order};
 use packet::kinds;
 use rows::Group;
 use store::frames;
@@ -82,26 +83,21 @@ fn frames_into(group: Group, order: Order, store: &[u8], count: u8, out: &mut [u
     }
 }
 
-fn is_held(mark: u8) -> bool
-    ensures { result ≡ (mark == HELD) }
-{
-    mark == judge::HELD
-}
-
 // The group frames of an epoch that is not held.
-pub(crate) fn output_by(group: Group, mark: u8, order: Order, store: &[u8], out: &mut [u8])
-    ensures { out.new ≡ output_by group mark order store.now out.old }
+pub(crate) fn output_by(group: Group, mark: Mark, order: Order, store: &[u8], out: &mut [u8])
+    ensures { out.new ≡ output_by group (mark_number mark) order store.now out.old }
 {
-    if !is_held(mark) {
-        let count = kinds::epoch_frames(group.kind);
-        frames_into(group, order, store, count, out);
+    if mark == Mark::Held {
+        return;
     }
+    let count = kinds::epoch_frames(group.kind);
+    frames_into(group, order, store, count, out);
 }
 
-fn joined_members(mark: u8, x: u8) -> u8
-    ensures { result ≡ (if mark == HELD then 0 else x) }
+fn joined_members(mark: Mark, x: u8) -> u8
+    ensures { result ≡ (if mark_number mark == HELD then 0 else x) }
 {
-    if is_held(mark) { 0 } else { x }
+    if mark == Mark::Held { 0 } else { x }
 }
 
 fn byte_count(x: u8, frames: u8, payload: u16) -> u32
@@ -110,14 +106,14 @@ fn byte_count(x: u8, frames: u8, payload: u16) -> u32
     x as u32 * frames as u32 * payload as u32
 }
 
-pub(crate) fn report_by(group: Group, mark: u8, cause: u8, order: Order) -> Report
-    ensures { result ≡ report_by group mark cause order }
+pub(crate) fn report_by(group: Group, mark: Mark, cause: u8, order: Order) -> Report
+    ensures { result ≡ report_by group (mark_number mark) cause order }
 {
     let x = joined_members(mark, order.x);
     let count = kinds::epoch_frames(group.kind);
     let bytes = byte_count(x, count, group.payload);
     Report {
-        mark,
+        mark: mark.number(),
         epoch: group.oldest,
         x,
         cause,

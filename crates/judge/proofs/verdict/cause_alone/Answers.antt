@@ -1,4 +1,5 @@
-use borrow.Author.Tests.{eq-eqb, ne_eqb}
+use Rattle.std.proofs.Common.{eq-eqb}
+use Rattle.std.proofs.lemmas.Bool.{ne_eqb}
 use Rattle.judge.specs.Cause.{cause_of}
 use Rattle.judge.proofs.verdict.cause_alone.Goals as goal
 
