@@ -17,23 +17,18 @@ pub(crate) fn put_board(board: Board, out: &mut [u8])
     requires { length out.old ≡ board_bytes }
     ensures { out.new ≡ board_bytes_of board }
 {
-    let wait = ground::one_if(board.wait);
-    let count = ground::size_byte(board.count);
-    let head = [count, wait];
-    let rows = board.rows;
+    let head = [ground::size_byte(board.count), u8::from(board.wait)];
     keeping::put_bytes(&head, 0, out);
-    keeping::put_rows(rows, 2, out);
+    keeping::put_pairs(&board.rows, 2, out);
 }
 
 pub(crate) fn put_ranks(ranks: Ranks, out: &mut [u8])
     requires { length out.old ≡ ranks_bytes }
     ensures { out.new ≡ ranks_bytes_of ranks }
 {
-    let begun = ground::one_if(ranks.begun);
-    let head = [ranks.count, begun, ranks.epoch, ranks.x];
-    let each = ranks.ranks;
+    let head = [ranks.count, u8::from(ranks.begun), ranks.epoch, ranks.x];
     keeping::put_bytes(&head, 0, out);
-    keeping::put_bytes(&each, 4, out);
+    keeping::put_bytes(&ranks.ranks, 4, out);
 }
 
 pub fn levelspruce_sender_board(state: &[u8], board: &mut [u8]) -> u8

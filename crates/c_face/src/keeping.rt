@@ -1,14 +1,16 @@
 // The sender's state in lent bytes, read and written. This file alone knows where each field stands.
-ghost use Rattle.std.specs.Prelude.{◌≡◌, ◌+◌, ◌≤◌, ◌<◌, length, get_or};
+ghost use Rattle.std.specs.Prelude.{◌≡◌, [], ◌∷◌, ℕ, ◌+◌, ◌/◌, ◌%◌, ◌≤◌, ◌<◌, length, get_or};
 ghost use Rattle.ground.specs.Drawn.{fill_at};
-ghost use Rattle.c_face.specs.Keeping.{board_in, bytes_of, code_of, field_bytes, row_byte, row_in, rows_byte, rows_in, sender_of, slot_byte, slot_in, slots_byte, slots_in, state_bytes, state_of, table_in};
+ghost use Rattle.c_face.specs.Keeping.{board_in, bytes_of, field_bytes, row_byte, row_in, rows_in, sender_of, slot_byte, slot_in, slots_in, state_bytes, state_of, table_in};
 
 use packet::Word;
 use sender::{Board, Row, Sender, Slot, State, Table};
+use std::array;
 
 // A sender's state.
 pub const SENDER_BYTES: usize = 397;
 
+// No From: State is sender's, and an impl for it may stand in sender alone.
 fn state_of(code: u8) -> State
     ensures { result ≡ state_of code }
 {
@@ -20,26 +22,13 @@ fn state_of(code: u8) -> State
     }
 }
 
-fn code_of(state: State) -> u8
-    ensures { result ≡ code_of state }
-{
-    match state {
-        State::Idle => 0,
-        State::Add => 1,
-        State::Active => 2,
-        State::Dnu => 3,
-    }
-}
-
 fn slot_in(state: &[u8], i: usize) -> Slot
     requires { (length state.now ≡ state_bytes) × (i < 64) }
     ensures { result ≡ slot_in state.now i }
 {
-    let code = state[2 * i];
-    let number = state[2 * i + 1];
     Slot {
-        state: state_of(code),
-        number,
+        state: state_of(state[2 * i]),
+        number: state[2 * i + 1],
     }
 }
 
@@ -47,29 +36,16 @@ fn slots_in(state: &[u8]) -> [Slot; 64]
     requires { length state.now ≡ state_bytes }
     ensures { result ≡ slots_in state.now }
 {
-    let blank = Slot {
-        state: State::Idle,
-        number: 0,
-    };
-    let mut slots = [blank; 64];
-    let mut i = 0;
-    while i < 64 {
-        let slot = slot_in(state, i);
-        slots[i] = slot;
-        i += 1;
-    }
-    slots
+    array::from_fn(|i| slot_in(state, i))
 }
 
 fn row_in(state: &[u8], at: usize, i: usize) -> Row
     requires { (at + 128 ≤ length state.now) × (i < 64) }
     ensures { result ≡ row_in state.now at i }
 {
-    let word = state[at + 2 * i];
-    let number = state[at + 2 * i + 1];
     Row {
-        word: Word(word),
-        number,
+        word: Word(state[at + 2 * i]),
+        number: state[at + 2 * i + 1],
     }
 }
 
@@ -77,34 +53,19 @@ fn rows_in(state: &[u8], at: usize) -> [Row; 64]
     requires { at + 128 ≤ length state.now }
     ensures { result ≡ rows_in state.now at }
 {
-    let blank = Row {
-        word: Word(0),
-        number: 0,
-    };
-    let mut rows = [blank; 64];
-    let mut i = 0;
-    while i < 64 {
-        let row = row_in(state, at, i);
-        rows[i] = row;
-        i += 1;
-    }
-    rows
+    array::from_fn(|i| row_in(state, at, i))
 }
 
 fn table_in(state: &[u8]) -> Table
     requires { length state.now ≡ state_bytes }
     ensures { result ≡ table_in state.now }
 {
-    let count = state[384];
-    let wait = state[385];
-    let bit = state[386];
-    let kind = state[387];
     Table {
         slots: slots_in(state),
-        count,
-        wait: ground::is_set(wait),
-        remembered: bit,
-        kind,
+        count: state[384],
+        wait: state[385] != 0,
+        remembered: state[386],
+        kind: state[387],
     }
 }
 
@@ -116,7 +77,7 @@ pub(crate) fn board_in(state: &[u8], at: usize, count: u8, wait: u8) -> Board
     Board {
         rows: rows_in(state, at),
         count,
-        wait: ground::is_set(wait),
+        wait: wait != 0,
     }
 }
 
@@ -125,16 +86,12 @@ pub(crate) fn sender_of(state: &[u8]) -> Sender
     requires { length state.now ≡ state_bytes }
     ensures { result ≡ sender_of state.now }
 {
-    let table = table_in(state);
-    let outgoing = board_in(state, 128, state[388], state[389]);
-    let ruling = board_in(state, 256, state[390], state[391]);
-    let begun = ground::is_set(state[393]);
     Sender {
-        table,
-        outgoing,
-        ruling,
+        table: table_in(state),
+        outgoing: board_in(state, 128, state[388], state[389]),
+        ruling: board_in(state, 256, state[390], state[391]),
         epoch: state[392],
-        begun,
+        begun: state[393] != 0,
         gid: state[394],
         mst: state[395],
         rs_ack: state[396],
@@ -145,69 +102,58 @@ pub(crate) fn put_bytes(from: &[u8], at: usize, out: &mut [u8])
     requires { at + length from.now ≤ length out.old }
     ensures { out.new ≡ fill_at at (length from.now) (λ k. get_or from.now k 0) out.old }
 {
-    let mut k = 0;
-    while k < from.len() {
-        out[at + k] = from[k];
-        k += 1;
+    out[at..at + from.len()].copy_from_slice(from);
+}
+
+// What stands as two bytes, a slot or a row: the byte on each side.
+pub(crate) trait Pair: Copy {
+    ghost side: { Self → ℕ → ℕ };
+
+    fn pair(self) -> [u8; 2]
+        ensures { result ≡ side self 0 ∷ side self 1 ∷ [] };
+}
+
+impl Pair for Slot {
+    ghost side = { slot_byte };
+
+    fn pair(self) -> [u8; 2] {
+        [self.state as u8, self.number]
     }
 }
 
-fn slot_byte(slot: Slot, side: usize) -> u8
-    ensures { result ≡ slot_byte slot side }
-{
-    let state = slot.state;
-    let code = code_of(state);
-    if side == 0 { code } else { slot.number }
-}
+impl Pair for Row {
+    ghost side = { row_byte };
 
-fn put_slots(slots: [Slot; 64], out: &mut [u8])
-    requires { 128 ≤ length out.old }
-    ensures { out.new ≡ fill_at 0 128 (slots_byte slots) out.old }
-{
-    let mut k = 0;
-    while k < 128 {
-        let byte = slot_byte(slots[k / 2], k % 2);
-        out[k] = byte;
-        k += 1;
+    fn pair(self) -> [u8; 2] {
+        [self.word.0, self.number]
     }
 }
 
-fn row_byte(row: Row, side: usize) -> u8
-    ensures { result ≡ row_byte row side }
-{
-    let word = row.word;
-    if side == 0 { word.0 } else { row.number }
-}
-
-pub(crate) fn put_rows(rows: [Row; 64], at: usize, out: &mut [u8])
+pub(crate) fn put_pairs<T: Pair>(pairs: &[T; 64], at: usize, out: &mut [u8])
     requires { at + 128 ≤ length out.old }
-    ensures { out.new ≡ fill_at at 128 (rows_byte rows) out.old }
+    ensures { (d : T) → out.new ≡ fill_at at 128 (λ k. T.side (get_or pairs.now (k / 2) d) (k % 2)) out.old }
 {
-    let mut k = 0;
-    while k < 128 {
-        let byte = row_byte(rows[k / 2], k % 2);
-        out[at + k] = byte;
-        k += 1;
+    for i in 0..64 {
+        let [first, second] = pairs[i].pair();
+        out[at + 2 * i] = first;
+        out[at + 2 * i + 1] = second;
     }
 }
 
-fn field_bytes(sender: Sender) -> [u8; 13]
-    ensures { result ≡ field_bytes sender }
+fn field_bytes(sender: &Sender) -> [u8; 13]
+    ensures { result ≡ field_bytes sender.now }
 {
-    let table = sender.table;
-    let outgoing = sender.outgoing;
-    let ruling = sender.ruling;
     [
-        table.count,
-        ground::one_if(table.wait),
-        table.remembered,
-        table.kind,
-        outgoing.count,
-        ground::one_if(outgoing.wait),
-        ruling.count,
-        ground::one_if(ruling.wait),
+        sender.table.count,
+        u8::from(sender.table.wait),
+        sender.table.remembered,
+        sender.table.kind,
+        sender.outgoing.count,
+        u8::from(sender.outgoing.wait),
+        sender.ruling.count,
+        u8::from(sender.ruling.wait),
         sender.epoch,
-        ground::one_if(sender.begun),
+        u8::from(sender.begun),
         sender.gid,
         sender.mst,
         sender.rs_ack,
@@ -218,15 +164,8 @@ pub(crate) fn put_sender(sender: Sender, state: &mut [u8])
     requires { length state.old ≡ state_bytes }
     ensures { state.new ≡ bytes_of sender }
 {
-    let table = sender.table;
-    let outgoing = sender.outgoing;
-    let ruling = sender.ruling;
-    let slots = table.slots;
-    let now = outgoing.rows;
-    let before = ruling.rows;
-    let fields = field_bytes(sender);
-    put_slots(slots, state);
-    put_rows(now, 128, state);
-    put_rows(before, 256, state);
-    put_bytes(&fields, 384, state);
+    put_pairs(&sender.table.slots, 0, state);
+    put_pairs(&sender.outgoing.rows, 128, state);
+    put_pairs(&sender.ruling.rows, 256, state);
+    put_bytes(&field_bytes(&sender), 384, state);
 }

@@ -5,4 +5,4 @@ use Rattle.c_face.proofs.keeping.put_sender.Goals as goal
 
 pub returns : goal.returns
 returns c =
-    put_whole c.args.sender _ c.args.state.now _ _ _ _ c.requires c.field_bytes-fields.ensures c.put_slots.ensures c.put_rows.ensures c.put_rows-2.ensures c.put_bytes.ensures
+    put_whole c.args.sender _ c.args.state.now _ _ _ _ c.requires c.field_bytes.ensures (c.put_pairs.ensures _) (c.put_pairs-2.ensures _) (c.put_pairs-3.ensures _) c.put_bytes.ensures

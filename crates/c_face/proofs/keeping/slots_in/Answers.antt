@@ -1,16 +1,8 @@
-use mathlib.Core.Path.{refl}
-use native.Mathlib.Omega.{arith}
-use Rattle.c_face.specs.Keeping.{slots_in}
-use Rattle.c_face.proofs.Wholes.{done_whole}
-use Rattle.ground.specs.Counting.Each.{done_none, done_more}
+use Rattle.std.proofs.Common.{rules, tests}
+use Rattle.c_face.specs.Keeping.{slot_in, slots_in}
+use Rattle.c_face.proofs.Wholes.{made_each}
 use Rattle.c_face.proofs.keeping.slots_in.Goals as goal
-
-pub loop-i-init : goal.loop-i-init
-loop-i-init c = (refl, omega arith, done_none _ _)
-
-pub loop-i-preserved : goal.loop-i-preserved
-loop-i-preserved c = (c.loop-i.invariant.0, omega arith, done_more _ c.loop-i.invariant.2 c.slot_in-slot.ensures)
 
 pub returns : goal.returns
 unfolding slots_in
-returns c = done_whole c.loop-i.invariant.2 (omega arith) c.loop-i.invariant.0
+returns c = made_each _ (slot_in c.args.state.now) _ (λ x y q k. search (rules, tests)) c.from_fn.result 64 c.from_fn.ensures.items
