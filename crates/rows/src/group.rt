@@ -1,7 +1,11 @@
 // The group's row.
-ghost use Rattle.std.specs.Prelude.{◌≡◌, ◌+◌, ◌*◌, length};
+ghost use Rattle.std.specs.Prelude.{◌≡◌};
 ghost use Rattle.rows.specs.Group.{group_at, group_of, group_row, put_group};
-ghost use Rattle.rows.specs.Rows.{row_in, put_row, rows_for};
+ghost use Rattle.rows.specs.Laws.Records.{group_back};
+ghost use Rattle.rows.specs.Rows.{rows_for};
+
+use crate::row;
+use crate::row::Row;
 
 #[derive(Clone, Copy)]
 pub struct Group {
@@ -26,84 +30,63 @@ pub struct Group {
     pub rs_ack: u8,
 }
 
-pub(crate) fn row_in(state: &[[u8; 16]], at: usize) -> [u8; 16]
-    ensures { result ≡ row_in state.now at }
-{
-    if at < state.len() { state[at] } else { [0; 16] }
-}
+impl Row for Group {
+    ghost of_row = { group_of };
 
-pub(crate) fn put_row(state: &mut [[u8; 16]], at: usize, row: [u8; 16])
-    ensures { state.new ≡ put_row state.old at row }
-{
-    if at < state.len() {
-        state[at] = row;
+    ghost to_row = { group_row };
+
+    fn of_row(row: [u8; 16]) -> Group {
+        Group {
+            spare: [row[12], row[13], row[14], row[15]],
+            kind: row[0],
+            count: row[1],
+            payload: u16::from_be_bytes([row[2], row[3]]),
+            window: u16::from_be_bytes([row[4], row[5]]),
+            begun: row[6],
+            gathered: row[7],
+            oldest: row[8],
+            origin: u16::from_be_bytes([row[9], row[10]]),
+            rs_ack: row[11],
+        }
     }
-}
 
-// A row has sixteen bytes: what its type says, said where a proof can cite it.
-pub(crate) fn is_whole(row: [u8; 16])
-    ensures { length row ≡ 16 }
-{}
-
-// Two bytes of a row as one number, the first one higher.
-pub(crate) fn pair(high: u8, low: u8) -> u16
-    ensures { result ≡ high * 256 + low }
-{
-    high as u16 * 256 + low as u16
-}
-
-fn group_of(row: [u8; 16]) -> Group
-    ensures { result ≡ group_of row }
-{
-    Group {
-        spare: [row[12], row[13], row[14], row[15]],
-        kind: row[0],
-        count: row[1],
-        payload: pair(row[2], row[3]),
-        window: pair(row[4], row[5]),
-        begun: row[6],
-        gathered: row[7],
-        oldest: row[8],
-        origin: pair(row[9], row[10]),
-        rs_ack: row[11],
+    fn to_row(self) -> [u8; 16] {
+        let payload = self.payload.to_be_bytes();
+        let window = self.window.to_be_bytes();
+        let origin = self.origin.to_be_bytes();
+        [
+            self.kind,
+            self.count,
+            payload[0],
+            payload[1],
+            window[0],
+            window[1],
+            self.begun,
+            self.gathered,
+            self.oldest,
+            origin[0],
+            origin[1],
+            self.rs_ack,
+            self.spare[0],
+            self.spare[1],
+            self.spare[2],
+            self.spare[3],
+        ]
     }
-}
 
-fn group_row(g: Group) -> [u8; 16]
-    ensures { result ≡ group_row g }
-{
-    [
-        g.kind,
-        g.count,
-        (g.payload / 256) as u8,
-        (g.payload % 256) as u8,
-        (g.window / 256) as u8,
-        (g.window % 256) as u8,
-        g.begun,
-        g.gathered,
-        g.oldest,
-        (g.origin / 256) as u8,
-        (g.origin % 256) as u8,
-        g.rs_ack,
-        g.spare[0],
-        g.spare[1],
-        g.spare[2],
-        g.spare[3],
-    ]
+    ghost is_back = { group_back };
 }
 
 pub fn get(state: &[[u8; 16]]) -> Group
     ensures { result ≡ group_at state.now }
 {
-    let row = row_in(state, 0);
-    group_of(row)
+    row::get(state, 0)
 }
 
 pub fn put(state: &mut [[u8; 16]], group: Group)
     ensures { state.new ≡ put_group state.old group }
 {
-    let row = group_row(group);
-    put_row(state, 0, row);
+    row::put(state, 0, group);
 }
 
 // How many rows a port has.

@@ -1,8 +1,10 @@
 // The row of a port's member.
 ghost use Rattle.std.specs.Prelude.{◌≡◌};
 ghost use Rattle.rows.specs.Member.{member_at, member_of, member_row, put_member};
+ghost use Rattle.rows.specs.Laws.Records.{member_back};
 
-use crate::group;
+use crate::row::Row;
+use crate::{group, row};
 
 #[derive(Clone, Copy)]
 pub struct Member {
@@ -26,56 +28,61 @@ pub struct Member {
     pub elapsed: u16,
 }
 
-fn member_of(row: [u8; 16]) -> Member
-    ensures { result ≡ member_of row }
-{
-    Member {
-        spare: [row[12], row[13], row[14], row[15]],
-        word: row[0],
-        number: row[1],
-        state: row[2],
-        state_number: row[3],
-        told_word: row[4],
-        told_number: row[5],
-        hold_off: group::pair(row[6], row[7]),
-        restore: group::pair(row[8], row[9]),
-        elapsed: group::pair(row[10], row[11]),
-    }
-}
+impl Row for Member {
+    ghost of_row = { member_of };
 
-fn member_row(m: Member) -> [u8; 16]
-    ensures { result ≡ member_row m }
-{
-    [
-        m.word,
-        m.number,
-        m.state,
-        m.state_number,
-        m.told_word,
-        m.told_number,
-        (m.hold_off / 256) as u8,
-        (m.hold_off % 256) as u8,
-        (m.restore / 256) as u8,
-        (m.restore % 256) as u8,
-        (m.elapsed / 256) as u8,
-        (m.elapsed % 256) as u8,
-        m.spare[0],
-        m.spare[1],
-        m.spare[2],
-        m.spare[3],
-    ]
+    ghost to_row = { member_row };
+
+    fn of_row(row: [u8; 16]) -> Member {
+        Member {
+            spare: [row[12], row[13], row[14], row[15]],
+            word: row[0],
+            number: row[1],
+            state: row[2],
+            state_number: row[3],
+            told_word: row[4],
+            told_number: row[5],
+            hold_off: u16::from_be_bytes([row[6], row[7]]),
+            restore: u16::from_be_bytes([row[8], row[9]]),
+            elapsed: u16::from_be_bytes([row[10], row[11]]),
+        }
+    }
+
+    fn to_row(self) -> [u8; 16] {
+        let hold_off = self.hold_off.to_be_bytes();
+        let restore = self.restore.to_be_bytes();
+        let elapsed = self.elapsed.to_be_bytes();
+        [
+            self.word,
+            self.number,
+            self.state,
+            self.state_number,
+            self.told_word,
+            self.told_number,
+            hold_off[0],
+            hold_off[1],
+            restore[0],
+            restore[1],
+            elapsed[0],
+            elapsed[1],
+            self.spare[0],
+            self.spare[1],
+            self.spare[2],
+            self.spare[3],
+        ]
+    }
+
+    ghost is_back = { member_back };
 }
 
 pub fn get(state: &[[u8; 16]], port: u8) -> Member
     ensures { result ≡ member_at state.now port }
 {
-    let row = group::row_in(state, port as usize * group::PORT_ROWS + 2);
-    member_of(row)
+    row::get(state, port as usize * group::PORT_ROWS + 2)
 }
 
 pub fn put(state: &mut [[u8; 16]], port: u8, member: Member)
     ensures { state.new ≡ put_member state.old port member }
 {
-    let row = member_row(member);
-    group::put_row(state, port as usize * group::PORT_ROWS + 2, row);
+    row::put(state, port as usize * group::PORT_ROWS + 2, member);
 }

@@ -1,8 +1,10 @@
 // The row of a port's step.
 ghost use Rattle.std.specs.Prelude.{◌≡◌};
 ghost use Rattle.rows.specs.Step.{step_at, step_of, step_row, put_step, with_next};
+ghost use Rattle.rows.specs.Laws.Records.{step_back};
 
-use crate::group;
+use crate::row::Row;
+use crate::{group, row};
 
 #[derive(Clone, Copy)]
 pub struct Step {
@@ -31,60 +33,63 @@ pub struct Step {
     pub bits: u8,
 }
 
-fn step_of(row: [u8; 16]) -> Step
-    ensures { result ≡ step_of row }
-{
-    Step {
-        spare: [row[12], row[13], row[14], row[15]],
-        heard: row[0],
-        failed: row[1],
-        count: row[2],
-        next: group::pair(row[3], row[4]),
-        joined: row[5],
-        ever_since: row[6],
-        joined_at: row[7],
-        whole: row[8],
-        breaks: row[9],
-        odd: row[10],
-        bits: row[11],
-    }
-}
+impl Row for Step {
+    ghost of_row = { step_of };
 
-fn step_row(s: Step) -> [u8; 16]
-    ensures { result ≡ step_row s }
-{
-    [
-        s.heard,
-        s.failed,
-        s.count,
-        (s.next / 256) as u8,
-        (s.next % 256) as u8,
-        s.joined,
-        s.ever_since,
-        s.joined_at,
-        s.whole,
-        s.breaks,
-        s.odd,
-        s.bits,
-        s.spare[0],
-        s.spare[1],
-        s.spare[2],
-        s.spare[3],
-    ]
+    ghost to_row = { step_row };
+
+    fn of_row(row: [u8; 16]) -> Step {
+        Step {
+            spare: [row[12], row[13], row[14], row[15]],
+            heard: row[0],
+            failed: row[1],
+            count: row[2],
+            next: u16::from_be_bytes([row[3], row[4]]),
+            joined: row[5],
+            ever_since: row[6],
+            joined_at: row[7],
+            whole: row[8],
+            breaks: row[9],
+            odd: row[10],
+            bits: row[11],
+        }
+    }
+
+    fn to_row(self) -> [u8; 16] {
+        let next = self.next.to_be_bytes();
+        [
+            self.heard,
+            self.failed,
+            self.count,
+            next[0],
+            next[1],
+            self.joined,
+            self.ever_since,
+            self.joined_at,
+            self.whole,
+            self.breaks,
+            self.odd,
+            self.bits,
+            self.spare[0],
+            self.spare[1],
+            self.spare[2],
+            self.spare[3],
+        ]
+    }
+
+    ghost is_back = { step_back };
 }
 
 pub fn get(state: &[[u8; 16]], port: u8) -> Step
     ensures { result ≡ step_at state.now port }
 {
-    let row = group::row_in(state, port as usize * group::PORT_ROWS + 1);
-    step_of(row)
+    row::get(state, port as usize * group::PORT_ROWS + 1)
 }
 
 pub fn put(state: &mut [[u8; 16]], port: u8, step: Step)
     ensures { state.new ≡ put_step state.old port step }
 {
-    let row = step_row(step);
-    group::put_row(state, port as usize * group::PORT_ROWS + 1, row);
+    row::put(state, port as usize * group::PORT_ROWS + 1, step);
 }
 
 // The next tag alone: two bytes of the row.
@@ -93,9 +98,9 @@ pub fn put_next(state: &mut [[u8; 16]], port: u8, next: u16)
 {
     let at = port as usize * group::PORT_ROWS + 1;
     if at < state.len() {
-        let row = state[at];
-        group::is_whole(row);
-        state[at][3] = (next / 256) as u8;
-        state[at][4] = (next % 256) as u8;
+        row::is_whole(state[at]);
+        let bytes = next.to_be_bytes();
+        state[at][3] = bytes[0];
+        state[at][4] = bytes[1];
     }
 }

@@ -18,6 +18,10 @@ high a b h = omega arith
 low : (a b : ℕ) → b < 256 → (a * 256 + b) % 256 ≡ b
 low a b h = omega arith
 
+-- the higher byte of a number of two
+pub high_byte : (n : ℕ) → n < 65536 → n / 256 % 256 ≡ n / 256
+high_byte n h = omega arith
+
 pub group_back : (g : Group) → group_of (group_row g) ≡ g
 unfolding group_of group_row
 group_back g = simp halves

@@ -3,4 +3,4 @@ use Rattle.rows.proofs.group.put.Goals as goal
 
 pub returns : goal.returns
 unfolding put_group
-returns c = cc
+returns c = c.put.ensures

@@ -3,4 +3,4 @@ use Rattle.rows.proofs.member.get.Goals as goal
 
 pub returns : goal.returns
 unfolding member_at
-returns c = rw (c.member_of.ensures, c.row_in-row.ensures)
+returns c = c.get.ensures

@@ -3,4 +3,4 @@ use Rattle.rows.proofs.member.put.Goals as goal
 
 pub returns : goal.returns
 unfolding put_member
-returns c = cc
+returns c = c.put.ensures

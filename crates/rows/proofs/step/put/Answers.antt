@@ -3,4 +3,4 @@ use Rattle.rows.proofs.step.put.Goals as goal
 
 pub returns : goal.returns
 unfolding put_step
-returns c = cc
+returns c = c.put.ensures

@@ -1,6 +1,6 @@
 use native.Mathlib.Omega.{arith}
 use Rattle.rows.specs.Laws.Rows.{row_within, row_beyond}
-use Rattle.rows.proofs.group.row_in.Goals as goal
+use Rattle.rows.proofs.row.row_in.Goals as goal
 
 pub returns-then-at-state : goal.returns-then-at-state
 returns-then-at-state c = row_within _ _ (omega arith)
