@@ -11,7 +11,7 @@ use packet::kinds;
 fn is_failed(failed: u32) -> bool
     ensures { result ≡ failed_c failed }
 {
-    !(failed == 0)
+    failed != 0
 }
 
 pub fn levelspruce_receiver_start(
@@ -30,7 +30,7 @@ pub fn levelspruce_receiver_start(
 fn kind_byte(kind: u32) -> u8
     ensures { result ≡ kind_c kind }
 {
-    if kind < 256 { kind as u8 } else { 255 }
+    u8::try_from(kind).unwrap_or(255)
 }
 
 pub fn levelspruce_receiver_start_as(
@@ -46,9 +46,8 @@ pub fn levelspruce_receiver_start_as(
     ensures { (result ≡ start_as_answer_c kind ports payload window store_bytes hold_off.now restore.now (length state.old))
         × (state.new ≡ start_as_rows_c kind ports payload window store_bytes hold_off.now restore.now state.old) }
 {
-    let named = kind_byte(kind);
     receiver::start_as(
-        named,
+        kind_byte(kind),
         ports,
         payload,
         window,
@@ -71,8 +70,7 @@ pub fn levelspruce_receiver_frame(
         × (state.new ≡ (frame_of state.old port (failed_c failed) h4 payload.now store.old).rows)
         × (store.new ≡ (frame_of state.old port (failed_c failed) h4 payload.now store.old).store) }
 {
-    let flagged = is_failed(failed);
-    receiver::frame(state, port, flagged, h4, payload, store)
+    receiver::frame(state, port, is_failed(failed), h4, payload, store)
 }
 
 pub fn levelspruce_receiver_fetch(

@@ -2,20 +2,15 @@
 use mathlib.Core.Path.{◌≡◌, refl, sym, subst, ap, ◌∙◌}
 use mathlib.Core.Bool.{Bool, true, false, cond, ◌&&◌, ◌||◌, true≢false}
 use mathlib.Core.List.{List, [], ◌∷◌}
-use Prim.Native.Nat.{ℕ, ◌+◌, ◌*◌, ◌<◌}
-use native.Mathlib.Omega.{arith}
-use lib.Dec.{eqb, ltb}
-use lib.ListN.{get_or, length, replicate, set}
+use Prim.Native.Nat.{ℕ, ◌+◌, ◌*◌}
+use lib.Dec.{eqb}
+use lib.ListN.{get_or, replicate, set}
 use lib.Seq.{set-get_or}
-use borrow.Author.Tests.{eq-eqb, ltb-true, ne_eqb}
 use Rattle.packet.specs.Kinds.{ends_epoch, epochs_in, place_of, tag_after, vc12_kind}
 use Rattle.packet.specs.Laws.Distances.{place_back}
 use Rattle.packet.specs.Symbols.{entry_at, entry_with}
 use Rattle.packet.specs.Theorems.Symbols.{with_parts}
-use Rattle.phases.specs.Sizes.{ports_in}
-use Rattle.receiver.specs.Frame.{decided_frame, frame_of, frame_refusal, gathered_by, marks_by, own_tag, port_rows, refusal_by, settled_by, steady_rows, store_by, taken_frame}
-use Rattle.receiver.specs.Laws.Outcomes.{step_answer}
-use Rattle.receiver.specs.Lengths.{frame_fits}
+use Rattle.receiver.specs.Frame.{decided_frame, gathered_by, marks_by, own_tag, port_rows, settled_by, steady_rows, store_by, taken_frame}
 use Rattle.rows.specs.declared.group.Group.{Group}
 use Rattle.rows.specs.declared.step.Step.{Step}
 use Rattle.rows.specs.Group.{group_at}
@@ -32,47 +27,6 @@ use Rattle.step.specs.OwnCount.{ends_odd}
 use Rattle.step.specs.Steady.{mid_epoch, steady, steady_taken}
 use Rattle.store.specs.Frames.{place_in, stored_at}
 use Rattle.store.specs.Marks.{cut_from, marked_at}
-
-pub taken_frame_lem : (g : Group) (n : ℕ) (s : List (List ℕ)) (i : ℕ) (t : Taken) (h : ℕ) (payload store : List ℕ) (ported settled : List (List ℕ)) (kept : List ℕ)
-    → (t.answer ≡ 11 → ⊥) → ported ≡ port_rows g.kind s i t h → kept ≡ store_by g i t h payload store → settled ≡ settled_by t.settles n kept ported
-    → (settled ≡ (taken_frame g n s i t h payload store).rows) × (kept ≡ (taken_frame g n s i t h payload store).store)
-unfolding taken_frame
-taken_frame_lem g n s i t h payload store ported settled kept ne ep ek es = rw (ne_eqb t.answer 11 ne, ← ep, ← ek) (es, refl)
-
--- a frame that is not refused comes from a port of the group
-pub refused_below : (g : Group) (n i rows payload store : ℕ) → refusal_by g n i rows payload store ≡ 0 → i < n
-unfolding refusal_by
-refused_below g n i rows payload store e = go (ltb i n) refl e
-  where
-    go : (b : Bool) → ltb i n ≡ b → ◌≡◌ {A = ℕ} (cond b (cond (frame_fits g n rows payload store) 0 9) 1) 0 → i < n
-    go true t z = ltb-true i n t
-    go false t z = absurd (omega arith)
-
-module _ (s : List (List ℕ)) (i : ℕ) (failed : Bool) (h : ℕ) (payload store : List ℕ) (g : Group) (n r : ℕ) where
-  same_refusal : g ≡ group_at s → n ≡ ports_in g → r ≡ refusal_by g n i (length s) (length payload) (length store)
-      → r ≡ frame_refusal s i (length payload) (length store)
-  same_refusal eg en er = er ∙ rw (en, eg) refl
-
-  pub frame_refused : g ≡ group_at s → n ≡ ports_in g → r ≡ refusal_by g n i (length s) (length payload) (length store) → (r ≡ 0 → ⊥)
-      → (r ≡ (frame_of s i failed h payload store).answer) × (s ≡ (frame_of s i failed h payload store).rows) × (store ≡ (frame_of s i failed h payload store).store)
-  unfolding frame_of
-  frame_refused eg en er ne = rw (← same_refusal eg en er, ne_eqb r 0 ne) (refl, refl, refl)
-
-  pub frame_decided : (a : ℕ) (rows : List (List ℕ)) (kept : List ℕ)
-      → g ≡ group_at s → n ≡ ports_in g → r ≡ refusal_by g n i (length s) (length payload) (length store) → r ≡ 0
-      → a ≡ (decided_frame s i failed h payload store).answer → rows ≡ (decided_frame s i failed h payload store).rows → kept ≡ (decided_frame s i failed h payload store).store
-      → (a ≡ (frame_of s i failed h payload store).answer) × (rows ≡ (frame_of s i failed h payload store).rows) × (kept ≡ (frame_of s i failed h payload store).store)
-  unfolding frame_of
-  frame_decided a rows kept eg en er z ea erows ek = rw (← same_refusal eg en er, eq-eqb r 0 z) (ea, erows, ek)
-
-module _ (s : List (List ℕ)) (i : ℕ) (failed : Bool) (h : ℕ) (payload store : List ℕ) (g : Group) (step : Step) (eg : g ≡ group_at s) (es : step ≡ step_at s i) where
-  pub decided_by : (n : ℕ) (packets : List (List ℕ)) (odd : Bool) (t : Taken) (rows : List (List ℕ)) (kept : List ℕ) → n ≡ ports_in g → packets ≡ packets_at s i
-      → odd ≡ ends_odd g.kind (get_or packets 0 []) step.next h → t ≡ taken_of g step failed odd h
-      → rows ≡ (taken_frame g n s i t h payload store).rows → kept ≡ (taken_frame g n s i t h payload store).store
-      → (t.answer ≡ (decided_frame s i failed h payload store).answer)
-      × (rows ≡ (decided_frame s i failed h payload store).rows)
-      × (kept ≡ (decided_frame s i failed h payload store).store)
-  decided_by n packets odd t rows kept en ep eo et erows ek = rw (← eg, ← en, ← es, ← ep, ← eo, ← et) (sym (step_answer g n s i t h payload store), erows, ek)
 
 module _ (s : List (List ℕ)) (i : ℕ) where
   pub packets_after_step : (q : Step) → packets_at (put_step s i q) i ≡ packets_at s i
@@ -104,10 +58,6 @@ pub symbol_put : (kind : ℕ) (s : List (List ℕ)) (i tag h place at old entry 
 unfolding gathered_by with_entry entry_in
 symbol_put kind s i tag h place at old entry rows ep ea eo en er =
     er ∙ ap (λ (row : List ℕ). put_packets s i (set (packets_at s i) 0 row)) (with_parts kind (get_or (packets_at s i) 0 []) place h at old entry ea eo en) ∙ rw ep refl
-
-pub gather_counted : (kind : ℕ) (s : List (List ℕ)) (i : ℕ) (counted : Bool) (tag h : ℕ) (rows : List (List ℕ)) → counted ≡ true
-    → rows ≡ put_packets s i (gathered_by kind (packets_at s i) true tag h) → rows ≡ put_packets s i (gathered_by kind (packets_at s i) counted tag h)
-gather_counted kind s i counted tag h rows e er = rw e er
 
 pub gather_none : (kind : ℕ) (s : List (List ℕ)) (i : ℕ) (counted : Bool) (tag h : ℕ) → counted ≡ false → s ≡ put_packets s i (gathered_by kind (packets_at s i) counted tag h)
 unfolding gathered_by

@@ -4,6 +4,5 @@ pub mod Fetched
 pub mod Lists
 pub mod Numbers
 pub mod Reading
-pub mod Showing
 pub mod Sizes
 pub mod Started

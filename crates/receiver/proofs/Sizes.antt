@@ -10,19 +10,10 @@ use Rattle.packet.specs.Laws.Epochs.{half_fits}
 use Rattle.phases.specs.Sizes.{store_for}
 use Rattle.receiver.specs.Laws.Sizes.{Sizes}
 use Rattle.receiver.specs.Lengths.{fetch_fits, output_for, rows_fit}
-use Rattle.receiver.specs.Shown.{reply_fit, shown_fit}
 use Rattle.rows.specs.declared.group.Group.{Group}
 
 pub window_most : (kind count P W : ℕ) → Sizes kind count P W → W ≤ 2048
 window_most kind count P W z = let narrow = z.narrow in let half = half_fits kind in omega arith
-
-pub shown_length_lem : (n rows out : ℕ) → shown_fit n rows out ≡ true → out ≡ n
-unfolding shown_fit
-shown_length_lem n rows out t = eqb-true out n (and_right (rows_fit n rows) (eqb out n) t)
-
-pub reply_length : (n rows out : ℕ) → reply_fit n rows out ≡ true → out ≡ 2
-unfolding reply_fit
-reply_length n rows out t = eqb-true out 2 (and_right (rows_fit n rows) (eqb out 2) t)
 
 pub record_length : (g : Group) (n rows store out report : ℕ) → fetch_fits g n rows store out report ≡ true → report ≡ 8
 unfolding fetch_fits

@@ -1,4 +1,6 @@
 // A frame's arrival (01, 'The receiver'; 'For frames: 1, 9, 10, 12, 11').
+#![tactic(auto, unfolding(crate::specs::Frame::gathered_by, crate::specs::Frame::marks_by, crate::specs::Frame::port_rows, crate::specs::Frame::steady_rows, crate::specs::Frame::store_by, crate::specs::Frame::settled_by, crate::specs::Frame::taken_frame, crate::specs::Frame::refusal_by, crate::specs::Frame::frame_of))]
+
 ghost use Rattle.std.specs.Prelude.{◌≡◌, true};
 ghost use Rattle.receiver.specs.Frame.{decided_frame, frame_of, gathered_by, marks_by, port_rows, refusal_by, settled_by, steady_rows, store_by, taken_frame};
 ghost use Rattle.phases.specs.Sizes.{ports_in};
@@ -19,8 +21,7 @@ fn put_symbol(kind: u8, state: &mut [[u8; 16]], port: u8, tag: u16, h4: u8)
     let place = kinds::place_of(kind, tag);
     let at = symbols::entry_at(kind, place);
     let old = rows::packets::entry(state, port, at);
-    let entry = symbols::entry_with(kind, old, place, h4);
-    rows::packets::put_entry(state, port, at, entry);
+    rows::packets::put_entry(state, port, at, symbols::entry_with(kind, old, place, h4));
 }
 
 // Of a counted frame alone.
@@ -36,14 +37,10 @@ fn marks_by(kind: u8, row: [u8; 16], taken: Taken) -> [u8; 16]
     ensures { result ≡ marks_by kind row taken }
 {
     if taken.joins {
-        let step = taken.step;
-        return marks::cut(row, step.joined_at);
+        return marks::cut(row, taken.step.joined_at);
     }
-    if taken.kept {
-        if kinds::ends_epoch(kind, taken.at) {
-            let epoch = kinds::epochs_in(kind, taken.at);
-            return marks::mark(row, epoch);
-        }
+    if taken.kept && kinds::ends_epoch(kind, taken.at) {
+        return marks::mark(row, kinds::epochs_in(kind, taken.at));
     }
     row
 }
@@ -52,20 +49,17 @@ fn marks_by(kind: u8, row: [u8; 16], taken: Taken) -> [u8; 16]
 fn mark(kind: u8, state: &mut [[u8; 16]], port: u8, taken: Taken)
     ensures { state.new ≡ put_marks state.old port (marks_by kind (marks_at state.old port) taken) }
 {
-    let ends = kinds::ends_epoch(kind, taken.at);
-    if taken.joins | taken.kept & ends {
+    if taken.joins | taken.kept & kinds::ends_epoch(kind, taken.at) {
         let row = rows::packets::marks(state, port);
-        let left = marks_by(kind, row, taken);
-        rows::packets::put_marks(state, port, left);
+        rows::packets::put_marks(state, port, marks_by(kind, row, taken));
     }
 }
 
 fn put_port(kind: u8, state: &mut [[u8; 16]], port: u8, taken: Taken, h4: u8)
     ensures { state.new ≡ port_rows kind state.old port taken h4 }
 {
-    let step = taken.step;
-    let tag = kinds::previous_tag(kind, step.next);
-    rows::step::put(state, port, step);
+    let tag = kinds::previous_tag(kind, taken.step.next);
+    rows::step::put(state, port, taken.step);
     gather(kind, state, port, taken.counted, tag, h4);
     mark(kind, state, port, taken);
 }
@@ -91,8 +85,7 @@ fn settle_by(settles: bool, group: Group, store: &[u8], state: &mut [[u8; 16]])
     ensures { state.new ≡ settled_by settles (ports_in group) store.now state.old }
 {
     if settles {
-        let ports = phases::ports_in(group);
-        phases::settle(ports, store, state);
+        phases::settle(phases::ports_in(group), store, state);
     }
 }
 
@@ -132,8 +125,7 @@ fn decided(
     let group = rows::group::get(state);
     let step = rows::step::get(state, port);
     let packets = rows::packets::get(state, port);
-    let gathering = packets[0];
-    let odd = step::is_odd(group.kind, gathering, step.next, h4);
+    let odd = step::is_odd(group.kind, packets[0], step.next, h4);
     let taken = step::decide(group, step, failed, odd, h4);
     take(group, state, port, taken, h4, payload, store);
     taken.answer
@@ -143,8 +135,7 @@ fn decided(
 fn go_on(kind: u8, next: u16, h4: u8, port: u8, state: &mut [[u8; 16]])
     ensures { state.new ≡ steady_rows kind next h4 port state.old }
 {
-    let after = kinds::next_tag(kind, next);
-    rows::step::put_next(state, port, after);
+    rows::step::put_next(state, port, kinds::next_tag(kind, next));
     put_symbol(kind, state, port, next, h4);
 }
 
@@ -211,6 +202,5 @@ pub fn frame(
     if refusal != answers::DONE {
         return refusal;
     }
-    let at = port as u8;
-    arrive(group, state, at, failed, h4, payload, store)
+    arrive(group, state, port as u8, failed, h4, payload, store)
 }

@@ -1,6 +1,8 @@
 // Why the oldest epoch not yet reported would be held or doubtful, and the port: read before a fetch.
+#![tactic(auto, unfolding(crate::specs::Cause::cause_in, crate::specs::Cause::cause_fit, crate::specs::Cause::cause_answer, crate::specs::Cause::cause_out))]
+
 ghost use Rattle.std.specs.Prelude.{◌≡◌, length};
-ghost use Rattle.receiver.specs.Cause.{cause_answer, cause_fit, cause_in, cause_out};
+ghost use Rattle.receiver.specs.Cause.{cause_answer, cause_in, cause_out};
 
 use crate::{lengths, report};
 use rows::Group;
@@ -16,21 +18,6 @@ fn cause_of(group: Group, state: &[[u8; 16]], ports: u8) -> [u8; 2]
     [cause, port]
 }
 
-fn is_fit(count: u8, rows: usize, out: usize) -> bool
-    ensures { result ≡ cause_fit count rows out }
-{
-    let fit = lengths::is_rows(count, rows);
-    fit & (out == 2)
-}
-
-fn put_cause(group: Group, state: &[[u8; 16]], ports: u8, out: &mut [u8])
-    requires { length out.old ≡ 2 }
-    ensures { out.new ≡ cause_in group state.now ports }
-{
-    let found = cause_of(group, state, ports);
-    out.copy_from_slice(&found);
-}
-
 // Two bytes: the cause, and the lowest port to which its clause applies, 255 none.
 pub fn cause(state: &[[u8; 16]], out: &mut [u8]) -> u8
     ensures { (result ≡ cause_answer state.now (length out.old))
@@ -38,9 +25,9 @@ pub fn cause(state: &[[u8; 16]], out: &mut [u8]) -> u8
 {
     let group = rows::group::get(state);
     let ports = phases::ports_in(group);
-    if !is_fit(ports, state.len(), out.len()) {
+    if !lengths::is_lent(ports, state.len(), out.len(), 2) {
         return answers::LENGTH;
     }
-    put_cause(group, state, ports, out);
+    out.copy_from_slice(&cause_of(group, state, ports));
     answers::DONE
 }

@@ -1,4 +1,6 @@
 // A report fetched (01, 'Report of an epoch'; 'For fetching: 9 first').
+#![tactic(auto, unfolding(crate::specs::Fetch::due_in, crate::specs::Fetch::record_of, crate::specs::Fetch::report_if_due, crate::specs::Fetch::rows_if_due, crate::specs::Fetch::out_if_due, crate::specs::Fetch::lent_fits, crate::specs::Fetch::fetch_of))]
+
 ghost use Rattle.std.specs.Prelude.{◌≡◌, length};
 ghost use Rattle.receiver.specs.Fetch.{due_in, fetch_of, out_if_due, report_if_due, rows_if_due, none_due, record_of};
 ghost use Rattle.receiver.specs.Report.{output_of, epoch_report, reported_of, seen_all};
@@ -94,14 +96,6 @@ fn record_of(r: Report) -> [u8; 8]
     ]
 }
 
-fn put_record(given: Report, to: &mut [u8])
-    requires { length to.old ≡ 8 }
-    ensures { to.new ≡ record_of given }
-{
-    let bytes = record_of(given);
-    to.copy_from_slice(&bytes);
-}
-
 // The report of the oldest epoch not yet reported, if it is due: its frames into the output, and what it says into the record.
 pub fn fetch(state: &mut [[u8; 16]], store: &[u8], out: &mut [u8], report: &mut [u8]) -> u8
     ensures { (result ≡ (fetch_of state.old store.now out.old report.old).answer)
@@ -122,6 +116,6 @@ pub fn fetch(state: &mut [[u8; 16]], store: &[u8], out: &mut [u8], report: &mut 
         return answers::LENGTH;
     }
     let given = report_if_due(group, ports, state, store, out);
-    put_record(given, report);
+    report.copy_from_slice(&record_of(given));
     answers::DONE
 }

@@ -1,10 +1,11 @@
 // Receiving begun anew: one flagged frame on every port, in port order.
+#![tactic(auto, unfolding(crate::specs::Anew::anew_fits, crate::specs::Anew::anew_answer, crate::specs::Anew::anew_rows, crate::specs::Laws::Anew::flagged_port))]
+
 ghost use Rattle.std.specs.Prelude.{◌≡◌, length};
-ghost use Rattle.receiver.specs.Anew.{anew_answer, anew_fits, anew_rows};
+ghost use Rattle.receiver.specs.Anew.{anew_answer, anew_rows};
 ghost use Rattle.receiver.specs.Laws.Anew.{flagged_port, flagged_ports};
 
 use crate::lengths;
-use rows::Group;
 use step::answers;
 
 // The rows after a flagged frame, of which nothing is stored: of the port its step alone changes. A frame's own functions (arrival) are not called, since
@@ -15,11 +16,9 @@ fn flag_port(port: u8, store: &[u8], state: &mut [[u8; 16]])
     let group = rows::group::get(state);
     let step = rows::step::get(state, port);
     let taken = step::decide(group, step, true, false, 0);
-    let now = taken.step;
-    rows::step::put(state, port, now);
+    rows::step::put(state, port, taken.step);
     if taken.settles {
-        let ports = phases::ports_in(group);
-        phases::settle(ports, store, state);
+        phases::settle(phases::ports_in(group), store, state);
     }
 }
 
@@ -31,14 +30,6 @@ fn flag_ports(ports: u8, store: &[u8], state: &mut [[u8; 16]])
     }
 }
 
-fn is_anew(group: Group, ports: u8, rows: usize, store: usize) -> bool
-    ensures { result ≡ anew_fits group ports rows store }
-{
-    let fit = lengths::is_rows(ports, rows);
-    let whole = phases::store_for(group, ports);
-    fit & (store == whole)
-}
-
 // The store is read where the first epoch is gathered in between.
 pub fn anew(state: &mut [[u8; 16]], store: &[u8]) -> u8
     ensures { (result ≡ anew_answer state.old (length store.now))
@@ -46,7 +37,8 @@ pub fn anew(state: &mut [[u8; 16]], store: &[u8]) -> u8
 {
     let group = rows::group::get(state);
     let ports = phases::ports_in(group);
-    if !is_anew(group, ports, state.len(), store.len()) {
+    let whole = phases::store_for(group, ports);
+    if !lengths::is_lent(ports, state.len(), store.len(), whole) {
         return answers::LENGTH;
     }
     flag_ports(ports, store, state);

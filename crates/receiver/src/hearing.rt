@@ -1,7 +1,9 @@
 // The way back: what the far end says in the epoch just reported.
+#![tactic(auto, unfolding(crate::specs::Heard::said_at, crate::specs::Heard::heard_fit, crate::specs::Heard::heard_answer, crate::specs::Heard::heard_out))]
+
 ghost use Rattle.std.specs.Prelude.{◌≡◌, length};
 ghost use Rattle.packet.specs.Shares.{shares_of};
-ghost use Rattle.receiver.specs.Heard.{heard_answer, heard_fit, heard_of, heard_out, said_at};
+ghost use Rattle.receiver.specs.Heard.{heard_answer, heard_of, heard_out, said_at};
 
 use crate::{lengths, report, seeing};
 use rows::Group;
@@ -28,22 +30,6 @@ fn heard_of(table: &[[u8; 256]; 7], group: Group, state: &[[u8; 16]], ports: u8)
     [0, 0, 0, 0]
 }
 
-fn is_heard(count: u8, rows: usize, out: usize) -> bool
-    ensures { result ≡ heard_fit count rows out }
-{
-    let fit = lengths::is_rows(count, rows);
-    fit & (out == 4)
-}
-
-fn put_heard(group: Group, state: &[[u8; 16]], ports: u8, out: &mut [u8])
-    requires { length out.old ≡ 4 }
-    ensures { out.new ≡ heard_of group state.now ports }
-{
-    let table = packet::share_table();
-    let said = heard_of(&table, group, state, ports);
-    out.copy_from_slice(&said);
-}
-
 // Four bytes: 1, epoch, MST and RS-Ack; or four zeros.
 pub fn heard(state: &[[u8; 16]], out: &mut [u8]) -> u8
     ensures { (result ≡ heard_answer state.now (length out.old))
@@ -51,9 +37,10 @@ pub fn heard(state: &[[u8; 16]], out: &mut [u8]) -> u8
 {
     let group = rows::group::get(state);
     let ports = phases::ports_in(group);
-    if !is_heard(ports, state.len(), out.len()) {
+    if !lengths::is_lent(ports, state.len(), out.len(), 4) {
         return answers::LENGTH;
     }
-    put_heard(group, state, ports, out);
+    let table = packet::share_table();
+    out.copy_from_slice(&heard_of(&table, group, state, ports));
     answers::DONE
 }

@@ -1,4 +1,6 @@
 // The sixteen group frames of a report, and what the report says (01, 'Report of an epoch', 'Payload order').
+#![tactic(auto, unfolding(crate::specs::Report::output_by, crate::specs::Report::report_by))]
+
 ghost use Rattle.std.specs.Prelude.{◌≡◌, ◌+◌, ◌*◌, get_or, if◌then◌else◌, ◌==◌};
 ghost use Rattle.judge.specs.Named.{mark_number};
 ghost use Rattle.judge.specs.Verdict.{HELD};
@@ -110,13 +112,11 @@ pub(crate) fn report_by(group: Group, mark: Mark, cause: u8, order: Order) -> Re
     ensures { result ≡ report_by group (mark_number mark) cause order }
 {
     let x = joined_members(mark, order.x);
-    let count = kinds::epoch_frames(group.kind);
-    let bytes = byte_count(x, count, group.payload);
     Report {
         mark: mark.number(),
         epoch: group.oldest,
         x,
         cause,
-        bytes,
+        bytes: byte_count(x, kinds::epoch_frames(group.kind), group.payload),
     }
 }

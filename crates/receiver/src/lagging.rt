@@ -1,9 +1,11 @@
 // How far each port lies behind the foremost.
+#![tactic(auto, unfolding(crate::specs::Behind::behind_by, crate::specs::Behind::behind_in, crate::specs::Behind::behind_answer, crate::specs::Behind::behind_out, crate::specs::Shown::shown_fit))]
+
 ghost use Rattle.std.specs.Prelude.{◌≡◌, length};
 ghost use Rattle.receiver.specs.Behind.{behind_answer, behind_by, behind_out};
 ghost use Rattle.rows.specs.Step.{step_at};
 
-use crate::{each, shown};
+use crate::{each, lengths};
 use packet::kinds;
 use rows::{Group, Step};
 use step::answers;
@@ -24,8 +26,7 @@ fn behind_by(group: Group, fore: u16, step: Step) -> u32
 fn behind_at(group: Group, fore: u16, state: &[[u8; 16]], port: u8) -> u32
     ensures { result ≡ behind_by group fore (step_at state.now port) }
 {
-    let step = rows::step::get(state, port);
-    behind_by(group, fore, step)
+    behind_by(group, fore, rows::step::get(state, port))
 }
 
 // A number for each port.
@@ -35,7 +36,7 @@ pub fn behind(state: &[[u8; 16]], out: &mut [u32]) -> u8
 {
     let group = rows::group::get(state);
     let count = phases::ports_in(group);
-    if !shown::is_shown(count, state.len(), out.len()) {
+    if !lengths::is_lent(count, state.len(), out.len(), count as usize) {
         return answers::LENGTH;
     }
     let fore = phases::foremost(group, state, count);

@@ -1,5 +1,7 @@
 // Lengths of what is lent (01, 'Answer numbers': 9).
-ghost use Rattle.std.specs.Prelude.{◌≡◌};
+#![tactic(auto, unfolding(crate::specs::Lengths::fetch_fits, crate::specs::Lengths::frame_fits, crate::specs::Lengths::output_for, crate::specs::Lengths::rows_fit))]
+
+ghost use Rattle.std.specs.Prelude.{◌≡◌, ◌&&◌, ◌==◌};
 ghost use Rattle.receiver.specs.Lengths.{fetch_fits, frame_fits, output_for, rows_fit};
 
 use packet::kinds;
@@ -11,19 +13,25 @@ pub(crate) fn is_rows(ports: u8, rows: usize) -> bool
     (ports == 0) | (rows == rows::group::rows_for(ports))
 }
 
+// Rows of so many ports, and a list with so many places beside them.
+pub(crate) fn is_lent(ports: u8, rows: usize, places: usize, wanted: usize) -> bool
+    ensures { result ≡ (rows_fit ports rows && places == wanted) }
+{
+    is_rows(ports, rows) & (places == wanted)
+}
+
 pub(crate) fn is_frame(group: Group, ports: u8, rows: usize, payload: usize, store: usize) -> bool
     ensures { result ≡ frame_fits group ports rows payload store }
 {
-    let fit = is_rows(ports, rows);
-    let whole = phases::store_for(group, ports);
-    fit & (payload == group.payload as usize) & (store == whole)
+    is_rows(ports, rows)
+        & (payload == group.payload as usize)
+        & (store == phases::store_for(group, ports))
 }
 
 fn output_for(group: Group, ports: u8) -> usize
     ensures { result ≡ output_for group ports }
 {
-    let frames = kinds::epoch_frames(group.kind);
-    ports as usize * frames as usize * group.payload as usize
+    ports as usize * kinds::epoch_frames(group.kind) as usize * group.payload as usize
 }
 
 pub(crate) fn is_fetch(
@@ -36,8 +44,8 @@ pub(crate) fn is_fetch(
 ) -> bool
     ensures { result ≡ fetch_fits group ports rows store out report }
 {
-    let fit = is_rows(ports, rows);
-    let whole = phases::store_for(group, ports);
-    let least = output_for(group, ports);
-    fit & (store == whole) & (least <= out) & (report == 8)
+    is_rows(ports, rows)
+        & (store == phases::store_for(group, ports))
+        & (output_for(group, ports) <= out)
+        & (report == 8)
 }

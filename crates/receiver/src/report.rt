@@ -1,4 +1,6 @@
 // The report of an epoch (01, 'Report of an epoch').
+#![tactic(auto, unfolding(crate::specs::Report::ruling_epoch, crate::specs::Report::seen_of))]
+
 ghost use Rattle.std.specs.Prelude.{◌≡◌};
 ghost use Rattle.packet.specs.Shares.{shares_of};
 ghost use Rattle.step.specs.OwnCount.{own_ruling};

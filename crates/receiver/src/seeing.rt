@@ -1,11 +1,13 @@
 // What the receiver saw: of each port the packet that rules the oldest epoch not yet reported.
+#![tactic(auto, unfolding(crate::specs::Seen::carried_at, crate::specs::Seen::seen_row, crate::specs::Seen::seen_in, crate::specs::Seen::seen_answer, crate::specs::Seen::seen_out, crate::specs::Shown::shown_fit))]
+
 ghost use Rattle.std.specs.Prelude.{◌≡◌, [], get_or, length};
 ghost use Rattle.receiver.specs.Report.{ruling_epoch};
 ghost use Rattle.receiver.specs.Seen.{carried_at, carried_by, nothing_carried, seen_answer, seen_in, seen_out, seen_row};
 ghost use Rattle.rows.specs.Packets.{packets_at};
 ghost use Rattle.step.specs.Carried.{other_number};
 
-use crate::{each, flags, report, shown};
+use crate::{each, flags, lengths, report};
 use ground::Refusal;
 use packet::{Fields, Unread};
 use rows::Group;
@@ -59,30 +61,25 @@ pub(crate) fn carried_at(group: Group, state: &[[u8; 16]], port: u8) -> Carried
     ensures { result ≡ carried_at group state.now port }
 {
     let packets = rows::packets::get(state, port);
-    let row = packets[1];
-    let reading = step::reading_of(group.kind, row);
-    carried_by(reading)
+    carried_by(step::reading_of(group.kind, packets[1]))
 }
 
 fn is_other_at(group: Group, state: &[[u8; 16]], port: u8) -> bool
     ensures { result ≡ other_number group.kind (ruling_epoch group) (get_or (packets_at state.now port) 1 []) }
 {
     let packets = rows::packets::get(state, port);
-    let row = packets[1];
-    let epoch = report::ruling_epoch(group);
-    step::is_other(group.kind, epoch, row)
+    step::is_other(group.kind, report::ruling_epoch(group), packets[1])
 }
 
 fn seen_row(whole: bool, other: bool, carried: Carried, here: bool) -> [u8; 10]
     ensures { result ≡ seen_row whole other carried here }
 {
-    let odd = ground::one_if(other);
-    let last = ground::one_if(here);
+    let last = u8::from(here);
     if whole {
         return [
             1,
             carried.answer,
-            odd,
+            u8::from(other),
             carried.epoch,
             carried.word,
             carried.number,
@@ -99,12 +96,10 @@ fn seen_in(group: Group, state: &[[u8; 16]], port: u8) -> [u8; 10]
     ensures { result ≡ seen_in group state.now port }
 {
     let step = rows::step::get(state, port);
-    let row = rows::packets::marks(state, port);
-    let carried = carried_at(group, state, port);
-    let other = is_other_at(group, state, port);
     let whole = flags::is_set(step.whole);
-    let here = marks::first(row);
-    seen_row(whole, other, carried, here)
+    let other = is_other_at(group, state, port);
+    let here = marks::first(rows::packets::marks(state, port));
+    seen_row(whole, other, carried_at(group, state, port), here)
 }
 
 // Ten bytes a port.
@@ -114,7 +109,7 @@ pub fn seen(state: &[[u8; 16]], out: &mut [[u8; 10]]) -> u8
 {
     let group = rows::group::get(state);
     let count = phases::ports_in(group);
-    if !shown::is_shown(count, state.len(), out.len()) {
+    if !lengths::is_lent(count, state.len(), out.len(), count as usize) {
         return answers::LENGTH;
     }
     // The clause stands here since none is found for a closure that returns an array.

@@ -1,6 +1,8 @@
 // What the host reads out: the ports, and the reply (01, 'Member states and reply').
-ghost use Rattle.std.specs.Prelude.{◌≡◌, [], ◌∷◌, length};
-ghost use Rattle.receiver.specs.Shown.{port_in, port_shown, ports_answer, ports_out, reply_answer, reply_byte, reply_fit, reply_out, shown_fit, shown_number, waiting_byte};
+#![tactic(auto, unfolding(crate::specs::Shown::port_shown, crate::specs::Shown::port_in, crate::specs::Shown::shown_fit, crate::specs::Shown::ports_answer, crate::specs::Shown::ports_out, crate::specs::Shown::reply_of, crate::specs::Shown::reply_fit, crate::specs::Shown::reply_answer, crate::specs::Shown::reply_out))]
+
+ghost use Rattle.std.specs.Prelude.{◌≡◌, length};
+ghost use Rattle.receiver.specs.Shown.{port_in, port_shown, ports_answer, ports_out, reply_answer, reply_byte, reply_out, shown_number, waiting_byte};
 
 use crate::{each, flags, lengths, states};
 use packet::kinds;
@@ -33,15 +35,13 @@ fn waiting_byte(member: Member) -> u8
 fn port_shown(group: Group, step: Step, member: Member) -> [u8; 8]
     ensures { result ≡ port_shown group step member }
 {
-    let in_step = step::in_step(group, step);
-    let readable = step::is_readable(group, step);
     [
         member.state,
         shown_number(group.kind, member),
-        ground::one_if(in_step),
-        ground::one_if(flags::is_set(step.joined)),
-        ground::one_if(readable),
-        ground::one_if(flags::is_set(step.failed)),
+        u8::from(step::in_step(group, step)),
+        u8::from(flags::is_set(step.joined)),
+        u8::from(step::is_readable(group, step)),
+        u8::from(flags::is_set(step.failed)),
         member.word,
         waiting_byte(member),
     ]
@@ -55,13 +55,6 @@ fn port_in(group: Group, state: &[[u8; 16]], port: u8) -> [u8; 8]
     port_shown(group, step, member)
 }
 
-pub(crate) fn is_shown(count: u8, rows: usize, out: usize) -> bool
-    ensures { result ≡ shown_fit count rows out }
-{
-    let fit = lengths::is_rows(count, rows);
-    fit & (out == count as usize)
-}
-
 // Eight bytes a port.
 pub fn ports(state: &[[u8; 16]], out: &mut [[u8; 8]]) -> u8
     ensures { (result ≡ ports_answer state.now (length out.old))
@@ -69,7 +62,7 @@ pub fn ports(state: &[[u8; 16]], out: &mut [[u8; 8]]) -> u8
 {
     let group = rows::group::get(state);
     let count = phases::ports_in(group);
-    if !is_shown(count, state.len(), out.len()) {
+    if !lengths::is_lent(count, state.len(), out.len(), count as usize) {
         return answers::LENGTH;
     }
     // The clause stands here since none is found for a closure that returns an array.
@@ -78,21 +71,6 @@ pub fn ports(state: &[[u8; 16]], out: &mut [[u8; 8]]) -> u8
     { port_in(group, state, port) };
     each::put_each(count, out, row);
     answers::DONE
-}
-
-fn is_reply(count: u8, rows: usize, out: usize) -> bool
-    ensures { result ≡ reply_fit count rows out }
-{
-    let fit = lengths::is_rows(count, rows);
-    fit & (out == 2)
-}
-
-fn put_reply(mst: u8, ack: u8, out: &mut [u8])
-    requires { length out.old ≡ 2 }
-    ensures { out.new ≡ (mst ∷ ack ∷ []) }
-{
-    out[0] = mst;
-    out[1] = ack;
 }
 
 // Nothing is told to the far end of a fixed group: what is read is what an end without LCAS sends back.
@@ -109,16 +87,12 @@ pub fn reply(state: &[[u8; 16]], epoch: u8, out: &mut [u8]) -> u8
 {
     let group = rows::group::get(state);
     let count = phases::ports_in(group);
-    if !is_reply(count, state.len(), out.len()) {
+    if !lengths::is_lent(count, state.len(), out.len(), 2) {
         return answers::LENGTH;
     }
     let all = states::reply_ports(group, state, count);
     let mst = reply::mst(group.kind, all, count, epoch);
-    let ack = ground::one_if(flags::is_set(group.rs_ack));
-    put_reply(
-        reply_byte(group.kind, mst),
-        reply_byte(group.kind, ack),
-        out,
-    );
+    let ack = u8::from(flags::is_set(group.rs_ack));
+    out.copy_from_slice(&[reply_byte(group.kind, mst), reply_byte(group.kind, ack)]);
     answers::DONE
 }

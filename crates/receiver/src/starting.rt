@@ -1,4 +1,6 @@
 // A receiver's start (01, 'Answer numbers': 'At starting, 4 comes before 9').
+#![tactic(auto, unfolding(crate::specs::Starting::fresh_port, crate::specs::Starting::start_fits, crate::specs::Starting::sized_fits, crate::specs::Starting::sized_answer, crate::specs::Starting::sized_rows, crate::specs::Starting::start_right, crate::specs::Starting::start_as_answer, crate::specs::Starting::start_as_rows))]
+
 ghost use Rattle.std.specs.Prelude.{◌≡◌, ◌||◌, length, if◌then◌else◌, ◌==◌};
 ghost use Rattle.ground.specs.Plain.{◌<?◌};
 ghost use Rattle.receiver.specs.Starting.{fresh_member, fresh_port, fresh_ports, fresh_step, group_with, sized_answer, sized_rows, start_answer, start_as_answer, start_as_rows, start_fits, start_right, start_rows, time_of, timer_most, times_within};
@@ -68,31 +70,21 @@ fn fresh_member(kind: u8, hold_off: u16, restore: u16) -> Member
 fn capped(count: u32) -> u16
     ensures { result ≡ (if count <? timer_most then count else timer_most) }
 {
-    if count < TIMER_MOST {
-        count as u16
-    } else {
-        TIMER_MOST as u16
-    }
+    count.min(TIMER_MOST) as u16
 }
 
 // The count of a port; an empty list is zero for every port.
 fn time_of(counts: &[u32], port: u8) -> u16
     ensures { result ≡ time_of counts.now port }
 {
-    let i = port as usize;
-    if i < counts.len() {
-        capped(counts[i])
-    } else {
-        0
-    }
+    counts.get(port as usize).map_or(0, |&count| capped(count))
 }
 
 fn put_port(kind: u8, hold_off: &[u32], restore: &[u32], port: u8, state: &mut [[u8; 16]])
     ensures { state.new ≡ fresh_port kind hold_off.now restore.now port state.old }
 {
-    let step = fresh_step();
     let member = fresh_member(kind, time_of(hold_off, port), time_of(restore, port));
-    rows::step::put(state, port, step);
+    rows::step::put(state, port, fresh_step());
     rows::member::put(state, port, member);
     rows::packets::put(state, port, [[0; 16]; 2]);
     rows::packets::put_marks(state, port, [0; 16]);
@@ -121,9 +113,8 @@ fn is_list(counts: usize, ports: u8) -> bool
 fn is_fitting(count: u8, payload: u16, window: u16, store: usize, rows: usize) -> bool
     ensures { result ≡ start_fits count payload window store rows }
 {
-    let all = rows::group::rows_for(count);
-    let whole = count as usize * window as usize * (payload as usize + 1);
-    (rows == all) & (store == whole)
+    (rows == rows::group::rows_for(count))
+        & (store == count as usize * window as usize * (payload as usize + 1))
 }
 
 // A start with ranges already right.
@@ -144,9 +135,8 @@ fn start_sized(
     if !(lists & is_fitting(count, payload, window, store, state.len())) {
         return answers::LENGTH;
     }
-    let group = group_with(kind, count, payload, window);
     put_ports(kind, hold_off, restore, count, state);
-    rows::group::put(state, group);
+    rows::group::put(state, group_with(kind, count, payload, window));
     answers::DONE
 }
 
@@ -192,8 +182,7 @@ pub fn start_as(
             state,
         );
     }
-    let empty = group_with(kind, 0, 0, 0);
-    rows::group::put(state, empty);
+    rows::group::put(state, group_with(kind, 0, 0, 0));
     answers::OUT_OF_RANGE
 }
 
@@ -209,16 +198,5 @@ pub fn start(
     ensures { (result ≡ start_answer kind count payload window store (length state.old))
         × (state.new ≡ start_rows kind count payload window store state.old) }
 {
-    let hold_off = [0u32; 1];
-    let restore = [0u32; 1];
-    start_as(
-        kind,
-        count,
-        payload,
-        window,
-        store,
-        &hold_off[..0],
-        &restore[..0],
-        state,
-    )
+    start_as(kind, count, payload, window, store, &[], &[], state)
 }

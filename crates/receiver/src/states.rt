@@ -1,4 +1,6 @@
 // Member states and RS-Ack worked out at a report (01, 'Member states and reply').
+#![tactic(auto, unfolding(crate::specs::Report::reply_port, crate::specs::Report::with_state, crate::specs::Report::state_put, crate::specs::Report::states_worked_out, crate::specs::Report::reported_of))]
+
 ghost use Rattle.std.specs.Prelude.{◌≡◌, get_or};
 ghost use Rattle.packet.specs.Shares.{shares_of};
 ghost use Rattle.reply.specs.Waiting.{no_standing};
@@ -15,7 +17,6 @@ fn reply_port(group: Group, state: &[[u8; 16]], port: u8) -> Port
 {
     let member = rows::member::get(state, port);
     let step = rows::step::get(state, port);
-    let readable = step::is_readable(group, step);
     Port {
         word: member.word,
         number: member.number,
@@ -23,7 +24,7 @@ fn reply_port(group: Group, state: &[[u8; 16]], port: u8) -> Port
         state_number: member.state_number,
         told_word: member.told_word,
         told_number: member.told_number,
-        readable,
+        readable: step::is_readable(group, step),
         hold_off: member.hold_off,
         restore: member.restore,
         elapsed: member.elapsed,
@@ -61,8 +62,7 @@ fn standing_at(states: [Standing; 64], port: u8) -> Standing
     ensures { result ≡ get_or states port no_standing }
 {
     if port < 64 {
-        let one = states[port as usize];
-        return one;
+        return states[port as usize];
     }
     Standing {
         state: Port::IDLE,
@@ -74,18 +74,13 @@ fn standing_at(states: [Standing; 64], port: u8) -> Standing
 fn with_state(m: Member, left: Standing) -> Member
     ensures { result ≡ with_state m left }
 {
-    let spare = m.spare;
     Member {
-        spare,
-        word: m.word,
-        number: m.number,
         state: left.state,
         state_number: left.number,
         told_word: m.word,
         told_number: m.number,
-        hold_off: m.hold_off,
-        restore: m.restore,
         elapsed: left.elapsed,
+        ..m
     }
 }
 
@@ -93,15 +88,13 @@ fn put_standing(left: Standing, port: u8, state: &mut [[u8; 16]])
     ensures { state.new ≡ put_member state.old port (with_state (member_at state.old port) left) }
 {
     let member = rows::member::get(state, port);
-    let told = with_state(member, left);
-    rows::member::put(state, port, told);
+    rows::member::put(state, port, with_state(member, left));
 }
 
 fn put_state(states: [Standing; 64], port: u8, state: &mut [[u8; 16]])
     ensures { state.new ≡ state_put states port state.old }
 {
-    let new = standing_at(states, port);
-    put_standing(new, port, state);
+    put_standing(standing_at(states, port), port, state);
 }
 
 fn put_states(states: [Standing; 64], ports: u8, state: &mut [[u8; 16]])
@@ -115,19 +108,7 @@ fn put_states(states: [Standing; 64], ports: u8, state: &mut [[u8; 16]])
 fn with_ack(g: Group, ack: u8) -> Group
     ensures { result ≡ group_to g g.begun g.gathered g.oldest g.origin ack }
 {
-    let spare = g.spare;
-    Group {
-        spare,
-        kind: g.kind,
-        count: g.count,
-        payload: g.payload,
-        window: g.window,
-        begun: g.begun,
-        gathered: g.gathered,
-        oldest: g.oldest,
-        origin: g.origin,
-        rs_ack: ack,
-    }
+    Group { rs_ack: ack, ..g }
 }
 
 // A port alone needs no tables of 64.
@@ -137,9 +118,8 @@ fn work_out_alone(group: Group, state: &mut [[u8; 16]])
     let port = reply_port(group, state, 0);
     let left = reply::standing_alone(port);
     let ack = reply::ack_alone(port, group.rs_ack);
-    let told = with_ack(group, ack);
     put_standing(left, 0, state);
-    rows::group::put(state, told);
+    rows::group::put(state, with_ack(group, ack));
 }
 
 fn work_out_all(group: Group, ports: u8, state: &mut [[u8; 16]])
@@ -148,9 +128,8 @@ fn work_out_all(group: Group, ports: u8, state: &mut [[u8; 16]])
     let all = reply_ports(group, state, ports);
     let states = reply::standings(all, ports);
     let ack = reply::ack(all, ports, group.rs_ack);
-    let told = with_ack(group, ack);
     put_states(states, ports, state);
-    rows::group::put(state, told);
+    rows::group::put(state, with_ack(group, ack));
 }
 
 fn work_out_states(group: Group, ports: u8, state: &mut [[u8; 16]])
@@ -175,6 +154,5 @@ pub(crate) fn pass(
     ensures { state.new ≡ reported_of group store.now ports state.old }
 {
     phases::pass_with(table, group, store, ports, state);
-    let passed = rows::group::get(state);
-    work_out_states(passed, ports, state);
+    work_out_states(rows::group::get(state), ports, state);
 }

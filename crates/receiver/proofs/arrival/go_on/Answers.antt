@@ -6,4 +6,4 @@ use Rattle.receiver.proofs.arrival.go_on.Goals as goal
 pub returns : goal.returns
 unfolding steady_rows
 returns c =
-    rw (c.put_symbol.ensures, c.put_next.ensures, c.next_tag-after.ensures) (rw (packets_after_step _ _ _) refl)
+    rw (c.put_symbol.ensures, c.put_next.ensures, c.next_tag.ensures) (rw (packets_after_step _ _ _) refl)

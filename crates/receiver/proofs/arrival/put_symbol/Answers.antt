@@ -5,4 +5,4 @@ use Rattle.receiver.proofs.arrival.put_symbol.Goals as goal
 pub returns : goal.returns
 returns c =
     symbol_put _ _ _ _ _ _ _ _ _ _ c.place_of-place.ensures c.entry_at-at.ensures
-    c.entry-old.ensures c.entry_with-entry.ensures c.put_entry.ensures
+    c.entry-old.ensures c.entry_with.ensures c.put_entry.ensures

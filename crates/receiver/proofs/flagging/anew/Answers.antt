@@ -1,8 +1,9 @@
-use Rattle.receiver.proofs.Reading.{anew_done, anew_unfit}
+use Rattle.std.proofs.Common.{◌∙◌, refl}
+use Rattle.receiver.specs.Anew.{anew_fits}
+use Rattle.receiver.proofs.Reading.{anew_done}
 use Rattle.receiver.proofs.flagging.anew.Goals as goal
 
-pub returns-then-not-is_anew : goal.returns-then-not-is_anew
-returns-then-not-is_anew c = anew_unfit _ _ _ _ c.get-group.ensures c.ports_in-ports.ensures _ c.is_anew.ensures (c.if-not-is_anew.true)
-
 pub returns : goal.returns
-returns c = anew_done _ _ _ _ c.get-group.ensures c.ports_in-ports.ensures _ c.is_anew.ensures _ (c.if-not-is_anew.false) c.flag_ports.ensures
+unfolding anew_fits
+returns c =
+    anew_done _ _ _ _ c.get-group.ensures c.ports_in-ports.ensures _ (c.is_lent.ensures ∙ rw c.store_for-whole.ensures refl) _ (c.if-not-is_lent.false) c.flag_ports.ensures

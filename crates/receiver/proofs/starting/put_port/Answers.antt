@@ -6,4 +6,4 @@ use Rattle.receiver.proofs.starting.put_port.Goals as goal
 pub returns : goal.returns
 unfolding fresh_port
 returns c =
-    rw (c.put_marks.ensures, c.put-3.ensures, c.put-2.ensures, c.put.ensures, c.fresh_member-member.ensures, c.time_of-2.ensures, c.time_of.ensures, c.fresh_step-step.ensures) refl
+    rw (c.put_marks.ensures, c.put-3.ensures, c.put-2.ensures, c.put.ensures, c.fresh_member-member.ensures, c.time_of-2.ensures, c.time_of.ensures, c.fresh_step.ensures) refl

@@ -1,8 +1,7 @@
 -- 4 before 9: what is out of range leaves an empty group, anything else is a start with sizes.
 -- Ports, P and W lose nothing in becoming small numbers, because right sizes are small (`right_sizes`, `window_most`).
-use mathlib.Core.Path.{refl, sym, ◌∙◌}
+use mathlib.Core.Path.{sym, ◌∙◌}
 use native.Mathlib.Omega.{arith}
-use Rattle.receiver.specs.Starting.{start_as_answer, start_as_rows}
 use Rattle.receiver.proofs.Sizes.{window_most}
 use Rattle.receiver.proofs.Started.{right_sizes}
 use Rattle.receiver.proofs.starting.start_as.Goals as goal
@@ -15,11 +14,3 @@ overflow_cast-payload c = omega (arith, (right_sizes c.args.kind c.args.count c.
 
 pub overflow_cast-window : goal.overflow_cast-window
 overflow_cast-window c = omega (arith, window_most c.args.kind c.args.count c.args.payload c.args.window (right_sizes c.args.kind c.args.count c.args.payload c.args.window c.args.hold_off.now c.args.restore.now (sym c.is_right.ensures ∙ c.if-is_right.true)))
-
-pub returns-then-is_right : goal.returns-then-is_right
-unfolding start_as_answer start_as_rows
-returns-then-is_right c = rw (← c.is_right.ensures, c.if-is_right.true) c.start_sized.ensures
-
-pub returns : goal.returns
-unfolding start_as_answer start_as_rows
-returns c = rw (← c.is_right.ensures, c.if-is_right.false) (refl, (c.put.ensures ∙ rw c.group_with-empty.ensures refl))

@@ -4,4 +4,4 @@ use Rattle.receiver.proofs.states.work_out_alone.Goals as goal
 
 pub returns : goal.returns
 returns c =
-    states_alone _ _ _ _ _ _ _ _ c.reply_port-port.ensures c.standing_alone-left.ensures c.ack_alone-ack.ensures c.with_ack-told.ensures c.put_standing.ensures c.put.ensures
+    states_alone _ _ _ _ _ _ _ _ c.reply_port-port.ensures c.standing_alone-left.ensures c.ack_alone-ack.ensures c.with_ack.ensures c.put_standing.ensures c.put.ensures
