@@ -5,7 +5,7 @@ it, by `stateless REFUSALS ANSWER LENT LEFT` or `stateful REFUSALS ANSWER LENT L
 definition there that ends so. What is proved of it says something of the entry point only if these are the contract's
 own terms. So, with the call's parameters named by place as the function's are, and x.old and x.now of a lent one read as x:
 - the answer is the result of the `ensures`, or its part .answer or .number, under a function that a method `number` of
-  the crates promises, or bare; a result told X, an Ok or an Err by the answer in the record X, counts as X;
+  the crates promises or that is `number_told` of one, or bare; a result told X, an Ok or an Err by the answer in the record X, counts as X;
 - each slice lent to be changed is in LENT, and what stands for it in LEFT is what the `ensures` has for it afterwards; or
   it is GIVEN, and RETURNED is; of several numbers that are lent so, GIVEN and RETURNED are tuples, in one order;
 - any other RETURNED, or each part of a tuple, is a part of the result, and where the answer is a part there is a RETURNED.
@@ -118,6 +118,9 @@ def contracts(top):
                 found.setdefault(short(f.name), []).append(f)
                 if f.name.endswith("::number"):
                     numbers |= {told[0] for told in [result(f)] if isinstance(told, list) and len(told) == 2 and isinstance(told[0], str)}
+    # and the numbers of an answer as `number_told`, which ground gives of any, has them
+    for file in sorted(top.glob("crates/*/specs/*.antt")):
+        numbers |= set(re.findall(r"^(\w+) = number_told \w+$", file.read_text(), re.M))
     return found, numbers
 
 

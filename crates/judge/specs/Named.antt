@@ -11,6 +11,10 @@ mark_number Held = HELD
 mark_number Doubtful = DOUBTFUL
 mark_number Sure = SURE
 
+-- the mark of a number, which `mark_number` gives back
+abbrev pub mark_by : ℕ → Mark
+mark_by n = if n == HELD then Held else if n == DOUBTFUL then Doubtful else Sure
+
 abbrev pub cause_number : Cause → ℕ
 cause_number Refused = 1
 cause_number Lacking = 2

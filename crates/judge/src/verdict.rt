@@ -2,7 +2,7 @@
 ghost use Rattle.std.specs.Prelude.{◌≡◌, true, [], ◌∷◌, ◌≤◌, ◌<◌, length};
 ghost use Rattle.judge.specs.Full.{Full};
 ghost use Rattle.judge.specs.Cause.{cause_of, fixed_cause, lcas_cause, mark_of};
-ghost use Rattle.judge.specs.Named.{decided_number, mark_number};
+ghost use Rattle.judge.specs.Named.{decided_number, mark_by, mark_number};
 ghost use Rattle.judge.specs.Seen.{size_of};
 ghost use Rattle.judge.specs.Tally.{common_cause, doubt_cause, eos_alone_by, exact_to, fixed_cause_with, held_cause, tally_of, tally_with};
 ghost use Rattle.judge.specs.Verdict.{highest, repeats, takes};
@@ -257,7 +257,7 @@ pub fn cause(kind: u8, ports: [Seen; 64], count: u8) -> u8
 
 // By any number of a clause.
 pub fn mark(kind: u8, cause: u8) -> Mark
-    ensures { mark_number result ≡ mark_of kind cause }
+    ensures { (result ≡ mark_by (mark_of kind cause)) × (mark_number result ≡ mark_of kind cause) }
 {
     if cause == 0 {
         return Mark::Sure;

@@ -5,4 +5,4 @@ use Rattle.receiver.proofs.fetching.report_oldest.Goals as goal
 
 pub returns : goal.returns
 returns c =
-    given_is _ _ _ _ _ _ _ _ _ _ _ _ c.see_and_pass-seen.ensures.0 c.cause-cause.ensures c.mark-mark.ensures c.ordered-order.ensures c.output_by.ensures c.see_and_pass-seen.ensures.1 c.report_by.ensures
+    given_is _ _ _ _ _ _ _ _ _ _ _ _ c.see_and_pass-seen.ensures.0 c.cause-cause.ensures c.mark-mark.ensures.1 c.ordered-order.ensures c.output_by.ensures c.see_and_pass-seen.ensures.1 c.report_by.ensures
