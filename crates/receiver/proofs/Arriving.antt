@@ -22,7 +22,7 @@ use Rattle.rows.specs.Rows.{put_row, row_in}
 use Rattle.rows.specs.Step.{put_step, step_at, with_next}
 use Rattle.step.specs.Theorems.Steady.{mid_epoch_goes_on, mid_even, steady_taken_lem}
 use Rattle.step.specs.declared.arrival.Taken.{Taken}
-use Rattle.step.specs.Arrival.{distance_in, flagged, taken_of}
+use Rattle.step.specs.Arrival.{distance_in, flagged, taken_of, is_kept, kept_at}
 use Rattle.step.specs.OwnCount.{ends_odd}
 use Rattle.step.specs.Steady.{mid_epoch, steady, steady_taken}
 use Rattle.store.specs.Frames.{place_in, stored_at}
@@ -64,17 +64,17 @@ unfolding gathered_by
 gather_none kind s i counted tag h e = rw e (same_packets s i)
 
 -- Marking: a frame that neither joins nor ends an epoch leaves the marks.
-marks_stay : (kind : ℕ) (row : List ℕ) (t : Taken) → (t.joins || t.kept && ends_epoch kind t.at) ≡ false → marks_by kind row t ≡ row
+marks_stay : (kind : ℕ) (row : List ℕ) (t : Taken) → (t.joins || (is_kept t) && ends_epoch kind (kept_at t)) ≡ false → marks_by kind row t ≡ row
 unfolding marks_by
-marks_stay kind row t e = go t.joins t.kept (ends_epoch kind t.at) e
+marks_stay kind row t e = go t.joins (is_kept t) (ends_epoch kind (kept_at t)) e
   where
-    go : (a b c : Bool) → (a || b && c) ≡ false → cond a (cut_from row t.step.joined_at) (cond b (cond c (marked_at row (epochs_in kind t.at)) row) row) ≡ row
+    go : (a b c : Bool) → (a || b && c) ≡ false → cond a (cut_from row t.step.joined_at) (cond b (cond c (marked_at row (epochs_in kind (kept_at t))) row) row) ≡ row
     go true b c e = absurd (true≢false e)
     go false true true e = absurd (true≢false e)
     go false true false e = refl
     go false false c e = refl
 
-pub mark_none : (kind : ℕ) (s : List (List ℕ)) (i : ℕ) (t : Taken) (ends : Bool) → ends ≡ ends_epoch kind t.at → (t.joins || t.kept && ends) ≡ false
+pub mark_none : (kind : ℕ) (s : List (List ℕ)) (i : ℕ) (t : Taken) (ends : Bool) → ends ≡ ends_epoch kind (kept_at t) → (t.joins || (is_kept t) && ends) ≡ false
     → s ≡ put_marks s i (marks_by kind (marks_at s i) t)
 mark_none kind s i t ends ee e = rw (marks_stay kind (marks_at s i) t (rw (← ee) e)) (sym (same_marks s i s refl))
 

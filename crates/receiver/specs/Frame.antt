@@ -12,7 +12,7 @@ use Rattle.rows.specs.Group.{group_at}
 use Rattle.rows.specs.Packets.{marks_at, packets_at, put_marks, put_packets}
 use Rattle.rows.specs.Step.{put_step, step_at, with_next}
 use Rattle.step.specs.declared.arrival.Taken.{Taken}
-use Rattle.step.specs.Arrival.{taken_of}
+use Rattle.step.specs.Arrival.{taken_of, is_kept, kept_at}
 use Rattle.step.specs.OwnCount.{ends_odd}
 use Rattle.store.specs.Frames.{place_in, stored_at}
 use Rattle.store.specs.Marks.{cut_from, marked_at}
@@ -28,7 +28,7 @@ gathered_by kind pair counted tag h = if counted then set pair 0 (with_symbol ki
 -- joining at an epoch drops what the port had stored from that epoch on; the last frame of an epoch marks it
 unfoldable pub marks_by : (kind : ℕ) (marks : Bytes) (t : Taken) → Bytes
 marks_by kind marks t =
-    if t.joins then cut_from marks t.step.joined_at else if t.kept then (if ends_epoch kind t.at then marked_at marks (epochs_in kind t.at) else marks) else marks
+    if t.joins then cut_from marks t.step.joined_at else if is_kept t then (if ends_epoch kind (kept_at t) then marked_at marks (epochs_in kind (kept_at t)) else marks) else marks
 
 -- the port's rows after a frame
 unfoldable pub port_rows : (kind : ℕ) (s : Rows) (port : ℕ) (t : Taken) (h4 : ℕ) → Rows
@@ -42,7 +42,7 @@ steady_rows kind next h i s =
 
 -- the store after a frame
 unfoldable pub store_by : (g : Group) (port : ℕ) (t : Taken) (h4 : ℕ) (payload store : Bytes) → Bytes
-store_by g i t h payload store = if t.kept then stored_at store (place_in g i t.at) payload h else store
+store_by g i t h payload store = if is_kept t then stored_at store (place_in g i (kept_at t)) payload h else store
 
 unfoldable pub settled_by : (settles : Bool) (ports : ℕ) (store : Bytes) (s : Rows) → Rows
 settled_by settles n store s = if settles then settled_of n store s else s

@@ -39,17 +39,17 @@ fn marks_by(kind: u8, row: [u8; 16], taken: Taken) -> [u8; 16]
     if taken.joins {
         return marks::cut(row, taken.step.joined_at);
     }
-    if taken.kept && kinds::ends_epoch(kind, taken.at) {
-        return marks::mark(row, kinds::epochs_in(kind, taken.at));
+    match taken.kept {
+        Some(at) if kinds::ends_epoch(kind, at) => marks::mark(row, kinds::epochs_in(kind, at)),
+        _ => row,
     }
-    row
 }
 
 // The marks, written only where they change.
 fn mark(kind: u8, state: &mut [[u8; 16]], port: u8, taken: Taken)
     ensures { state.new ≡ put_marks state.old port (marks_by kind (marks_at state.old port) taken) }
 {
-    if taken.joins | taken.kept & kinds::ends_epoch(kind, taken.at) {
+    if taken.joins || taken.kept.is_some_and(|at| kinds::ends_epoch(kind, at)) {
         let row = rows::packets::marks(state, port);
         rows::packets::put_marks(state, port, marks_by(kind, row, taken));
     }
@@ -75,8 +75,8 @@ fn keep(group: Group, port: u8, at: u16, h4: u8, payload: &[u8], store: &mut [u8
 fn put_frame(group: Group, port: u8, taken: Taken, h4: u8, payload: &[u8], store: &mut [u8])
     ensures { store.new ≡ store_by group port taken h4 payload.now store.old }
 {
-    if taken.kept {
-        keep(group, port, taken.at, h4, payload, store);
+    if let Some(at) = taken.kept {
+        keep(group, port, at, h4, payload, store);
     }
 }
 

@@ -1,5 +1,7 @@
 -- What one frame of a port does (01, 'Step', 'Beginning', 'Window'), decided on the group's and the port's records.
-use Rattle.std.specs.Prelude.{Bool, true, false, not, ◌&&◌, ◌||◌, ℕ, if◌then◌else◌, ◌==◌}
+use Rattle.std.specs.declared.option.Option.{Option}
+use Rattle.std.specs.declared.option.Option.TheVariants.{None, Some}
+use Rattle.std.specs.Prelude.{Bool, true, false, is_some, not, ◌&&◌, ◌||◌, ℕ, if◌then◌else◌, ◌==◌}
 pub use Rattle.ground.specs.Flags.{flag_of}
 use Rattle.ground.specs.Plain.{◌<?◌}
 use Rattle.ground.specs.Types.{Tag}
@@ -9,6 +11,17 @@ use Rattle.rows.specs.declared.step.Step.{Step}
 use Rattle.step.specs.declared.arrival.Taken.{Taken}
 use Rattle.step.specs.declared.run.Run.{Run}
 use Rattle.step.specs.Run.{in_step_at, no_run, run_on, with_bits}
+
+-- whether a frame is stored, and how far it lies after the window's first
+abbrev pub is_kept : Taken → Bool
+is_kept t = is_some t.kept
+
+abbrev pub or_zero : Option ℕ → ℕ
+or_zero None = 0
+or_zero (Some d) = d
+
+abbrev pub kept_at : Taken → ℕ
+kept_at t = or_zero t.kept
 
 abbrev pub run_of : Step → Run
 run_of s = record { count = s.count; next = s.next; breaks = s.breaks; odd = s.odd; bits = s.bits }
@@ -60,21 +73,21 @@ settles_at g before now = not (flag_of g.begun) || in_step g before && not (in_s
 unfoldable pub flagged : Group → Step → Taken
 flagged g s =
     let now = lost s 1 (with_bits s.bits no_run) in
-    record { step = now; answer = 10; counted = false; kept = false; at = 0; joins = false; settles = settles_at g s now }
+    record { step = now; answer = 10; counted = false; kept = None; joins = false; settles = settles_at g s now }
 
 -- 12: 'port not in step after this frame', 'step record advanced, frame not stored'
 unfoldable pub counts_on : (g : Group) (s : Step) (run : Run) → Taken
 counts_on g s run =
     let now = lost s 0 run in
-    record { step = now; answer = 12; counted = not (run.count == 0); kept = false; at = 0; joins = false; settles = settles_at g s now }
+    record { step = now; answer = 12; counted = not (run.count == 0); kept = None; joins = false; settles = settles_at g s now }
 
 -- 'A frame in step of a port that has not joined is answered 0 and dropped.'
 unfoldable pub frame_dropped : (g : Group) (s : Step) (run : Run) → Taken
-frame_dropped g s run = record { step = advanced s run; answer = 0; counted = true; kept = false; at = 0; joins = false; settles = not (flag_of g.begun) }
+frame_dropped g s run = record { step = advanced s run; answer = 0; counted = true; kept = None; joins = false; settles = not (flag_of g.begun) }
 
 -- 11: 'frame in step, but outside the window', 'state as given'
 unfoldable pub outside : Step → Taken
-outside s = record { step = s; answer = 11; counted = false; kept = false; at = 0; joins = false; settles = false }
+outside s = record { step = s; answer = 11; counted = false; kept = None; joins = false; settles = false }
 
 -- a frame of a joined port, d after the window's first
 unfoldable pub keeps : (g : Group) (s : Step) (run : Run) (distance : ℕ) → Taken
@@ -83,8 +96,7 @@ keeps g s run d =
       step = advanced s run;
       answer = 0;
       counted = true;
-      kept = true;
-      at = d;
+      kept = Some d;
       joins = false;
       settles = not (flag_of g.gathered) && ends_epoch g.kind d && epochs_in g.kind d == 0;
     }
@@ -92,7 +104,7 @@ keeps g s run d =
 -- 'A port joins at its first epoch start in the window'
 unfoldable pub joining : (g : Group) (s : Step) (run : Run) (distance : ℕ) → Taken
 joining g s run d =
-    record { step = joined_at s run (epochs_in g.kind d); answer = 0; counted = true; kept = true; at = d; joins = true; settles = false }
+    record { step = joined_at s run (epochs_in g.kind d); answer = 0; counted = true; kept = Some d; joins = true; settles = false }
 
 -- 'A frame lies in the window when its tag is 0 to W-1 after the first frame of the oldest epoch'; '11 goes only to a joined port'
 unfoldable pub by_window : (g : Group) (s : Step) (run : Run) (distance : ℕ) → Taken

@@ -1,5 +1,6 @@
 -- The frame of H4 that comes most often: steady, with the tag that was to come, of a joined port in step; and in mid-epoch, which is in the window and not the last of its epoch.
 -- Of the port's records it changes the next tag and one nibble alone.
+use Rattle.std.specs.declared.option.Option.TheVariants.{Some}
 use Rattle.std.specs.Prelude.{Bool, true, false, not, ◌&&◌, ℕ, ◌==◌}
 use Rattle.ground.specs.Plain.{◌<?◌}
 use Rattle.packet.specs.Counts.{h4_counts}
@@ -31,8 +32,7 @@ steady_taken g s =
       step = with_next s (tag_after g.kind s.next);
       answer = 0;
       counted = true;
-      kept = true;
-      at = distance_in g s.next;
+      kept = Some (distance_in g s.next);
       joins = false;
       settles = false;
     }

@@ -1,6 +1,7 @@
 // What a frame does (01, 'Beginning', 'Window'), decided on the group's and the port's records.
 #![tactic(auto, unfolding(crate::specs::Arrival::in_step, crate::specs::Arrival::readable, crate::specs::Arrival::distance_in, crate::specs::Arrival::flagged, crate::specs::Arrival::counts_on, crate::specs::Arrival::frame_dropped, crate::specs::Arrival::outside, crate::specs::Arrival::keeps, crate::specs::Arrival::joining, crate::specs::Arrival::by_window, crate::specs::Arrival::by_start, crate::specs::Arrival::arrives, crate::specs::Arrival::taken_of))]
 
+ghost use Rattle.std.specs.declared.option.Option.TheVariants.{None};
 ghost use Rattle.std.specs.Prelude.{◌≡◌, false};
 ghost use Rattle.step.specs.Arrival.{arrives, frame_dropped, by_start, by_window, counts_on, distance_in, flagged, in_step, joining, keeps, outside, readable, settles_at, step_to, taken_of};
 
@@ -17,9 +18,8 @@ pub struct Taken {
     pub answer: u8,
     // whether the frame's nibble goes into the packet being gathered
     pub counted: bool,
-    // whether the frame is stored, and how far it lies after the window's first
-    pub kept: bool,
-    pub at: u16,
+    // how far the frame lies after the window's first, where it is stored
+    pub kept: Option<u16>,
     // whether the port joins with this frame, at the epoch step.joined_at
     pub joins: bool,
     // whether something follows for all ports: stopping, beginning or gathering
@@ -72,14 +72,13 @@ fn settles_at(group: Group, before: Step, now: Step) -> bool
 
 // A frame that counts for nothing, is not stored and lets nothing follow.
 fn nothing_kept(step: Step, answer: u8) -> Taken
-    ensures { result ≡ (record { step = step; answer = answer; counted = false; kept = false; at = 0; joins = false; settles = false }) }
+    ensures { result ≡ (record { step = step; answer = answer; counted = false; kept = None; joins = false; settles = false }) }
 {
     Taken {
         step,
         answer,
         counted: false,
-        kept: false,
-        at: 0,
+        kept: None,
         joins: false,
         settles: false,
     }
@@ -133,8 +132,7 @@ fn keeps(group: Group, step: Step, run: Run, at: u16) -> Taken
     let now = step_to(step, 0, run, step.joined, step.ever_since, step.joined_at);
     Taken {
         counted: true,
-        kept: true,
-        at,
+        kept: Some(at),
         settles: !is_set(group.gathered)
             & kinds::ends_epoch(group.kind, at)
             & (kinds::epochs_in(group.kind, at) == 0),
@@ -149,8 +147,7 @@ fn joining(group: Group, step: Step, run: Run, at: u16) -> Taken
     let now = step_to(step, 0, run, 1, step.ever_since, later);
     Taken {
         counted: true,
-        kept: true,
-        at,
+        kept: Some(at),
         joins: true,
         ..nothing_kept(now, answers::DONE)
     }

@@ -50,7 +50,7 @@ use Rattle.rows.specs.Laws.Port.{port_step}
 use Rattle.rows.specs.Port.{port_at}
 use Rattle.rows.specs.Rows.{rows_for}
 use Rattle.rows.specs.Step.{step_at}
-use Rattle.step.specs.Arrival.{distance_in, flag_of, in_step, taken_of}
+use Rattle.step.specs.Arrival.{distance_in, flag_of, in_step, taken_of, is_kept, kept_at}
 use Rattle.step.specs.declared.arrival.Taken.{Taken}
 use Rattle.store.specs.Frames.{Stands, byte_at, h4_at, place_in, stored_at}
 use Rattle.store.specs.Laws.Marks.{first_mark_lem, mark_none}
@@ -169,28 +169,28 @@ module _ (tag : ℕ) (bytes : List ℕ) (h4 : ℕ) where
     in_step_lem : step_at s i ≡ (port_at s i).step
     in_step_lem = sym (port_step s i)
 
-    inside : t.kept ≡ true → t.at < g.window
+    inside : is_kept t ≡ true → (kept_at t) < g.window
     inside e = taken_inside g (step_at s i) failed (odd_in s i h) h e
 
     -- a frame that stands and is not the one put stood before
-    stood : (j d : ℕ) → d < g.window → (t.kept ≡ true → j ≡ i → d ≡ t.at → ⊥) → Stands g j d bytes h4 st → Stands g j d bytes h4 store
+    stood : (j d : ℕ) → d < g.window → (is_kept t ≡ true → j ≡ i → d ≡ (kept_at t) → ⊥) → Stands g j d bytes h4 st → Stands g j d bytes h4 store
     unfolding store_by
-    stood j d l apart f = go t.kept refl f
+    stood j d l apart f = go (is_kept t) refl f
       where
-        go : (b : Bool) → (taken_in s i failed h).kept ≡ b → Stands (group_at s) j d bytes h4 (cond b (stored_at store (place_in (group_at s) i (taken_in s i failed h).at) payload h) store)
+        go : (b : Bool) → is_kept (taken_in s i failed h) ≡ b → Stands (group_at s) j d bytes h4 (cond b (stored_at store (place_in (group_at s) i (kept_at (taken_in s i failed h))) payload h) store)
             → Stands (group_at s) j d bytes h4 store
         go true e f =
-            let elsewhere = stored_elsewhere g j i d t.at payload h store l (inside e) (apart e) o.bytes in
+            let elsewhere = stored_elsewhere g j i d (kept_at t) payload h store l (inside e) (apart e) o.bytes in
             record { bytes = λ m c. sym (elsewhere m (omega arith)) ∙ f.bytes m c; last = sym (elsewhere g.payload (omega arith)) ∙ f.last }
         go false e f = f
 
     -- and the one put is the frame handed
-    put : (d : ℕ) → t.kept ≡ true → d ≡ t.at → Stands g i d bytes h4 st → (h4 ≡ h) × ((m : ℕ) → m < g.payload → get_or bytes m 0 ≡ get_or payload m 0)
+    put : (d : ℕ) → is_kept t ≡ true → d ≡ (kept_at t) → Stands g i d bytes h4 st → (h4 ≡ h) × ((m : ℕ) → m < g.payload → get_or bytes m 0 ≡ get_or payload m 0)
     unfolding store_by store_for
     put d e q f =
         let some : 0 < g.window = (let least = W.least in let more = frames_two g.kind in omega arith) in
-        let f : Stands g i t.at bytes h4 (stored_at store (place_in g i t.at) payload h) = rw (e, q) at f in
-        let p : Stands g i t.at payload h (stored_at store (place_in g i t.at) payload h) = stands_put g n i t.at payload h store some o.port o.stored o.bytes in
+        let f : Stands g i (kept_at t) bytes h4 (stored_at store (place_in g i (kept_at t)) payload h) = rw (e, q) at f in
+        let p : Stands g i (kept_at t) payload h (stored_at store (place_in g i (kept_at t)) payload h) = stands_put g n i (kept_at t) payload h store some o.port o.stored o.bytes in
         (sym f.last ∙ p.last, λ m c. sym (f.bytes m c) ∙ p.bytes m c)
 
     other_claimed : (j : ℕ) → j ≢ i → j < n → Claimed a st j tag bytes h4 → Claimed s store j tag bytes h4

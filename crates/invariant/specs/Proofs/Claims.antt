@@ -21,7 +21,7 @@ use Rattle.phases.specs.Passing.{passed_group, passed_step}
 use Rattle.receiver.specs.Frame.{marks_by}
 use Rattle.rows.specs.declared.group.Group.{Group}
 use Rattle.rows.specs.declared.step.Step.{Step}
-use Rattle.step.specs.Arrival.{frame_dropped, counts_on, distance_in, flag_of, flagged, joining, keeps, outside, run_of, taken_of}
+use Rattle.step.specs.Arrival.{frame_dropped, counts_on, distance_in, flag_of, flagged, joining, keeps, outside, run_of, taken_of, is_kept, kept_at}
 use Rattle.step.specs.Theorems.Lost.{run_goes_on}
 use Rattle.step.specs.declared.arrival.Taken.{Taken}
 use Rattle.step.specs.declared.run.Run.{Run}
@@ -65,16 +65,16 @@ module _ (g : Group) (s : Step) (marks : List ℕ) (k : PortKept g s marks) (beg
 
 -- the frame that was just handed
 pub record New (g : Group) (s : Step) (failed : Bool) (t : Taken) (d : ℕ) : Type 0 where
-  pub kept : t.kept ≡ true
-  pub at : d ≡ t.at
-  pub next : t.at ≡ offset g s
+  pub kept : is_kept t ≡ true
+  pub at : d ≡ (kept_at t)
+  pub next : (kept_at t) ≡ offset g s
   pub unflagged : failed ≡ false
   pub answer : t.answer ≡ 0
 
 -- or one that was claimed before
 pub record Old (g : Group) (s : Step) (marks : List ℕ) (t : Taken) (d : ℕ) : Type 0 where
   pub claims : Claims g s marks d
-  pub apart : t.kept ≡ true → d ≢ t.at
+  pub apart : is_kept t ≡ true → d ≢ (kept_at t)
 
 -- a frame of the port itself
 module _ (g : Group) (s : Step) (marks : List ℕ) (failed odd : Bool) (h : ℕ) (W : Windowed g) (k : PortKept g s marks) (d : ℕ) where
@@ -220,10 +220,10 @@ module _ (g : Group) (s : Step) (marks : List ℕ) (failed odd : Bool) (h : ℕ)
       (λ f e b j w. dropped_stays (ran_on g s odd h) (λ t. j))
 
 -- a frame that is stored lies in the window
-pub taken_inside : (g : Group) (s : Step) (failed odd : Bool) (h : ℕ) → (taken_of g s failed odd h).kept ≡ true → (taken_of g s failed odd h).at < g.window
+pub taken_inside : (g : Group) (s : Step) (failed odd : Bool) (h : ℕ) → is_kept (taken_of g s failed odd h) ≡ true → kept_at (taken_of g s failed odd h) < g.window
 unfolding flagged counts_on frame_dropped keeps outside joining
 taken_inside g s failed odd h =
-    taken_by (λ (t : Taken). t.kept ≡ true → t.at < g.window) g s failed odd h
+    taken_by (λ (t : Taken). is_kept t ≡ true → (kept_at t) < g.window) g s failed odd h
     (λ f e. absurd (false≢true e))
     (λ f o e. absurd (false≢true e))
     (λ f o b e. absurd (false≢true e))

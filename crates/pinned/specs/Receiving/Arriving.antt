@@ -1,4 +1,5 @@
 -- What one frame of a port does (01, 'Step', 'Beginning', 'Window'), each field with a number of its own. W is 48, three epochs, and the oldest epoch is 57, whose first tag is 16 x 57 - 8, which is 904.
+use Rattle.std.specs.declared.option.Option.TheVariants.{None, Some}
 use Rattle.std.specs.Prelude.{Bool, true, false, [], ◌∷◌, ℕ}
 use Rattle.rows.specs.declared.group.Group.{Group}
 use Rattle.rows.specs.declared.step.Step.{Step}
@@ -44,10 +45,10 @@ step had failed count next joined since later breaks odd =
 
 -- one that is not stored
 abbrev dropped : (q : Step) (answer : ℕ) (counted settles : Bool) → Taken
-dropped q answer counted settles = record { step = q; answer = answer; counted = counted; kept = false; at = 0; joins = false; settles = settles }
+dropped q answer counted settles = record { step = q; answer = answer; counted = counted; kept = None; joins = false; settles = settles }
 
 abbrev stored : (q : Step) (at : ℕ) (joins settles : Bool) → Taken
-stored q at joins settles = record { step = q; answer = 0; counted = true; kept = true; at = at; joins = joins; settles = settles }
+stored q at joins settles = record { step = q; answer = 0; counted = true; kept = Some at; joins = joins; settles = settles }
 
 -- receiving has begun, and its first epoch is gathered
 abbrev begun : Group

@@ -1,5 +1,6 @@
 -- What a frame leaves (01, 'Step', 'Window'; 'Lent bytes change only under 0'), part by part: port 1 of two, P 2, W 16, the window's first frame at place 5 of the ring. Each field has a number of its own.
-use Rattle.std.specs.Prelude.{Bool, true, false, List, [], ◌∷◌, ◌++◌, ℕ, replicate}
+use Rattle.std.specs.declared.option.Option.TheVariants.{None, Some}
+use Rattle.std.specs.Prelude.{if◌then◌else◌, Bool, true, false, List, [], ◌∷◌, ◌++◌, ℕ, replicate}
 use Rattle.pinned.specs.Filled.{nines, zeros}
 use Rattle.receiver.specs.Frame.{frame_of, marks_by, port_rows, steady_rows, store_by, taken_frame}
 use Rattle.rows.specs.declared.group.Group.{Group}
@@ -32,11 +33,11 @@ step count next =
 
 -- a port in step whose next tag is 22
 abbrev taken : (answer : ℕ) (kept : Bool) (at : ℕ) (joins : Bool) → Taken
-taken answer kept at joins = record { step = step 32 22; answer = answer; counted = true; kept = kept; at = at; joins = joins; settles = false }
+taken answer kept at joins = record { step = step 32 22; answer = answer; counted = true; kept = if kept then Some at else None; joins = joins; settles = false }
 
 -- a port that has lost step
 abbrev losing : Bool → Taken
-losing settles = record { step = step 0 22; answer = 12; counted = false; kept = false; at = 0; joins = false; settles = settles }
+losing settles = record { step = step 0 22; answer = 12; counted = false; kept = None; joins = false; settles = settles }
 
 -- epochs 0 and 2 to 11 of the window are marked
 abbrev marked : List ℕ

@@ -1,5 +1,6 @@
 -- Ports of a VC-12 receiver (request 2026-01), one frame and one moment at a time: where receiving begins, where a port joins, the window, the end of an epoch, what is shown of a port and told of its number, and what a line may change.
 -- W is 64, two epochs. The oldest epoch is 31, whose first tag is 992; epoch 0 starts 32 frames later with tag 0, and tag 32 is W frames later.
+use Rattle.std.specs.declared.option.Option.TheVariants.{None, Some}
 use Rattle.std.specs.Prelude.{Bool, true, false, List, [], ◌∷◌, ◌++◌, ℕ, ◌+◌, ◌%◌, get_or, replicate, ◌==◌}
 use Rattle.tables.specs.Waits.{seen_port}
 use Rattle.ground.specs.Table.{tabulate}
@@ -97,10 +98,10 @@ begun = group 1 1 31
 
 -- one that is not stored
 abbrev dropped : (q : Step) (answer : ℕ) (counted settles : Bool) → Taken
-dropped q answer counted settles = record { step = q; answer = answer; counted = counted; kept = false; at = 0; joins = false; settles = settles }
+dropped q answer counted settles = record { step = q; answer = answer; counted = counted; kept = None; joins = false; settles = settles }
 
 abbrev stored : (q : Step) (at : ℕ) (joins settles : Bool) → Taken
-stored q at joins settles = record { step = q; answer = 0; counted = true; kept = true; at = at; joins = joins; settles = settles }
+stored q at joins settles = record { step = q; answer = 0; counted = true; kept = Some at; joins = joins; settles = settles }
 
 abbrev takes : (g : Group) (s : Step) (byte : ℕ) → Taken
 takes g s byte = taken_of g s false false byte

@@ -10,7 +10,7 @@ use Rattle.judge.specs.Verdict.{HELD, judge_of}
 use Rattle.packet.specs.Kinds.{frames}
 use Rattle.phases.specs.Due.{brought}
 use Rattle.phases.specs.Passing.{passed_of}
-use Rattle.step.specs.Arrival.{flag_of}
+use Rattle.step.specs.Arrival.{flag_of, is_kept}
 use Rattle.phases.specs.Laws.Lengths.{length_begin, length_passed, length_stop}
 use Rattle.phases.specs.Settling.{gather_by, settled_of}
 use Rattle.phases.specs.Sizes.{ports_in}
@@ -62,7 +62,7 @@ module _ (s : List (List ℕ)) (i : ℕ) (failed : Bool) (h : ℕ) (payload stor
   unfolding store_by
   length_frame_store =
       frame_cases s i failed h payload store (λ (o : FrameOutcome). length o.store ≡ length store) (λ e. refl) (λ e f. refl)
-      (λ e f. either (taken_in s i failed h).kept _ store (length store) (length_stored store _ payload h) refl)
+      (λ e f. either (is_kept (taken_in s i failed h)) _ store (length store) (length_stored store _ payload h) refl)
 
 length_reported : (g : Group) (store : List ℕ) (n : ℕ) (s : List (List ℕ)) → length (reported_of g store n s) ≡ length s
 unfolding reported_of

@@ -49,7 +49,7 @@ use Rattle.rows.specs.Laws.Port.{port_step}
 use Rattle.rows.specs.Port.{Port, port_at}
 use Rattle.rows.specs.Rows.{rows_for}
 use Rattle.rows.specs.Step.{step_at}
-use Rattle.step.specs.Arrival.{flag_of, taken_of}
+use Rattle.step.specs.Arrival.{flag_of, taken_of, is_kept, kept_at}
 use Rattle.step.specs.declared.arrival.Taken.{Taken}
 use Rattle.step.specs.Laws.OwnBits.{own_packet}
 use Rattle.step.specs.OwnCount.{without_mfi2}
@@ -159,22 +159,22 @@ module _ (s : List (List ℕ)) (k : Kept s) (i : ℕ) (failed : Bool) (h : ℕ) 
   same = after_group s i failed h
 
   -- a frame of the window that is not the one put
-  stays : (d : ℕ) → d < group.window → (t.kept ≡ true → j ≡ i → d ≡ t.at → ⊥) → h4_at group j d st ≡ h4_at group j d store
+  stays : (d : ℕ) → d < group.window → (is_kept t ≡ true → j ≡ i → d ≡ (kept_at t) → ⊥) → h4_at group j d st ≡ h4_at group j d store
   unfolding store_by h4_at byte_at
-  stays d l apart = go t.kept refl
+  stays d l apart = go (is_kept t) refl
     where
-      go : (q : Bool) → (taken_in s i failed h).kept ≡ q
-          → get_or (cond q (stored_at store (place_in (group_at s) i (taken_in s i failed h).at) payload h) store) (place_in (group_at s) j d + (group_at s).payload) 0 ≡ get_or store (place_in (group_at s) j d + (group_at s).payload) 0
-      go true e = stored_elsewhere group j i d t.at payload h store l (taken_inside group (step_at s i) failed (odd_in s i h) h e) (apart e) o.bytes group.payload (omega arith)
+      go : (q : Bool) → is_kept (taken_in s i failed h) ≡ q
+          → get_or (cond q (stored_at store (place_in (group_at s) i (kept_at (taken_in s i failed h))) payload h) store) (place_in (group_at s) j d + (group_at s).payload) 0 ≡ get_or store (place_in (group_at s) j d + (group_at s).payload) 0
+      go true e = stored_elsewhere group j i d (kept_at t) payload h store l (taken_inside group (step_at s i) failed (odd_in s i h) h e) (apart e) o.bytes group.payload (omega arith)
       go false e = refl
 
-  put : t.kept ≡ true → h4_at group i t.at st ≡ h
+  put : is_kept t ≡ true → h4_at group i (kept_at t) st ≡ h
   unfolding store_by store_for
   put e =
       let some : 0 < group.window = (let least = W.least in let more = frames_two group.kind in omega arith) in
-      rw e (stands_h4 group i t.at payload h (stored_at store (place_in group i t.at) payload h) (stands_put group group.count i t.at payload h store some o.port o.stored o.bytes))
+      rw e (stands_h4 group i (kept_at t) payload h (stored_at store (place_in group i (kept_at t)) payload h) (stands_put group group.count i (kept_at t) payload h store some o.port o.stored o.bytes))
 
-  mine_stay : j ≡ i → (d : ℕ) → d < group.window → (t.kept ≡ true → d ≢ t.at) → h4_at group i d st ≡ h4_at group i d store
+  mine_stay : j ≡ i → (d : ℕ) → d < group.window → (is_kept t ≡ true → d ≢ (kept_at t)) → h4_at group i d st ≡ h4_at group i d store
   mine_stay z d l apart = subst (λ (m : ℕ). h4_at group m d st ≡ h4_at group m d store) z (stays d l (λ e y. apart e))
 
   own : j ≡ i → Numbered group (frame_on group.kind (port_at s i) t h) (λ d. h4_at group i d st)
@@ -185,8 +185,8 @@ module _ (s : List (List ℕ)) (k : Kept s) (i : ℕ) (failed : Bool) (h : ℕ) 
         bits =
             subst (λ (q : Taken). Bits group q.step (marks_by group.kind (port_at s i).marks q) (λ d. h4_at group i d st)) (sym is)
             (taken_bits group (port_at s i).step (port_at s i).marks failed (odd_in s i h) h W (k.lasting.ports i o.port).kept (λ d. h4_at group i d store) mine.bits (λ d. h4_at group i d st)
-            (subst (λ (q : Taken). q.kept ≡ true → h4_at group i q.at st ≡ h) is put)
-            (subst (λ (q : Taken). (d : ℕ) → d < group.window → (q.kept ≡ true → d ≢ q.at) → h4_at group i d st ≡ h4_at group i d store) is (mine_stay z)));
+            (subst (λ (q : Taken). is_kept q ≡ true → h4_at group i (kept_at q) st ≡ h) is put)
+            (subst (λ (q : Taken). (d : ℕ) → d < group.window → (is_kept q ≡ true → d ≢ (kept_at q)) → h4_at group i d st ≡ h4_at group i d store) is (mine_stay z)));
         ruled = λ v w. mine.ruled v (rw (taken_whole group (step_at s i) failed (odd_in s i h) h ∙ ap (λ (q : Step). q.whole) (sym (port_step s i))) at w);
       }
 

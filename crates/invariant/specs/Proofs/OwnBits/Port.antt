@@ -20,7 +20,7 @@ use Rattle.receiver.specs.Laws.Passed.{passed_kind, passed_oldest}
 use Rattle.receiver.specs.Laws.Told.{with_ack}
 use Rattle.rows.specs.declared.group.Group.{Group}
 use Rattle.rows.specs.declared.step.Step.{Step}
-use Rattle.step.specs.Arrival.{counts_on, distance_in, flag_of, flagged, frame_dropped, joining, keeps, outside, run_of, taken_of}
+use Rattle.step.specs.Arrival.{counts_on, distance_in, flag_of, flagged, frame_dropped, joining, keeps, outside, run_of, taken_of, is_kept, kept_at}
 use Rattle.step.specs.declared.arrival.Taken.{Taken}
 use Rattle.step.specs.declared.run.Run.{Run}
 use Rattle.step.specs.Laws.Arrival.{in_window, ran_on, stepped, taken_by}
@@ -71,7 +71,7 @@ module _ (g : Group) (s : Step) (marks : List ℕ) (k : PortKept g s marks) wher
 module _ (g : Group) (s : Step) (marks : List ℕ) (failed odd : Bool) (h : ℕ) (W : Windowed g) (k : PortKept g s marks) (byte : ℕ → ℕ) (b : Bits g s marks byte) (then : ℕ → ℕ) where
   -- one that is stored puts its byte, and all others stay
   abbrev Goes : Taken → Type 0
-  Goes t = (t.kept ≡ true → then t.at ≡ h) → ((d : ℕ) → d < g.window → (t.kept ≡ true → d ≢ t.at) → then d ≡ byte d) → Bits g t.step (marks_by g.kind marks t) then
+  Goes t = (is_kept t ≡ true → then (kept_at t) ≡ h) → ((d : ℕ) → d < g.window → (is_kept t ≡ true → d ≢ (kept_at t)) → then d ≡ byte d) → Bits g t.step (marks_by g.kind marks t) then
 
   marks_stay : ((d : ℕ) → d < g.window → then d ≡ byte d) → (d : ℕ) → mark_in marks (d / frames g.kind) ≡ true → Own g.kind (tag_in g d) (then d)
   marks_stay rest = (same_bits_lem g s marks k byte then rest b).marked

@@ -47,7 +47,7 @@ use Rattle.rows.specs.Packets.{packets_at}
 use Rattle.rows.specs.Port.{Port, port_at}
 use Rattle.rows.specs.Rows.{rows_for}
 use Rattle.rows.specs.Step.{step_at}
-use Rattle.step.specs.Arrival.{frame_dropped, counts_on, distance_in, flag_of, flagged, joining, keeps, outside, run_of, taken_of}
+use Rattle.step.specs.Arrival.{frame_dropped, counts_on, distance_in, flag_of, flagged, joining, keeps, outside, run_of, taken_of, is_kept, kept_at}
 use Rattle.step.specs.declared.arrival.Taken.{Taken}
 use Rattle.step.specs.declared.run.Run.{Run}
 use Rattle.step.specs.Laws.Arrival.{ran_on, stepped, taken_by, taken_keeps}
@@ -240,7 +240,7 @@ unfolding store_by
 frame_length s i failed h payload store =
     let t : Taken = taken_in s i failed h in
     frame_cases s i failed h payload store (λ (o : FrameOutcome). length o.store ≡ length store) (λ e. refl) (λ e f. refl)
-    (λ e f. cond_by (λ (l : List ℕ). length l ≡ length store) t.kept _ _ (λ c. length_stored store (place_in (group_at s) i t.at) payload h) (λ c. refl))
+    (λ e f. cond_by (λ (l : List ℕ). length l ≡ length store) (is_kept t) _ _ (λ c. length_stored store (place_in (group_at s) i (kept_at t)) payload h) (λ c. refl))
 
 pub run_length : (x : Receiver) (calls : List ReceiverCall) → length (receiver_run x calls).store ≡ length x.store
 run_length x [] = refl

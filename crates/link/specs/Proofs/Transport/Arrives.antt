@@ -15,7 +15,7 @@ use Rattle.rows.specs.declared.step.Step.{Step}
 use Rattle.rows.specs.Group.{group_at}
 use Rattle.rows.specs.Packets.{marks_at}
 use Rattle.rows.specs.Step.{step_at}
-use Rattle.step.specs.Arrival.{frame_dropped, distance_in, flag_of, joining, keeps, taken_of}
+use Rattle.step.specs.Arrival.{frame_dropped, distance_in, flag_of, joining, keeps, taken_of, is_kept, kept_at}
 use Rattle.step.specs.declared.arrival.Taken.{Taken}
 use Rattle.step.specs.declared.run.Run.{Run}
 use Rattle.step.specs.Laws.Arrival.{in_window, ran_on, stepped, taken_joins, taken_keeps, taken_waits}
@@ -70,9 +70,9 @@ pub record Goes (r : Road) (m : Moment) (coming : ℕ → ℕ) (i p : ℕ) (t : 
   pub joined : t.step.joined ≡ cond (ltb (i * L r) (coming p + 1)) 1 0
   pub marks_row : Sixteen (marks_by r.kind (marks_at m.rows p) t)
   pub marks : (k : ℕ) → k < 128 → mark_in (marks_by r.kind (marks_at m.rows p) t) k ≡ leb (i * L r + (k + 1) * L r) (coming p + 1)
-  pub kept : i * L r ≤ coming p → t.kept ≡ true
-  pub place : i * L r ≤ coming p → t.at ≡ coming p - i * L r
-  pub dropped : coming p < i * L r → t.kept ≡ false
+  pub kept : i * L r ≤ coming p → is_kept t ≡ true
+  pub place : i * L r ≤ coming p → (kept_at t) ≡ coming p - i * L r
+  pub dropped : coming p < i * L r → is_kept t ≡ false
   -- what follows for all ports
   pub settles_not : flag_of (group_at m.rows).gathered ≡ true → t.settles ≡ false
   pub settles : flag_of (group_at m.rows).gathered ≡ false → coming p + 1 ≡ i * L r + L r → t.settles ≡ true

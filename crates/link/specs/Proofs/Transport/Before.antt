@@ -27,7 +27,7 @@ use Rattle.rows.specs.Packets.{marks_at}
 use Rattle.rows.specs.Port.{Port, port_at}
 use Rattle.rows.specs.Rows.{rows_for}
 use Rattle.rows.specs.Step.{step_at}
-use Rattle.step.specs.Arrival.{frame_dropped, counts_on, flag_of, in_step, taken_of}
+use Rattle.step.specs.Arrival.{frame_dropped, counts_on, flag_of, in_step, taken_of, is_kept}
 use Rattle.step.specs.Sent.{SentWith}
 use Rattle.step.specs.declared.arrival.Taken.{Taken}
 use Rattle.step.specs.Laws.Arrival.{ran_on, stepped, taken_dropped, taken_counts}
@@ -343,7 +343,7 @@ module _ (r : Road) (f : Fair r) where
     -- 12: 'port not in step after this frame'
     pub answer : t.answer ≡ cond (leb (run_from r p + L r * 2) (x + 1)) 0 12
     pub settles : t.settles ≡ true
-    pub kept : t.kept ≡ false
+    pub kept : is_kept t ≡ false
     pub heard : Heard r p (x + 1) t.step
     pub live : (row : List ℕ) → Live r p x row → Live r p (x + 1) (row_after r row t (r.h4 p x))
 
