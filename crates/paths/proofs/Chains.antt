@@ -1,44 +1,21 @@
 -- What a chain over a list finds, by the numbers below the list's length.
-use Rattle.std.proofs.Common.{◌≡◌, refl, ◌∙◌, ⊎_elim, sym, ap, Bool, cond, ◌&&◌, List, [], ◌∷◌, ℕ, zero, suc, ◌+◌, ◌-◌, ◌≤◌, ◌<◌, length, get_or, take, add-one, arith, lt-ltb, le-ltb}
+use Rattle.std.proofs.Common.{◌≡◌, refl, ◌∙◌, ⊎_elim, sym, ap, Bool, cond, List, [], ◌∷◌, ℕ, zero, suc, ◌+◌, ◌-◌, ◌≤◌, ◌<◌, length, get_or, arith, lt-ltb, le-ltb}
 use Rattle.std.proofs.Math.Seq.{take-length}
-use Rattle.std.proofs.Math.Bool.{and-true, and_assoc}
-use Rattle.std.proofs.lemmas.List.Folds.{list_all_more}
 use Rattle.std.proofs.lemmas.List.Sums.{sum_by-cons}
-use Rattle.std.specs.List.{count_by, enumerate_from, list_all, range_with_len}
+use Rattle.std.specs.List.{count_by, enumerate_from, list_all}
+use Rattle.ground.specs.Counting.Laws.Chains.{all_first}
 use Rattle.ground.specs.Counting.Words.{count, every}
 use Rattle.ground.specs.Counting.Laws.Numbers.{count_ext}
-use Rattle.ground.specs.Counting.Laws.Tests.{every_ext}
 use Rattle.ground.specs.Truth.{le_or_lt}
 use Rattle.paths.specs.Checking.{delays_apart}
 
-pub all_below : (p : ℕ → Bool) (xs : List ℕ) (n : ℕ) → n ≤ length xs → list_all p (take n xs) ≡ every n (λ i. p (get_or xs i 0))
-all_below p xs zero h = refl
-all_below p xs (suc n) h =
-    let e : list_all p (take (n + 1) xs) ≡ (list_all p (take n xs) && p (get_or xs n 0)) = list_all_more p xs n 0 (omega arith) in
-    let rest : list_all p (take n xs) ≡ every n (λ i. p (get_or xs i 0)) = all_below p xs n (omega arith) in
-    rw (rest) at (rw add-one at e)
-
 pub all_every : (p : ℕ → Bool) (xs : List ℕ) → list_all p xs ≡ every (length xs) (λ i. p (get_or xs i 0))
-all_every p xs = rw take-length at (all_below p xs (length xs) (omega arith))
+all_every p xs = rw take-length at (all_first p xs 0 (length xs) (omega arith))
 
 -- the first number apart
-every_front : (n : ℕ) (f : ℕ → Bool) → every (suc n) f ≡ (f 0 && every n (λ j. f (suc j)))
-every_front zero f = sym (and-true (f 0))
-every_front (suc n) f = rw (every_front n f, and_assoc) refl
-
 count_front : (n : ℕ) (f : ℕ → Bool) → count (suc n) f ≡ cond (f 0) 1 0 + count n (λ j. f (suc j))
 count_front zero f = omega arith
 count_front (suc n) f = let rest = count_front n f in omega arith
-
-numbers_from : (p : ℕ → Bool) (a n : ℕ) → list_all p (range_with_len a n) ≡ every n (λ j. p (a + j))
-numbers_from p a zero = refl
-numbers_from p a (suc n) =
-    let rest : list_all p (range_with_len (a + 1) n) ≡ every n (λ j. p (a + suc j)) = numbers_from p (a + 1) n ∙ every_ext n (λ j. p (a + 1 + j)) (λ j. p (a + suc j)) (λ j h. ap p (omega arith)) in
-    let here : p a ≡ p (a + 0) = ap p (omega arith) in
-    rw (rest, here) (sym (every_front n (λ j. p (a + j))))
-
-pub all_numbers : (p : ℕ → Bool) (n : ℕ) → list_all p (range_with_len 0 n) ≡ every n p
-all_numbers p n = numbers_from p 0 n ∙ every_ext n (λ j. p (0 + j)) p (λ j h. ap p (omega arith))
 
 places_from : (q : ℕ × ℕ → Bool) (a : ℕ) (xs : List ℕ) → count_by q (enumerate_from a xs) ≡ count (length xs) (λ j. q (a + j, get_or xs j 0))
 places_from q a [] = refl

@@ -3,7 +3,7 @@ use Rattle.std.proofs.lemmas.Iterator.{YieldsList-from_range}
 use Rattle.std.proofs.lemmas.Iterator.Search.{all_from_yields_List}
 use Rattle.std.specs.List.{list_all, range_with_len}
 use Rattle.paths.specs.Checking.{accepts, entry_fits}
-use Rattle.paths.proofs.Chains.{all_numbers}
+use Rattle.ground.specs.Counting.Laws.Chains.{all_numbers}
 use Rattle.paths.proofs.checking.is_accepted.Goals as goal
 
 pub returns-then-set-k : goal.returns-then-set-k

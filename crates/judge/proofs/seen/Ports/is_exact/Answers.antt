@@ -6,7 +6,7 @@ use Rattle.std.proofs.lemmas.Iterator.Search.{all_from_yields_List}
 use Rattle.judge.specs.Tally.{exact_to}
 use Rattle.judge.specs.Theorems.Full.{full_exact}
 use Rattle.judge.specs.Verdict.{takes}
-use Rattle.judge.proofs.Chains.{all_below}
+use Rattle.ground.specs.Counting.Laws.Chains.{all_numbers}
 use Rattle.judge.proofs.seen.Ports.is_exact.Goals as goal
 
 pub returns-then-full : goal.returns-then-full
@@ -17,4 +17,4 @@ pub returns-else-full : goal.returns-else-full
 unfolding exact_to
 returns-else-full c =
     let test = takes c.args.self.now (length c.args.self.now) in
-    all_from_yields_List test _ _ _ c.all.ensures.ran (YieldsList-from_range 0 c.args.limit c.args.limit refl (sub-zero _)) (λ x b q k. search (rules, tests)) ∙ all_below test c.args.limit
+    all_from_yields_List test _ _ _ c.all.ensures.ran (YieldsList-from_range 0 c.args.limit c.args.limit refl (sub-zero _)) (λ x b q k. search (rules, tests)) ∙ all_numbers test c.args.limit
