@@ -1,7 +1,7 @@
 // A report fetched (01, 'Report of an epoch'; 'For fetching: 9 first').
 #![tactic(auto, unfolding(crate::specs::Fetch::due_in, crate::specs::Fetch::record_of, crate::specs::Fetch::report_if_due, crate::specs::Fetch::rows_if_due, crate::specs::Fetch::out_if_due, crate::specs::Fetch::lent_fits, crate::specs::Fetch::fetch_of))]
 
-ghost use Rattle.std.specs.Prelude.{◌≡◌, length};
+ghost use Rattle.std.specs.Prelude.{◌≡◌};
 ghost use Rattle.receiver.specs.Fetch.{due_in, fetch_of, out_if_due, report_if_due, rows_if_due, none_due, record_of};
 ghost use Rattle.receiver.specs.Report.{output_of, epoch_report, reported_of, seen_all};
 

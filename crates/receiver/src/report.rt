@@ -12,6 +12,7 @@ use packet::{Ruling, kinds};
 use rows::Group;
 use store::marks;
 
+// Kept: mark and cause are bytes, since `record_of` lays them down for C as they are, and `none_due` has mark 0.
 #[derive(Clone, Copy)]
 pub struct Report {
     // 0 none due, 1 held, 2 doubtful, 3 sure
@@ -46,17 +47,14 @@ pub(crate) fn seen_of(table: &[[u8; 256]; 7], group: Group, state: &[[u8; 16]], 
 {
     let packets = rows::packets::get(state, port);
     let step = rows::step::get(state, port);
-    let row = rows::packets::marks(state, port);
-    let epoch = ruling_epoch(group);
-    let nibbles = packets[1];
-    let ruling = ruling_of(table, group.kind, epoch, nibbles);
+    let ruling = ruling_of(table, group.kind, ruling_epoch(group), packets[1]);
     Seen {
         whole: flags::is_set(step.whole),
         good: ruling.good,
         word: ruling.word,
         number: ruling.number,
         gid: ruling.gid,
-        here: marks::first(row),
+        here: marks::first(rows::packets::marks(state, port)),
     }
 }
 

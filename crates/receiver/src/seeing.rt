@@ -14,6 +14,7 @@ use rows::Group;
 use step::answers;
 use store::marks;
 
+// Kept: an answer beside the fields, since `seen_row` lays both down for C, zeros under a refusal too.
 #[derive(Clone, Copy)]
 pub struct Carried {
     // 0, 5, 6 or 7; only under 0 the rest says something

@@ -1,5 +1,5 @@
-// What the receiver's calls answer: 01's numbers by name. They are bytes and no enum, which would be handed back through memory: the short way of a
-// frame would pay for it.
+// What the receiver's calls answer: 01's numbers by name.
+// Kept: bytes and no enum, since `taken_of` and `frame_of` state these numbers and C reads them.
 pub const DONE: u8 = 0;
 
 pub const NO_PORT: u8 = 1;
