@@ -1,5 +1,5 @@
 // What is seen of a port: the packet that rules it, and whether its frames stand in the store. And the ports of a group.
-ghost use Rattle.std.specs.Prelude.{◌≡◌, ◌≤◌, ◌<◌, List, length, take};
+ghost use Rattle.std.specs.Prelude.{◌≡◌, ◌≤◌, List, length, take};
 ghost use Rattle.judge.specs.declared.seen.Seen.{Seen};
 ghost use Rattle.judge.specs.Seen.{active_seen, eos_seen, lacking_seen, numbered_seen, refused_seen, size_of, unidle_seen};
 

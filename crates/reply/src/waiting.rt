@@ -1,5 +1,5 @@
 // Waiting before crying failure (02, 2026-03): hold-off, wait-to-restore, and what a report leaves of each port.
-ghost use Rattle.std.specs.Prelude.{◌≡◌, [], ◌∷◌, ◌+◌, ◌≤◌, get_or, replicate, if◌then◌else◌};
+ghost use Rattle.std.specs.Prelude.{◌≡◌, [], ◌∷◌, ◌+◌, get_or, replicate, if◌then◌else◌};
 ghost use Rattle.ground.specs.Counting.Each.{each};
 ghost use Rattle.reply.specs.Choosing.{grant};
 ghost use Rattle.reply.specs.Members.{fail_state, has_hold_off, ok_state, port_at, size_of};

@@ -1,5 +1,4 @@
 // The rows of data/receiver.txt: what ports send in some epochs, and what the receiver then says of the last one, of the ports and to the far end.
-ghost use Rattle.std.specs.Prelude.{◌≤◌};
 
 use crate::link::{Lent, Sent};
 use crate::{link, show, text};

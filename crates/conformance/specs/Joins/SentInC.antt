@@ -19,7 +19,6 @@ use Rattle.packet.specs.Theorems.Sent.{sent_as}
 use Rattle.packet.specs.Ruling.{read_row}
 use Rattle.packet.specs.Sent.{sent_answer, sent_bytes, sent_fits}
 use Rattle.packet.specs.Symbols.{packet_row}
-use Rattle.packet.specs.declared.writer.Unwritten.TheVariants as W
 use Rattle.sender.specs.Commands.{fresh_of, start_of}
 use Rattle.sender.specs.Epochs.{SenderCall, begin_of, fresh_sender, packet_answer, packet_bytes, packet_fields, sender_after, sender_outcome_of, sender_run, start_epoch_of, started_sender}
 use Rattle.sender.specs.SenderRuns.{AllGiven}

@@ -32,7 +32,7 @@ module _ (slots : List Slot) (q : ℕ) where
   -- where none of the n holds it, none is found
   pub holder_nowhere : (n : ℕ) → ((k : ℕ) → k < n → holds (slot_at slots k) q ≡ false) → holder_of slots n q ≡ None
   unfolding holder_of
-  holder_nowhere zero h = refl
+  holder_nowhere zero h = holder_none
   holder_nowhere (suc n) h = rw (holder_nowhere n (λ k b. h k (omega arith)), h n (omega arith))
 
   -- what is found is one of the n slots, and holds the number

@@ -6,7 +6,7 @@ use Rattle.std.proofs.Math.Seq.{take-length}
 use Rattle.std.proofs.lemmas.List.Folds.{list_all_more, list_any_more}
 use Rattle.std.proofs.lemmas.List.FromFn.{get_or-range_with_len, length-range_with_len}
 use Rattle.std.proofs.lemmas.List.Sums.{count_by_more_no, count_by_more_yes}
-use Rattle.ground.specs.Counting.Laws.Tests.{every_ext}
+use Rattle.ground.specs.Counting.Laws.Tests.{every_ext, some_more}
 use Rattle.ground.specs.Counting.Words.{count, every, some}
 
 module _ {A : Type 0} (test : A → Bool) (xs : List A) (d : A) where
@@ -15,7 +15,7 @@ module _ {A : Type 0} (test : A → Bool) (xs : List A) (d : A) where
   any_first (suc n) h =
       let rest : list_any test (take n xs) ≡ some n (λ i. test (get_or xs i d)) = any_first n (omega arith) in
       let next : list_any test (take (suc n) xs) ≡ (list_any test (take n xs) || test (get_or xs n d)) = rw add-one at (list_any_more test xs n d (omega arith)) in
-      next ∙ ap (λ b. b || test (get_or xs n d)) rest
+      next ∙ rw add-one at (some_more (λ i. test (get_or xs i d)) n _ _ rest refl)
 
   pub all_first : (n : ℕ) → n ≤ length xs → list_all test (take n xs) ≡ every n (λ i. test (get_or xs i d))
   all_first zero h = refl

@@ -5,7 +5,7 @@ use Rattle.std.proofs.lemmas.Bool.{false≢true, not-false}
 use Rattle.ground.specs.Truth.{and-true, and_left, and_right, or_left, or_right, or_cases, fails, clash, eq_or_ne}
 use Rattle.ground.specs.Counting.Words.{One, every, some, last_that}
 
--- one more turn of a loop
+-- one more that is asked
 pub some_more : (f : ℕ → Bool) (i : ℕ) (r b : Bool) → r ≡ some i f → b ≡ f i → (r || b) ≡ some (i + 1) f
 some_more f i r b e h = rw (add-one, e, h)
 
@@ -38,17 +38,19 @@ every_at (suc n) f t k h =
     let rest = every_at n f (and_left (every n f) (f n) t) k in
     ⊎_elim (λ (e : k ≡ n). rw e (and_right (every n f) (f n) t)) (λ (d : k ≢ n). rest (omega arith)) (eq_or_ne k n)
 
+-- one more at which it holds
+pub every_on : (f : ℕ → Bool) (i : ℕ) → every i f ≡ true → f i ≡ true → every (i + 1) f ≡ true
+every_on f i e h = rw add-one (and-true (every i f) (f i) e h)
+
 pub every_all : (n : ℕ) (f : ℕ → Bool) → ((k : ℕ) → k < n → f k ≡ true) → every n f ≡ true
 every_all zero f h = refl
-every_all (suc n) f h = and-true (every n f) (f n) (every_all n f (λ k b. h k (omega arith))) (h n (omega arith))
+every_all (suc n) f h =
+    let rest : every n f ≡ true = every_all n f (λ k b. h k (omega arith)) in
+    rw add-one at (every_on f n rest (h n (omega arith)))
 
 -- where one fails, not every one passes
 pub every_fails : (n : ℕ) (f : ℕ → Bool) (k : ℕ) → k < n → f k ≡ false → every n f ≡ false
 every_fails n f k h e = fails (every n f) (λ t. clash (f k) (every_at n f t k h) e)
-
--- one more turn of a loop
-pub every_on : (f : ℕ → Bool) (i : ℕ) → every i f ≡ true → f i ≡ true → every (i + 1) f ≡ true
-every_on f i e h = rw add-one (and-true (every i f) (f i) e h)
 
 -- tests that agree below n
 pub every_ext : (n : ℕ) (f g : ℕ → Bool) → ((k : ℕ) → k < n → f k ≡ g k) → every n f ≡ every n g

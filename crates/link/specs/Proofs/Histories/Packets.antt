@@ -5,7 +5,6 @@ use Rattle.std.proofs.Common.{◌∙◌, sym, ap}
 use Rattle.std.proofs.lemmas.List.{length-replicate}
 use borrow.Author.Tests.{eq-eqb, lt-ltb}
 use Rattle.packet.specs.Theorems.Sent as laws
-use Rattle.packet.specs.declared.writer.Unwritten.TheVariants as W
 use Rattle.packet.specs.Kinds.{first_tag, frames}
 use Rattle.packet.specs.Sent.{sent_answer, sent_bytes}
 use Rattle.sender.specs.declared.epochs.Sender.{Sender}
