@@ -1,5 +1,5 @@
 // What goes by the kind of packet: epochs, tags and MST (01, 'The control packet'). H4 and FIXED (request 2026-12) have one clock, VC-12 (request 2026-01) another; any other byte counts as H4.
-// A kind is a byte and no enum: any byte may come from a host or stand in lent rows.
+// Kept: a kind is a byte and no enum, since any byte may come from a host or stand in lent rows.
 ghost use Rattle.std.specs.Prelude.{◌≡◌};
 ghost use Rattle.packet.specs.Kinds.{frames, epoch_after, tag_after, tag_before, tags, distance_of, place_of, starts_epoch, epoch_of, epochs_in, ends_epoch, first_tag, mst_first, mst_numbers, mst_fails, idle_number, known_kind, payload_right};
 

@@ -7,7 +7,7 @@ ghost use Rattle.packet.specs.Shares.{halves_of, shares_of};
 use crate::crc::crc;
 use crate::words::Word;
 
-// Bytes where a bit would do: any may be given for writing, which refuses what is too large.
+// Kept: bytes where a bit would do, since any may be given for writing, which refuses what is too large.
 #[derive(Clone, Copy, PartialEq, Eq)]
 pub struct Fields {
     pub epoch: u8,

@@ -7,6 +7,7 @@ use crate::layout::Fields;
 use crate::reader::Unread;
 use crate::{kinds, reader, vc12};
 
+// Kept: a flag and no Option, since `fixed_word` and `own_fixed` say the word of a refused packet too, and judge's Seen has these four as they are.
 #[derive(Clone, Copy)]
 pub struct Ruling {
     // whether it was read with 0; only then the rest says something

@@ -2,7 +2,7 @@
 ghost use Rattle.std.specs.Prelude.{◌≡◌, [], ◌∷◌};
 ghost use Rattle.packet.specs.Words.{FIXED, ADD, NORM, EOS, IDLE, DNU, word_of, nibble_of, assigned};
 
-// A byte and no enum: a packet may carry any nibble, and any byte may be given for writing.
+// Kept: a byte and no enum, since a packet may carry any nibble, and any byte may be given for writing.
 #[derive(Clone, Copy, PartialEq, Eq)]
 pub struct Word(pub u8);
 
