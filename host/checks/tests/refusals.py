@@ -69,9 +69,14 @@ tells_c (text, a, b) = stateful {S = ℕ × ℕ} [] (tell_answer text) [] [] (a,
 """
 
 
-def files(source=SOURCE, face=FACE, table=TABLE, calls=CALLS):
+# the same numbers by ground's `number_told`, and no method that promises them
+TOLD = "pub number_of : Answered → ℕ\nnumber_of = number_told refused_number\n"
+
+
+def files(source=SOURCE, face=FACE, table=TABLE, calls=CALLS, told=""):
     return {
         "crates/one/src/lib.rt": source,
+        "crates/one/specs/Told.antt": told,
         "crates/c_face/src/lib.rt": face,
         "crates/conformance/specs/Refusals.antt": table,
         "crates/conformance/specs/Refusals/Packets.antt": calls,
@@ -87,6 +92,8 @@ def other(old, new):
 # name; files; what the check must say ('' if all is well)
 CASES = [
     ("rows of their contracts", files(), ""),
+    ("a number told of a Result", files(source=SOURCE[SOURCE.index("pub fn write") :], told=TOLD), ""),
+    ("a number that nothing promises", files(source=SOURCE[SOURCE.index("pub fn write") :]), "one::write\tthe answer is not the result"),
     ("another answer", other("(number_of (write_answer f (length h4)))", "(number_of (read_answer f (length h4)))"), "one::write\tthe answer is not the result"),
     ("an answer of another argument", other("(length h4)))", "(length f)))"), "one::write\tthe answer is not the result"),
     ("an answer under another function", other("(number_of (write_answer", "(other_of (write_answer"), "one::write\tthe answer is not the result"),
