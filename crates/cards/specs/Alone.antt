@@ -9,9 +9,8 @@ use Rattle.sender.specs.Calls.{Call as T}
 use Rattle.sender.specs.Epochs as E
 use Rattle.sender.specs.Epochs.{SenderCall as S, sender_outcome_of}
 use Rattle.sender.specs.Table.{is_member, slot_count, slot_at}
-use Rattle.cards.specs.declared.answers.Answer.{Answer}
-use Rattle.cards.specs.declared.answers.Answer.TheVariants as A
-use Rattle.cards.specs.Answers.{from_sender}
+use Rattle.cards.specs.Answers.{Answer, from_sender}
+use Rattle.cards.specs.Answers.{Answer as A}
 use Rattle.cards.specs.Calls.{Call}
 use Rattle.cards.specs.Calls.Call.{Claim, Release, AddSlot, RemoveSlot, Report, Lapse, StartEpoch}
 use Rattle.cards.specs.Views.{Asked, Reply, View}

@@ -3,7 +3,7 @@ use Rattle.std.specs.Prelude.{ℕ}
 use Rattle.sender.specs.Calls.{Call as T}
 use Rattle.sender.specs.Epochs.{SenderCall as E}
 use Rattle.cards.specs.declared.card.Card.{Card}
-use Rattle.cards.specs.declared.card.CardOutcome.{CardOutcome}
+use Rattle.cards.specs.Answers.{CardOutcome}
 use Rattle.cards.specs.Commands.{claim_of, command_of, group_call_of, release_of}
 
 pub data Call : Type 0 where

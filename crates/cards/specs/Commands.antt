@@ -2,10 +2,9 @@
 use Rattle.std.specs.Prelude.{ℕ, replicate, if◌then◌else◌}
 use Rattle.ground.specs.Plain.{◌<?◌}
 use Rattle.sender.specs.Epochs.{SenderCall, begin_of, sender_outcome_of}
-use Rattle.cards.specs.declared.answers.Answer.TheVariants.{NoSlot, Owned, Used}
+use Rattle.cards.specs.Answers.Answer.{NoSlot, Owned, Used}
 use Rattle.cards.specs.declared.card.Card.{Card}
-use Rattle.cards.specs.declared.card.CardOutcome.{CardOutcome}
-use Rattle.cards.specs.Answers.{from_sender}
+use Rattle.cards.specs.Answers.{CardOutcome, from_sender}
 use Rattle.cards.specs.Owners.{has_owner, mark_of}
 use Rattle.cards.specs.Parts.{group_outcome, is_slot, is_used, marked, owns, refused, sender_of}
 

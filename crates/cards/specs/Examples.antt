@@ -2,7 +2,7 @@
 use Rattle.std.specs.Prelude.{◌≡◌, refl, List, [], ◌∷◌, ℕ}
 use Rattle.std.proofs.Common.{ap, arith}
 use Rattle.sender.specs.Shown.{shown}
-use Rattle.cards.specs.declared.answers.Answer.TheVariants.{Done, Owned}
+use Rattle.cards.specs.Answers.Answer.{Done, Owned}
 use Rattle.cards.specs.declared.card.Card.{Card}
 use Rattle.cards.specs.Calls.Call.{AddSlot, Claim, RemoveSlot}
 use Rattle.cards.specs.Opened.{circuits_open}

@@ -2,14 +2,12 @@
 use Rattle.std.specs.Prelude.{Bool, ◌&&◌, ℕ, if◌then◌else◌, ◌==◌}
 use Rattle.ground.specs.Plain.{◌<?◌}
 use Rattle.sender.specs.declared.epochs.Sender.{Sender}
-use Rattle.sender.specs.declared.epochs.SenderOutcome.{SenderOutcome}
+use Rattle.sender.specs.Answers.{SenderOutcome}
 use Rattle.sender.specs.Epochs.{begin_of}
 use Rattle.sender.specs.Table.{is_member, slot_count, slot_at}
-use Rattle.cards.specs.declared.answers.Answer.{Answer}
-use Rattle.cards.specs.declared.answers.Answer.TheVariants.{Done}
+use Rattle.cards.specs.Answers.{Answer, CardOutcome, from_sender}
+use Rattle.cards.specs.Answers.Answer.{Done, NoSlot, Owned}
 use Rattle.cards.specs.declared.card.Card.{Card}
-use Rattle.cards.specs.declared.card.CardOutcome.{CardOutcome}
-use Rattle.cards.specs.Answers.{from_sender}
 use Rattle.cards.specs.Owners.{is_marked, with_owner}
 
 -- groups are 0 and 1
@@ -33,6 +31,13 @@ is_slot c g i = g <? 2 && i <? slot_count (sender_of c g).table.count
 
 unfoldable pub owns : (c : Card) (group slot : ℕ) → Bool
 owns c g i = is_marked c.owners g i
+
+-- what is asked of a slot first: 1, and of a command 14
+abbrev pub slot_answer : (c : Card) (group slot : ℕ) → Answer
+slot_answer c g i = if is_slot c g i then Done else NoSlot
+
+abbrev pub own_answer : (c : Card) (group slot : ℕ) → Answer
+own_answer c g i = if is_slot c g i then (if owns c g i then Done else Owned) else NoSlot
 
 -- not IDLE in the group's table
 unfoldable pub is_used : (c : Card) (group slot : ℕ) → Bool

@@ -3,13 +3,9 @@ use Rattle.std.specs.Prelude.{◌&&◌, ℕ, if◌then◌else◌}
 use Rattle.ground.specs.Types.{Bytes}
 use Rattle.sender.specs.Board.{board_of}
 use Rattle.sender.specs.Epochs as E
-use Rattle.cards.specs.declared.answers.Answer.{Answer}
-use Rattle.cards.specs.declared.answers.Answer.TheVariants.{NoSlot, Owned}
-use Rattle.cards.specs.declared.card.BoardOutcome.{BoardOutcome}
+use Rattle.cards.specs.Answers.{Answer, BoardOutcome, OwnedOutcome, RanksOutcome, group_answer, from_sender}
+use Rattle.cards.specs.Answers.Answer.{NoSlot, Owned}
 use Rattle.cards.specs.declared.card.Card.{Card}
-use Rattle.cards.specs.declared.card.OwnedOutcome.{OwnedOutcome}
-use Rattle.cards.specs.declared.card.RanksOutcome.{RanksOutcome}
-use Rattle.cards.specs.Answers.{group_answer, from_sender}
 use Rattle.cards.specs.Owners.{owned_bytes}
 use Rattle.cards.specs.Parts.{is_slot, owns, sender_of, shown_sender}
 

@@ -2,3 +2,4 @@
 pub mod Apart
 pub mod Owned
 pub mod Released
+pub mod Told

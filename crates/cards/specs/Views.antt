@@ -4,11 +4,8 @@ use Rattle.ground.specs.Table.{tabulate}
 use Rattle.ground.specs.Types.{Bytes}
 use Rattle.sender.specs.declared.epochs.Sender.{Sender}
 use Rattle.cards.specs.Commands.{start_of}
-use Rattle.cards.specs.declared.answers.Answer.{Answer}
-use Rattle.cards.specs.declared.card.BoardOutcome.{BoardOutcome}
+use Rattle.cards.specs.Answers.{Answer, BoardOutcome, OwnedOutcome, RanksOutcome}
 use Rattle.cards.specs.declared.card.Card.{Card}
-use Rattle.cards.specs.declared.card.OwnedOutcome.{OwnedOutcome}
-use Rattle.cards.specs.declared.card.RanksOutcome.{RanksOutcome}
 use Rattle.cards.specs.Calls.{Call, outcome_of}
 use Rattle.cards.specs.Calls.Call.{Claim, Release, AddSlot, RemoveSlot, Report, Lapse, StartEpoch}
 use Rattle.cards.specs.Parts.{owns, sender_of}

@@ -6,10 +6,9 @@ use Rattle.sender.specs.declared.table.Table.{Table}
 use Rattle.sender.specs.Commands.{with_slots}
 use Rattle.sender.specs.Numbering.{Demand2}
 use Rattle.sender.specs.Table.{members_of, slot_count}
-use Rattle.cards.specs.declared.answers.Answer.{Answer}
-use Rattle.cards.specs.declared.answers.Answer.TheVariants.{Done, NotAllowed, Owned, WaitOpen}
+use Rattle.cards.specs.Answers.{Answer, answer_number}
+use Rattle.cards.specs.Answers.Answer.{Done, NotAllowed, Owned, WaitOpen}
 use Rattle.cards.specs.declared.card.Card.{Card}
-use Rattle.cards.specs.Answers.{answer_number}
 use Rattle.cards.specs.Calls.{outcome_of}
 use Rattle.cards.specs.Calls.Call.{AddSlot, Claim, Lapse, RemoveSlot}
 use Rattle.cards.specs.Owners.{has_owner}

@@ -1,16 +1,22 @@
 -- A whole work order at once (02, 2026-07): 'Take a list of commands, each a small record of kind, group and slot, and answer each in a lent list of numbers.'
-use Rattle.std.specs.Prelude.{List, ℕ, length, set, take, if◌then◌else◌, ◌==◌}
+use Rattle.std.specs.Prelude.{List, ℕ, Result, length, set, take, if◌then◌else◌, ◌==◌}
 use Rattle.ground.specs.Plain.{◌<?◌}
-use Rattle.cards.specs.declared.answers.Answer.TheVariants as A
+use Rattle.cards.specs.Answers.{Answer, Answer as A, CardOutcome, answer_number, given}
+use Rattle.cards.specs.declared.refusals.Refusal.{Refusal}
 use Rattle.cards.specs.declared.card.Card.{Card}
-use Rattle.cards.specs.declared.card.CardOutcome.{CardOutcome}
-use Rattle.cards.specs.Answers.{answer_number}
 use Rattle.cards.specs.Calls.{Call, outcome_of}
 use Rattle.cards.specs.Calls.Call.{AddSlot, Claim, Release, RemoveSlot}
 use Rattle.orders.specs.declared.commands.Command.{Command}
 use Rattle.orders.specs.declared.commands.Kind as K
-use Rattle.orders.specs.declared.lists.Ordered.{Ordered}
 use Rattle.orders.specs.Folding.{Folded, folded}
+
+-- what an order gives: the card afterwards, with its answer
+pub record Ordered : Type 0 where
+  pub card : Card
+  pub answer : Answer
+
+abbrev pub ordered_told : Ordered → Result Card Refusal
+ordered_told r = given r.answer r.card
 
 -- a command as one of the card's own calls
 abbrev pub call_by : K.Kind → ℕ → Call
@@ -42,13 +48,6 @@ ordered_of card cs k = if length cs == k then (record { card = (orders_of card c
 
 abbrev pub answers_of : (card : Card) (cs : List Command) (ys : List ℕ) → List ℕ
 answers_of card cs ys = if length cs == length ys then (orders_of card cs).numbers else ys
-
--- the parts of the code: how many turns its loop has, and what it ends with
-abbrev pub turns_of : ℕ → ℕ → ℕ
-turns_of m k = if m == k then m else 0
-
-abbrev pub finish_of : (card : Card) (m k : ℕ) → Ordered
-finish_of card m k = if m == k then (record { card = card; answer = A.Done }) else (record { card = card; answer = A.Length })
 
 -- the first n of an array of 64; where n is more than there are, 9
 abbrev pub first_ordered : (card : Card) (cs : List Command) (n k : ℕ) → Ordered

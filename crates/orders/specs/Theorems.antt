@@ -2,3 +2,4 @@
 pub mod Apart
 pub mod Cutting
 pub mod OneByOne
+pub mod Told

@@ -1,8 +1,9 @@
 // A command: 'a small record of kind, group and slot' (02, 2026-07). The kinds are the four calls of a card that take a group and a slot.
 ghost use Rattle.std.specs.Prelude.{◌≡◌, ◌<◌, length};
+ghost use Rattle.cards.specs.Answers.{told};
 ghost use Rattle.orders.specs.Orders.{outcome_by, stored_by};
 
-use cards::{Card, CardOutcome};
+use cards::{Card, Refusal};
 
 #[derive(Clone, Copy)]
 pub enum Kind {
@@ -19,12 +20,10 @@ pub struct Command {
     pub slot: u32,
 }
 
-fn outcome_of(card: Card, command: Command) -> CardOutcome
-    ensures { result ≡ outcome_by card command }
+fn outcome_of(card: Card, command: Command) -> Result<Card, Refusal>
+    ensures { result ≡ told (outcome_by card command) }
 {
-    let kind = command.kind;
-    let group = command.group;
-    let slot = command.slot;
+    let Command { kind, group, slot } = command;
     match kind {
         Kind::Add => card.add(group, slot),
         Kind::Remove => card.remove(group, slot),
@@ -38,8 +37,7 @@ pub(crate) fn one(card: Card, command: Command, i: usize, answers: &mut [u8]) ->
     requires { i < length answers.old }
     ensures { (result ≡ (outcome_by card command).card) × (answers.new ≡ stored_by card command i answers.old) }
 {
-    let done = outcome_of(card, command);
-    let answer = done.answer;
-    answers[i] = answer.number();
-    done.card
+    let outcome = outcome_of(card, command);
+    answers[i] = ground::number_told(outcome);
+    outcome.unwrap_or(card)
 }

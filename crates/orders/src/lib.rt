@@ -5,4 +5,4 @@ mod commands;
 mod lists;
 
 pub use commands::{Command, Kind};
-pub use lists::{Ordered, order, order_of};
+pub use lists::{order, order_of};

@@ -1,94 +1,79 @@
 -- Each way out of the commands and reports, as the definitions have it.
-use Rattle.std.specs.Prelude.{Option, Some, None}
-use mathlib.Core.Path.{◌≡◌, ◌∙◌, sym, ap}
-use mathlib.Core.Bool.{Bool, true, false, cond, not, ◌&&◌}
+use Rattle.std.specs.Prelude.{Option, Some, None, Result, Ok, Err}
+use mathlib.Core.Path.{◌≡◌, ◌∙◌, refl, sym, ap}
+use mathlib.Core.Bool.{Bool, true, false, cond, not}
 use mathlib.Core.List.{List}
-use Prim.Native.Nat.{ℕ, ◌+◌, ◌-◌, ◌%◌, ◌≤◌, ◌<◌}
+use Prim.Native.Nat.{ℕ, ◌+◌}
 use native.Mathlib.Numerals.{add-one}
-use native.Mathlib.Omega.{arith}
 use lib.Dec.{ltb}
 use lib.ListN.{set}
-use borrow.Author.Tests.{eq-eqb, ne_eqb, lt-ltb, le-ltb, ltb-true}
-use Rattle.ground.specs.Truth.{and_right}
 use Rattle.packet.specs.Kinds.{mst_fails, mst_first, mst_numbers}
-use Rattle.sender.specs.declared.table.Answer.TheVariants.{Done, NoSlot, NotAllowed, OutOfRange, WaitOpen}
+use Rattle.sender.specs.declared.refusals.Refusal.{Refusal}
+use Rattle.sender.specs.declared.refusals.Refusal.TheVariants as R
 use Rattle.sender.specs.declared.table.Slot.{Slot}
 use Rattle.sender.specs.declared.table.State.{State}
-use Rattle.sender.specs.declared.table.Outcome.{Outcome}
 use Rattle.sender.specs.declared.table.Table.{Table}
-use Rattle.sender.specs.Commands.{add_of, added_to, answered, fallen, fresh_of, in_order, remove_of, removed_from, start_of}
-use Rattle.sender.specs.Reports.{acted_on, mst_applied, number_after, opens_wait, renumbered, report_of, slot_after, becomes, number_applied, turn_of, waited}
+use Rattle.sender.specs.Answers.{told}
+use Rattle.sender.specs.Answers.Answer.{Done, NoSlot, NotAllowed, WaitOpen}
+use Rattle.sender.specs.Commands.{add_of, added_to, answered, in_order, remove_of, removed_from, slot_asked}
+use Rattle.sender.specs.Reports.{acted_on, mst_applied, number_after, opens_wait, renumbered, slot_after, becomes, number_applied, turn_of}
 use Rattle.sender.specs.Table.{holder_of, is_add, is_member, slot_count, slot_at}
 
-module _ (kind count : ℕ) (t : Table) where
-  pub start_none : count ≡ 0 → t ≡ fresh_of kind 0 → answered t OutOfRange ≡ start_of kind count
-  unfolding start_of
-  start_none h e = rw (eq-eqb count 0 h, e)
+-- a command whose slot was asked for
+module _ (t next : Table) (i : ℕ) (allowed : Bool) where
+  pub asked_refused : {e : Refusal} → Err e ≡ slot_asked t i → Err e ≡ told (in_order t i allowed next)
+  asked_refused {e} = go (ltb i (slot_count t.count)) t.wait
+    where
+      go : (b w : Bool) → Err e ≡ cond b (cond w (Err R.WaitOpen) (Ok i)) (Err R.NoSlot)
+          → Err e ≡ told (cond b (cond w (answered t WaitOpen) (cond allowed (answered next Done) (answered t NotAllowed))) (answered t NoSlot))
+      go false w h = cc
+      go true true h = cc
+      go true false h = cc
 
-  pub start_many : 64 < count → t ≡ fresh_of kind 0 → answered t OutOfRange ≡ start_of kind count
-  unfolding start_of
-  start_many h e = rw (ne_eqb count 0 (λ (z : count ≡ 0). omega arith), lt-ltb 64 count h, e)
+  pub asked_told : {at : ℕ} → Ok at ≡ slot_asked t i → told (in_order t i allowed next) ≡ cond allowed (Ok next) (Err R.NotAllowed)
+  asked_told {at} = go (ltb i (slot_count t.count)) t.wait allowed
+    where
+      go : (b w a : Bool) → Ok at ≡ cond b (cond w (Err R.WaitOpen) (Ok i)) (Err R.NoSlot)
+          → told (cond b (cond w (answered t WaitOpen) (cond a (answered next Done) (answered t NotAllowed))) (answered t NoSlot)) ≡ cond a (Ok next) (Err R.NotAllowed)
+      go false w a h = cc
+      go true true a h = cc
+      go true false false h = refl
+      go true false true h = refl
 
-  pub start_done : 0 < count → count ≤ 64 → t ≡ fresh_of kind count → answered t Done ≡ start_of kind count
-  unfolding start_of
-  start_done low high e = rw (ne_eqb count 0 (λ (z : count ≡ 0). omega arith), le-ltb 64 count high, e)
+asked_is : (t : Table) (i : ℕ) {at : ℕ} → Ok at ≡ slot_asked t i → at ≡ i
+asked_is t i {at} = go (ltb i (slot_count t.count)) t.wait
+  where
+    go : (b w : Bool) → Ok at ≡ cond b (cond w (Err R.WaitOpen) (Ok i)) (Err R.NoSlot) → at ≡ i
+    go false w h = cc
+    go true true h = cc
+    go true false h = cc
 
-pub falls_below : (q own : ℕ) (member : Bool) → (member && ltb q own) ≡ true → q < own
-falls_below q own member t = ltb-true q own (and_right member (ltb q own) t)
-
-module _ (q : ℕ) (s : Slot) (member : Bool) (e : member ≡ is_member s.state) where
-  pub fall_falls : (member && ltb q s.number) ≡ true → record { state = s.state; number = s.number - 1 } ≡ fallen q s
-  unfolding fallen
-  fall_falls t = rw (← e, t)
-
-  pub fall_stays : (member && ltb q s.number) ≡ false → s ≡ fallen q s
-  unfolding fallen
-  fall_stays t = rw (← e, t)
-
--- where no refusal holds
-in_order_lem : (t next : Table) (i : ℕ) (allowed : Bool) → ltb i (slot_count t.count) ≡ true → t.wait ≡ false → allowed ≡ true → answered next Done ≡ in_order t i allowed next
-in_order_lem t next i allowed h w a =
-    let last : Outcome = cond allowed (answered next Done) (answered t NotAllowed) in
-    sym (
-    ap (λ (b : Bool). cond b (cond t.wait (answered t WaitOpen) last) (answered t NoSlot)) h
-    ∙ ap (λ (b : Bool). cond b (answered t WaitOpen) last) w
-    ∙ ap (λ (b : Bool). cond b (answered next Done) (answered t NotAllowed)) a
-    )
-
-module _ (t : Table) (i : ℕ) {n : ℕ} (e : n ≡ slot_count t.count) where
-  pub add_no_slot : n ≤ i → answered t NoSlot ≡ add_of t i
+module _ (t : Table) (i : ℕ) {at : ℕ} (h : Ok at ≡ slot_asked t i) where
+  pub add_no : is_member (slot_at t.slots at).state ≡ true → Err R.NotAllowed ≡ told (add_of t i)
   unfolding add_of
-  add_no_slot h = rw (← e, le-ltb i n h)
+  add_no m =
+      let k : is_member (slot_at t.slots i).state ≡ true = rw (asked_is t i h) at m in
+      sym (asked_told t (added_to t i) i (not (is_member (slot_at t.slots i).state)) h ∙ rw k)
 
-  pub remove_no_slot : n ≤ i → answered t NoSlot ≡ remove_of t i
+  pub add_done : {next : Table} → is_member (slot_at t.slots at).state ≡ false → next ≡ added_to t at → Ok next ≡ told (add_of t i)
+  unfolding add_of
+  add_done m e =
+      let k : is_member (slot_at t.slots i).state ≡ false = rw (asked_is t i h) at m in
+      let f : _ ≡ added_to t i = rw (asked_is t i h) at e in
+      ap Ok f ∙ sym (asked_told t (added_to t i) i (not (is_member (slot_at t.slots i).state)) h ∙ rw k)
+
+  pub remove_no : is_member (slot_at t.slots at).state ≡ false → Err R.NotAllowed ≡ told (remove_of t i)
   unfolding remove_of
-  remove_no_slot h = rw (← e, le-ltb i n h)
+  remove_no m =
+      let k : is_member (slot_at t.slots i).state ≡ false = rw (asked_is t i h) at m in
+      sym (asked_told t (removed_from t i) i (is_member (slot_at t.slots i).state) h ∙ rw k)
 
-  module _ (h : i < n) where
-    pub add_wait : t.wait ≡ true → answered t WaitOpen ≡ add_of t i
-    unfolding add_of
-    add_wait w = rw (← e, lt-ltb i n h, w)
-
-    pub remove_wait : t.wait ≡ true → answered t WaitOpen ≡ remove_of t i
-    unfolding remove_of
-    remove_wait w = rw (← e, lt-ltb i n h, w)
-
-    module _ (w : t.wait ≡ false) where
-      pub add_not_allowed : is_member (slot_at t.slots i).state ≡ true → answered t NotAllowed ≡ add_of t i
-      unfolding add_of
-      add_not_allowed m = rw (← e, lt-ltb i n h, w, m)
-
-      pub add_done : {next : Table} → is_member (slot_at t.slots i).state ≡ false → next ≡ added_to t i → answered next Done ≡ add_of t i
-      unfolding add_of
-      add_done m a = ap (λ (x : Table). answered x Done) a ∙ in_order_lem t (added_to t i) i _ (rw (← e) (lt-ltb i n h)) w (ap not m)
-
-      pub remove_not_allowed : is_member (slot_at t.slots i).state ≡ false → answered t NotAllowed ≡ remove_of t i
-      unfolding remove_of
-      remove_not_allowed m = rw (← e, lt-ltb i n h, w, m)
-
-      pub remove_done : {next : Table} → is_member (slot_at t.slots i).state ≡ true → next ≡ removed_from t i → answered next Done ≡ remove_of t i
-      unfolding remove_of
-      remove_done m a = ap (λ (x : Table). answered x Done) a ∙ in_order_lem t (removed_from t i) i _ (rw (← e) (lt-ltb i n h)) w m
+  pub remove_done : {next : Table} → is_member (slot_at t.slots at).state ≡ true → next ≡ removed_from t at → Ok next ≡ told (remove_of t i)
+  unfolding remove_of
+  remove_done m e =
+      let k : is_member (slot_at t.slots i).state ≡ true = rw (asked_is t i h) at m in
+      let f : _ ≡ removed_from t i = rw (asked_is t i h) at e in
+      ap Ok f ∙ sym (asked_told t (removed_from t i) i (is_member (slot_at t.slots i).state) h ∙ rw k)
 
 -- one reported number
 module _ (slots heard : List Slot) (n q mst : ℕ) where
@@ -123,12 +108,3 @@ pub heard_more : (slots : List Slot) (n first mst k : ℕ) {heard : List Slot} (
     → next ≡ mst_applied slots n first mst (k + 1)
 unfolding mst_applied
 heard_more slots n first mst k next e h = h ∙ rw (e, add-one)
-
-module _ (t : Table) (e mst ack : ℕ) {next : Table} where
-  pub report_waits : t.wait ≡ true → next ≡ waited t (ack % 2) → answered next Done ≡ report_of t e mst ack
-  unfolding report_of
-  report_waits w h = ap (λ (x : Table). answered x Done) (h ∙ sym (ap (λ (b : Bool). cond b (waited t (ack % 2)) (acted_on t e mst (ack % 2))) w))
-
-  pub report_acts : t.wait ≡ false → next ≡ acted_on t e mst (ack % 2) → answered next Done ≡ report_of t e mst ack
-  unfolding report_of
-  report_acts w h = ap (λ (x : Table). answered x Done) (h ∙ sym (ap (λ (b : Bool). cond b (waited t (ack % 2)) (acted_on t e mst (ack % 2))) w))

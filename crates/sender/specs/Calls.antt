@@ -1,6 +1,6 @@
 -- The sender's calls, what each gives, and runs of them.
 use Rattle.std.specs.Prelude.{List, [], ◌∷◌, ℕ}
-use Rattle.sender.specs.declared.table.Outcome.{Outcome}
+use Rattle.sender.specs.Answers.{Outcome}
 use Rattle.sender.specs.declared.table.Table.{Table}
 use Rattle.sender.specs.Commands.{add_of, lapse_of, remove_of}
 use Rattle.sender.specs.Reports.{report_of}

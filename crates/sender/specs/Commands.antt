@@ -1,13 +1,14 @@
 -- Start, add, remove and lapse (01, 'The sender's table').
-use Rattle.std.specs.Prelude.{Bool, true, false, not, ◌&&◌, ◌||◌, List, ℕ, ◌-◌, replicate, set, if◌then◌else◌, ◌==◌}
+use Rattle.std.specs.Prelude.{Bool, true, false, not, ◌&&◌, ◌||◌, List, ℕ, ◌-◌, replicate, set, if◌then◌else◌, ◌==◌, Result, Ok, Err}
 use Rattle.ground.specs.Plain.{◌<?◌}
 use Rattle.ground.specs.Counting.Each.{each}
 use Rattle.packet.specs.Kinds.{idle_number}
-use Rattle.sender.specs.declared.table.Answer.{Answer}
-use Rattle.sender.specs.declared.table.Answer.TheVariants.{Done, NoSlot, NotAllowed, WaitOpen, OutOfRange}
+use Rattle.sender.specs.Answers.{Answer, Outcome}
+use Rattle.sender.specs.Answers.Answer.{Done, NoSlot, NotAllowed, WaitOpen, OutOfRange}
+use Rattle.sender.specs.declared.refusals.Refusal.{Refusal}
+use Rattle.sender.specs.declared.refusals.Refusal.TheVariants as R
 use Rattle.sender.specs.declared.table.Slot.{Slot}
 use Rattle.sender.specs.declared.table.State.TheVariants.{Idle, Add}
-use Rattle.sender.specs.declared.table.Outcome.{Outcome}
 use Rattle.sender.specs.declared.table.Table.{Table}
 use Rattle.sender.specs.Table.{is_member, members_of, slot_count, slot_at}
 
@@ -36,6 +37,10 @@ in_order t i allowed next =
     if i <? slot_count t.count
     then (if t.wait then answered t WaitOpen else if allowed then answered next Done else answered t NotAllowed)
     else answered t NoSlot
+
+-- the slot of a command, where its first two refusals do not hold
+abbrev pub slot_asked : Table → ℕ → Result ℕ Refusal
+slot_asked t i = if i <? slot_count t.count then (if t.wait then Err R.WaitOpen else Ok i) else Err R.NoSlot
 
 -- 'state ADD, next free number. No wait opens.'
 unfoldable pub added_to : Table → ℕ → Table

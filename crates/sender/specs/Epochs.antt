@@ -7,11 +7,9 @@ use Rattle.packet.specs.Kinds.{epoch_after, frames, payload_right}
 use Rattle.packet.specs.Sent.{sent_answer, sent_bytes}
 use Rattle.payload.specs.Spreading.{one_answer, spread_one}
 use Rattle.sender.specs.declared.epochs.Sender.{Sender}
-use Rattle.sender.specs.declared.epochs.SenderOutcome.{SenderOutcome}
+use Rattle.sender.specs.Answers.{SenderOutcome, Answer, Outcome}
 use Rattle.sender.specs.declared.ranks.Ranks.{Ranks}
-use Rattle.sender.specs.declared.table.Answer.{Answer}
-use Rattle.sender.specs.declared.table.Answer.TheVariants.{Done, NoSlot, NotAllowed, Field, Length, OutOfRange}
-use Rattle.sender.specs.declared.table.Outcome.{Outcome}
+use Rattle.sender.specs.Answers.Answer.{Done, NoSlot, NotAllowed, Field, Length, OutOfRange}
 use Rattle.sender.specs.declared.table.Table.{Table}
 use Rattle.sender.specs.Board.{board_of}
 use Rattle.sender.specs.Calls.{Call, outcome_of}

@@ -9,3 +9,4 @@ pub mod Reporting
 pub mod Runs
 pub mod Sizes
 pub mod Speaking
+pub mod Told

@@ -1,3 +1,4 @@
+pub mod Answers
 pub mod Board
 pub mod Calls
 pub mod Commands

@@ -3,8 +3,8 @@ use Rattle.std.specs.Prelude.{Ok, Err}
 use Rattle.packet.specs.Writing.{Writing}
 use Rattle.packet.specs.declared.writer.Unwritten.TheVariants as W
 use Rattle.payload.specs.declared.answer.Answer as P
-use Rattle.sender.specs.declared.table.Answer.{Answer}
-use Rattle.sender.specs.declared.table.Answer.TheVariants as A
+use Rattle.sender.specs.Answers.{Answer}
+use Rattle.sender.specs.Answers.{Answer as A}
 
 abbrev pub written : Writing → Answer
 written (Ok u) = A.Done

@@ -2,8 +2,8 @@
 use Rattle.std.specs.Prelude.{Bool, true, false, ◌&&◌, List, ℕ, zero, suc, get_or, if◌then◌else◌, ◌==◌, Option, Some, None}
 use Rattle.ground.specs.Sizes.{size_of}
 use Rattle.ground.specs.Counting.Words.{count}
-use Rattle.sender.specs.declared.table.Answer.{Answer}
-use Rattle.sender.specs.declared.table.Answer.TheVariants.{Done, NoSlot, NotAllowed, WaitOpen, OutOfRange, Field, Length}
+use Rattle.sender.specs.Answers.{Answer}
+use Rattle.sender.specs.Answers.Answer.{Done, NoSlot, NotAllowed, WaitOpen, OutOfRange, Field, Length}
 use Rattle.sender.specs.declared.table.Slot.{Slot}
 use Rattle.sender.specs.declared.table.State.{State}
 use Rattle.sender.specs.declared.table.State.TheVariants.{Idle, Add, Active, Dnu}

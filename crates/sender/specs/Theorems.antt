@@ -4,3 +4,4 @@ pub mod Epochs
 pub mod NoSecondAnswer
 pub mod Packets
 pub mod Reports
+pub mod Told

@@ -1,11 +1,13 @@
 // Start, add, remove and lapse (01, 'The sender's table'; for commands the refusals are 1, 3, 2).
-ghost use Rattle.std.specs.Prelude.{◌≡◌, ◌<◌, map};
+ghost use Rattle.std.specs.Prelude.{◌≡◌, ◌<◌, map, IfOk};
+ghost use Rattle.sender.specs.Answers.{told};
 ghost use Rattle.sender.specs.Calls.{outcome_of};
 ghost use Rattle.sender.specs.Calls.Call.{AddSlot, RemoveSlot, Lapse};
-ghost use Rattle.sender.specs.Commands.{added_to, fallen, fresh_of, idle_slot, removed_from, start_of};
+ghost use Rattle.sender.specs.Commands.{added_to, fallen, fresh_of, idle_slot, removed_from, slot_asked, start_of};
 
+use crate::refusals::Refusal;
 use crate::table;
-use crate::table::{Answer, Outcome, Slot, State, Table};
+use crate::table::{Slot, State, Table};
 use packet::kinds;
 
 fn idle_slot(kind: u8) -> Slot
@@ -29,19 +31,35 @@ fn fresh(kind: u8, count: u8) -> Table
     }
 }
 
-pub fn start(kind: u8, count: u32) -> Outcome
-    ensures { result ≡ start_of kind count }
+// What no slot is asked of.
+pub fn empty(kind: u8) -> Table
+    ensures { result ≡ (start_of kind 0).table }
+{
+    fresh(kind, 0)
+}
+
+pub fn start(kind: u8, count: u32) -> Result<Table, Refusal>
+    ensures { result ≡ told (start_of kind count) }
 {
     if count == 0 || count > 64 {
-        return Outcome {
-            table: fresh(kind, 0),
-            answer: Answer::OutOfRange,
-        };
+        return Err(Refusal::OutOfRange);
     }
-    Outcome {
-        table: fresh(kind, count as u8),
-        answer: Answer::Done,
+    Ok(fresh(kind, count as u8))
+}
+
+// A command's slot: 1, then 3.
+fn slot_of(table: Table, slot: u32) -> Result<usize, Refusal>
+    ensures value { result ≡ slot_asked table slot }
+    ensures within { IfOk result (λ at. at < 64) }
+{
+    let at = slot as usize;
+    if at >= table::size(table.count) {
+        return Err(Refusal::NoSlot);
     }
+    if table.wait {
+        return Err(Refusal::WaitOpen);
+    }
+    Ok(at)
 }
 
 fn added_to(table: Table, at: usize) -> Table
@@ -57,33 +75,14 @@ fn added_to(table: Table, at: usize) -> Table
     Table { slots, ..table }
 }
 
-pub fn add(table: Table, slot: u32) -> Outcome
-    ensures { result ≡ outcome_of table (AddSlot slot) }
+pub fn add(table: Table, slot: u32) -> Result<Table, Refusal>
+    ensures { result ≡ told (outcome_of table (AddSlot slot)) }
 {
-    let n = table::size(table.count);
-    let at = slot as usize;
-    if at >= n {
-        return Outcome {
-            table,
-            answer: Answer::NoSlot,
-        };
-    }
-    if table.wait {
-        return Outcome {
-            table,
-            answer: Answer::WaitOpen,
-        };
-    }
+    let at = slot_of(table, slot)?;
     if table::is_member(table.slots[at].state) {
-        return Outcome {
-            table,
-            answer: Answer::NotAllowed,
-        };
+        return Err(Refusal::NotAllowed);
     }
-    Outcome {
-        table: added_to(table, at),
-        answer: Answer::Done,
-    }
+    Ok(added_to(table, at))
 }
 
 // 'Higher numbers fall by one.'
@@ -123,49 +122,24 @@ fn removed_from(table: Table, at: usize) -> Table
     }
 }
 
-pub fn remove(table: Table, slot: u32) -> Outcome
-    ensures { result ≡ outcome_of table (RemoveSlot slot) }
+pub fn remove(table: Table, slot: u32) -> Result<Table, Refusal>
+    ensures { result ≡ told (outcome_of table (RemoveSlot slot)) }
 {
-    let n = table::size(table.count);
-    let at = slot as usize;
-    if at >= n {
-        return Outcome {
-            table,
-            answer: Answer::NoSlot,
-        };
+    let at = slot_of(table, slot)?;
+    if !table::is_member(table.slots[at].state) {
+        return Err(Refusal::NotAllowed);
     }
-    if table.wait {
-        return Outcome {
-            table,
-            answer: Answer::WaitOpen,
-        };
-    }
-    if table::is_member(table.slots[at].state) {
-        return Outcome {
-            table: removed_from(table, at),
-            answer: Answer::Done,
-        };
-    }
-    Outcome {
-        table,
-        answer: Answer::NotAllowed,
-    }
+    Ok(removed_from(table, at))
 }
 
-pub fn lapse(table: Table) -> Outcome
-    ensures { result ≡ outcome_of table Lapse }
+pub fn lapse(table: Table) -> Result<Table, Refusal>
+    ensures { result ≡ told (outcome_of table Lapse) }
 {
-    if table.wait {
-        return Outcome {
-            table: Table {
-                wait: false,
-                ..table
-            },
-            answer: Answer::Done,
-        };
+    if !table.wait {
+        return Err(Refusal::NotAllowed);
     }
-    Outcome {
-        table,
-        answer: Answer::NotAllowed,
-    }
+    Ok(Table {
+        wait: false,
+        ..table
+    })
 }

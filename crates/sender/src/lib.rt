@@ -6,12 +6,14 @@ mod commands;
 mod epochs;
 mod finding;
 mod ranks;
+mod refusals;
 mod reports;
 mod table;
 
 pub use board::{Board, Row, board_of};
-pub use commands::{add, lapse, remove, start};
-pub use epochs::{Sender, SenderOutcome};
+pub use commands::{add, empty, lapse, remove, start};
+pub use epochs::Sender;
 pub use ranks::Ranks;
+pub use refusals::Refusal;
 pub use reports::report;
-pub use table::{Answer, Outcome, Slot, State, Table, is_member};
+pub use table::{Slot, State, Table, is_member};

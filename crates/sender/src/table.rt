@@ -1,6 +1,6 @@
-// The table of slots by value, and what each call gives back.
+// The table of slots by value.
 ghost use Rattle.std.specs.Prelude.{◌≡◌, ◌≤◌, count_by, length};
-ghost use Rattle.sender.specs.Table.{answer_number, is_add, is_active, is_member, slot_count};
+ghost use Rattle.sender.specs.Table.{is_add, is_active, is_member, slot_count};
 
 #[derive(Clone, Copy)]
 pub enum State {
@@ -24,39 +24,6 @@ pub struct Table {
     pub wait: bool,
     pub remembered: u8,
     pub kind: u8,
-}
-
-#[derive(Clone, Copy)]
-pub enum Answer {
-    Done,
-    NoSlot,
-    NotAllowed,
-    WaitOpen,
-    OutOfRange,
-    Field,
-    Length,
-}
-
-impl Answer {
-    pub fn number(self) -> u8
-        ensures { result ≡ answer_number self }
-    {
-        match self {
-            Answer::Done => 0,
-            Answer::NoSlot => 1,
-            Answer::NotAllowed => 2,
-            Answer::WaitOpen => 3,
-            Answer::OutOfRange => 4,
-            Answer::Field => 8,
-            Answer::Length => 9,
-        }
-    }
-}
-
-#[derive(Clone, Copy)]
-pub struct Outcome {
-    pub table: Table,
-    pub answer: Answer,
 }
 
 pub fn is_member(state: State) -> bool

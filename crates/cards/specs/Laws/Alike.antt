@@ -7,11 +7,9 @@ use Rattle.std.proofs.Math.Dec.{ltb}
 use Rattle.sender.specs.declared.epochs.Sender.{Sender}
 use Rattle.sender.specs.Epochs.{SenderCall, sender_outcome_of}
 use Rattle.sender.specs.Table.{is_member, slot_count, slot_at}
-use Rattle.cards.specs.declared.answers.Answer.{Answer}
-use Rattle.cards.specs.declared.answers.Answer.TheVariants.{NoSlot, Owned, Used}
+use Rattle.cards.specs.Answers.{Answer, CardOutcome, from_sender}
+use Rattle.cards.specs.Answers.Answer.{NoSlot, Owned, Used}
 use Rattle.cards.specs.declared.card.Card.{Card}
-use Rattle.cards.specs.declared.card.CardOutcome.{CardOutcome}
-use Rattle.cards.specs.Answers.{from_sender}
 use Rattle.cards.specs.Calls.{Call, outcome_of}
 use Rattle.cards.specs.Calls.Call.{Claim, Release, AddSlot, RemoveSlot, Report, Lapse, StartEpoch}
 use Rattle.cards.specs.Commands.{claim_of, command_of, group_call_of, of_own, release_of, sent_of}

@@ -6,9 +6,9 @@ use Rattle.std.proofs.Math.Bool.{true, false, cond}
 use Rattle.std.proofs.Math.Dec.{eqb}
 use Rattle.ground.specs.Truth.{and_left, neither}
 use Rattle.sender.specs.Epochs.{SenderCall, sender_outcome_of}
-use Rattle.cards.specs.declared.answers.Answer.TheVariants.{Done, NoSlot, Owned, Used}
+use Rattle.cards.specs.Answers.Answer.{Done, NoSlot, Owned, Used}
 use Rattle.cards.specs.declared.card.Card.{Card}
-use Rattle.cards.specs.declared.card.CardOutcome.{CardOutcome}
+use Rattle.cards.specs.Answers.{CardOutcome}
 use Rattle.cards.specs.Alone.{Seen, claim_seen, own_in, own_seen, release_seen, seen, sent_seen, slot_in, with_own}
 use Rattle.cards.specs.Commands.{claim_of, command_of, group_call_of, of_own, release_of, sent_of}
 use Rattle.cards.specs.Laws.Seeing.{mark_some, marks_apart, own_is, owner_is, owners_outcome, owns_marked, sender_marked, sender_other, slot_is, slot_low, view_marked, view_outcome, view_same}

@@ -1,6 +1,6 @@
 -- A group's sender on the card: its answer has one number for the card and for the sender, and a sender put back where it was leaves the card.
 use Rattle.std.specs.Prelude.{◌≡◌, refl, Bool, true, false, cond, ℕ, eqb}
-use Rattle.sender.specs.declared.table.Answer as S
+use Rattle.sender.specs.Answers as S
 use Rattle.sender.specs.Table.{answer_number as sender_number}
 use Rattle.cards.specs.declared.card.Card.{Card}
 use Rattle.cards.specs.Answers.{answer_number, from_sender}

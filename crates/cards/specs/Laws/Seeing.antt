@@ -4,7 +4,7 @@ use Rattle.std.proofs.Common.{◌∙◌, sym, ap, arith, lt-ltb, ltb-true}
 use Rattle.ground.specs.Table.{tabulate, get_or_tabulate, tabulate_ext}
 use Rattle.ground.specs.Truth.{and_right}
 use Rattle.sender.specs.declared.epochs.Sender.{Sender}
-use Rattle.sender.specs.declared.epochs.SenderOutcome.{SenderOutcome}
+use Rattle.sender.specs.Answers.{SenderOutcome}
 use Rattle.sender.specs.Laws.Sizes.{size_le}
 use Rattle.cards.specs.declared.card.Card.{Card}
 use Rattle.cards.specs.Alone.{own_in, slot_in, with_own}

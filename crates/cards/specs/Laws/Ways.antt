@@ -3,10 +3,9 @@ use Rattle.std.specs.Prelude.{ℕ, ◌<◌, ltb}
 use Rattle.std.proofs.Common.{ltb-true}
 use Rattle.ground.specs.Truth.{cond_by}
 use Rattle.sender.specs.Epochs.{SenderCall}
-use Rattle.cards.specs.declared.answers.Answer.{Answer}
-use Rattle.cards.specs.declared.answers.Answer.TheVariants.{NoSlot, Owned, Used}
+use Rattle.cards.specs.Answers.{Answer, CardOutcome}
+use Rattle.cards.specs.Answers.Answer.{NoSlot, Owned, Used}
 use Rattle.cards.specs.declared.card.Card.{Card}
-use Rattle.cards.specs.declared.card.CardOutcome.{CardOutcome}
 use Rattle.cards.specs.Calls.{Call, outcome_of}
 use Rattle.cards.specs.Calls.Call.{Claim, Release, AddSlot, RemoveSlot, Report, Lapse, StartEpoch}
 use Rattle.cards.specs.Commands.{claim_of, command_of, group_call_of, release_of, sent_of}

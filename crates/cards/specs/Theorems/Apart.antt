@@ -8,11 +8,10 @@ use Rattle.ground.specs.Flags.{one_if}
 use Rattle.ground.specs.Table.{tabulate, tabulate_ext}
 use Rattle.sender.specs.Epochs as E
 use Rattle.cards.specs.Views.{Asked, Made, Same, View, asked_by, bit_of, bits_of, card_after, replies_to, reply_to, run, view_of}
-use Rattle.cards.specs.declared.answers.Answer.{Answer}
-use Rattle.cards.specs.declared.answers.Answer.TheVariants as A
+use Rattle.cards.specs.Answers.{Answer, from_sender}
+use Rattle.cards.specs.Answers.{Answer as A}
 use Rattle.cards.specs.declared.card.Card.{Card}
 use Rattle.cards.specs.Alone.{Seen, outcome_seen, own_answer, own_bytes, own_in, replies_seen, reply_seen, slot_in, view_after, view_seen}
-use Rattle.cards.specs.Answers.{from_sender}
 use Rattle.cards.specs.Calls.{Call, outcome_of}
 use Rattle.cards.specs.Calls.Call.{Claim, Release, AddSlot, RemoveSlot, Report, Lapse, StartEpoch}
 use Rattle.cards.specs.Laws.EachCall.{choice, kept_claim, kept_command, kept_group_call, kept_release, see, see_claim, see_command, see_group_call, see_release}

@@ -9,8 +9,8 @@ use Rattle.sender.specs.Theorems.Epochs.{demand2_kept}
 use Rattle.sender.specs.declared.board.Board.{Board as B}
 use Rattle.sender.specs.declared.board.Row.{Row as R}
 use Rattle.sender.specs.declared.epochs.Sender.{Sender}
-use Rattle.sender.specs.declared.epochs.SenderOutcome.{SenderOutcome}
-use Rattle.sender.specs.declared.table.Answer.TheVariants as S
+use Rattle.sender.specs.Answers.{SenderOutcome}
+use Rattle.sender.specs.Answers.{Answer as S}
 use Rattle.sender.specs.declared.table.State.{State}
 use Rattle.sender.specs.declared.table.State.TheVariants.{Idle, Add, Active, Dnu}
 use Rattle.sender.specs.declared.table.Table.{Table}
@@ -26,7 +26,7 @@ use Rattle.sender.specs.Numbering.{slots_in, state_in}
 use Rattle.sender.specs.Ranks.{row_at}
 use Rattle.sender.specs.Table.{is_member, slot_count, slot_at}
 use Rattle.cards.specs.Views.{Asked, Made, View, bit_of, card_after, card_from, run, view_of}
-use Rattle.cards.specs.declared.answers.Answer.TheVariants as A
+use Rattle.cards.specs.Answers.{Answer as A}
 use Rattle.cards.specs.declared.card.Card.{Card}
 use Rattle.cards.specs.Alone.{Seen, outcome_seen, own_in, own_seen, seen, sent_seen, slot_in, view_after, with_own}
 use Rattle.cards.specs.Calls.{Call}

@@ -4,10 +4,9 @@ use Rattle.std.proofs.Common.{◌∙◌, sym, ap, arith, eq-eqb, lt-ltb}
 use Rattle.ground.specs.Table.{get_or_tabulate}
 use Rattle.cards.specs.Theorems.Owned.{counts}
 use Rattle.cards.specs.Views.{Made, card_from}
-use Rattle.cards.specs.declared.answers.Answer.TheVariants.{Done, NoSlot, Owned, Used}
+use Rattle.cards.specs.Answers.Answer.{Done, NoSlot, Owned, Used}
 use Rattle.cards.specs.declared.card.Card.{Card}
-use Rattle.cards.specs.declared.card.CardOutcome.{CardOutcome}
-use Rattle.cards.specs.Answers.{answer_number}
+use Rattle.cards.specs.Answers.{CardOutcome, answer_number}
 use Rattle.cards.specs.Commands.{claim_of, release_of}
 use Rattle.cards.specs.Laws.Seeing.{slot_low}
 use Rattle.cards.specs.Owners.{has_owner, mark_of, owner_in, with_owner}

@@ -1,7 +1,7 @@
 -- 'State and answers equal those of calling one by one in that order, refusals included. A list of no commands changes nothing.' (02, 2026-07) On any card, also on those that no call returned.
 use Rattle.std.specs.Prelude.{◌≡◌, refl, ◌≢◌, List, [], ◌∷◌, ℕ, length}
 use Rattle.std.proofs.Common.{ap, eq-eqb, ne_eqb}
-use Rattle.cards.specs.declared.answers.Answer.TheVariants as A
+use Rattle.cards.specs.Answers.{Answer as A}
 use Rattle.cards.specs.declared.card.Card.{Card}
 use Rattle.cards.specs.Views.{run}
 use Rattle.orders.specs.declared.commands.Command.{Command}

@@ -10,7 +10,7 @@ use Rattle.ground.specs.Truth.{eq_or_ne}
 use Rattle.ground.specs.Counting.Each.{each, length_each, get_or_each}
 use Rattle.ground.specs.Counting.Words.{count}
 use Rattle.packet.specs.Kinds.{idle_number, mst_fails, mst_first, mst_numbers}
-use Rattle.sender.specs.declared.table.Answer.TheVariants.{Done, NoSlot, NotAllowed, OutOfRange, WaitOpen}
+use Rattle.sender.specs.Answers.Answer.{Done, NoSlot, NotAllowed, OutOfRange, WaitOpen}
 use Rattle.sender.specs.declared.table.Slot.{Slot}
 use Rattle.sender.specs.declared.table.State.{State}
 use Rattle.sender.specs.declared.table.State.TheVariants.{Idle, Add, Active, Dnu}

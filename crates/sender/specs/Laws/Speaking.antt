@@ -18,8 +18,8 @@ use Rattle.ground.specs.Counting.Words.{count}
 use Rattle.packet.specs.Kinds.{mst_fails, mst_first, mst_numbers}
 use Rattle.packet.specs.Laws.Mst.{spoken_or_not}
 use Rattle.packet.specs.Mst.{Spoken}
-use Rattle.sender.specs.declared.table.Answer.TheVariants.{Done, NoSlot, NotAllowed, WaitOpen}
-use Rattle.sender.specs.declared.table.Outcome.{Outcome}
+use Rattle.sender.specs.Answers.Answer.{Done, NoSlot, NotAllowed, WaitOpen}
+use Rattle.sender.specs.Answers.{Outcome}
 use Rattle.sender.specs.declared.table.Slot.{Slot}
 use Rattle.sender.specs.declared.table.State.{State}
 use Rattle.sender.specs.declared.table.State.TheVariants.{Idle, Add, Active, Dnu}

@@ -11,8 +11,8 @@ use Rattle.sender.specs.Numbering.{number_in, slots_in, state_in}
 use Rattle.sender.specs.SenderRuns.{Demand2Kept, Fixed}
 use Rattle.sender.specs.declared.board.Board.{Board}
 use Rattle.sender.specs.declared.epochs.Sender.{Sender}
-use Rattle.sender.specs.declared.epochs.SenderOutcome.{SenderOutcome}
-use Rattle.sender.specs.declared.table.Answer.TheVariants.{Done, Field}
+use Rattle.sender.specs.Answers.{SenderOutcome}
+use Rattle.sender.specs.Answers.Answer.{Done, Field}
 use Rattle.sender.specs.declared.table.Table.{Table}
 use Rattle.sender.specs.Board.{board_of}
 use Rattle.sender.specs.Calls.{Call}

@@ -20,8 +20,8 @@ use Rattle.sender.specs.Theorems.Epochs.{SoundSender, sender_sound}
 use Rattle.sender.specs.declared.board.Board.{Board}
 use Rattle.sender.specs.declared.board.Row.{Row}
 use Rattle.sender.specs.declared.epochs.Sender.{Sender}
-use Rattle.sender.specs.declared.epochs.SenderOutcome.{SenderOutcome}
-use Rattle.sender.specs.declared.table.Answer.TheVariants.{Done, Field}
+use Rattle.sender.specs.Answers.{SenderOutcome}
+use Rattle.sender.specs.Answers.Answer.{Done, Field}
 use Rattle.sender.specs.declared.table.State.{State}
 use Rattle.sender.specs.declared.table.State.TheVariants.{Idle, Add, Active, Dnu}
 use Rattle.sender.specs.declared.table.Table.{Table}

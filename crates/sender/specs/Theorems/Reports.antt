@@ -3,7 +3,7 @@ use Rattle.std.specs.Prelude.{◌≡◌, refl, Bool, true, false, List, [], ◌�
 use Rattle.std.proofs.Common.{◌∙◌, sym, ap, true≢false}
 use Rattle.std.proofs.lemmas.Bool.{false≢true}
 use Rattle.packet.specs.Kinds.{idle_number, mst_epochs, mst_fails, mst_first, mst_numbers}
-use Rattle.sender.specs.declared.table.Outcome.{Outcome}
+use Rattle.sender.specs.Answers.{Outcome}
 use Rattle.sender.specs.declared.table.Table.{Table}
 use Rattle.sender.specs.Calls.{Call, outcome_of}
 use Rattle.sender.specs.Calls.Call.{AddSlot, Report, Lapse}

@@ -1,8 +1,12 @@
-use Rattle.sender.proofs.Sending.{next_number, first_number}
+use Rattle.std.proofs.Common.{arith}
+use Rattle.std.proofs.lemmas.Grind.{common_steps}
+use Rattle.sender.specs.Epochs.{started_epoch}
 use Rattle.sender.proofs.epochs.epoch_started.Goals as goal
 
 pub returns-then-sender : goal.returns-then-sender
-returns-then-sender c = next_number _ c.if-sender.true c.next_epoch.ensures
+unfolding started_epoch
+returns-then-sender c = grind (arith, common_steps)
 
 pub returns : goal.returns
-returns c = first_number _ c.if-sender.false
+unfolding started_epoch
+returns c = grind (arith, common_steps)

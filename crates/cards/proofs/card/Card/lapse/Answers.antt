@@ -1,8 +1,17 @@
-use Rattle.cards.proofs.Answering.{no_group, group_done}
+use Rattle.std.proofs.Common.{arith}
+use Rattle.std.proofs.lemmas.Grind.{common_steps}
+use Rattle.cards.specs.Commands.{group_call_of}
+use Rattle.cards.specs.Parts.{group_outcome}
 use Rattle.cards.proofs.card.Card.lapse.Goals as goal
 
-pub returns-then-group-ge2 : goal.returns-then-group-ge2
-returns-then-group-ge2 c = no_group c.args.self c.args.group _ c.if-group-ge2.true c.refuse.ensures
+pub returns-in_err-check_group : goal.returns-in_err-check_group
+unfolding group_call_of group_outcome
+returns-in_err-check_group c = grind (arith, common_steps)
+
+pub returns-in_err-sender : goal.returns-in_err-sender
+unfolding group_call_of group_outcome
+returns-in_err-sender c = grind (arith, common_steps)
 
 pub returns : goal.returns
-returns c = group_done c.args.self c.args.group _ c.if-group-ge2.false c.sender_of-sender.ensures c.lapse-outcome.ensures c.group_outcome.ensures
+unfolding group_call_of group_outcome
+returns c = grind (arith, common_steps)

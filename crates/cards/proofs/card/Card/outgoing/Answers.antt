@@ -1,6 +1,13 @@
+use Rattle.std.proofs.Common.{arith}
+use Rattle.std.proofs.lemmas.Grind.{common_steps}
 use Rattle.cards.specs.Readings.{outgoing_shown}
+use Rattle.cards.specs.Parts.{shown_sender}
 use Rattle.cards.proofs.card.Card.outgoing.Goals as goal
 
+pub returns-in_err-check_group : goal.returns-in_err-check_group
+unfolding outgoing_shown shown_sender
+returns-in_err-check_group c = grind (arith, common_steps)
+
 pub returns : goal.returns
-unfolding outgoing_shown
-returns c = rw (c.group_answer.ensures, c.shown_sender-sender.ensures)
+unfolding outgoing_shown shown_sender
+returns c = grind (arith, common_steps)

@@ -1,6 +1,13 @@
+use Rattle.std.proofs.Common.{arith}
+use Rattle.std.proofs.lemmas.Grind.{common_steps}
 use Rattle.cards.specs.Readings.{ranks_shown}
+use Rattle.cards.specs.Parts.{shown_sender}
 use Rattle.cards.proofs.card.Card.ranks.Goals as goal
 
+pub returns-in_err-check_group : goal.returns-in_err-check_group
+unfolding ranks_shown shown_sender
+returns-in_err-check_group c = grind (arith, common_steps)
+
 pub returns : goal.returns
-unfolding ranks_shown
-returns c = rw (c.group_answer.ensures, c.ranks.ensures, c.shown_sender-sender.ensures)
+unfolding ranks_shown shown_sender
+returns c = grind (arith, common_steps)

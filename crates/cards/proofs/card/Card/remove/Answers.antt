@@ -1,12 +1,17 @@
--- `Card::remove` meets its contract: no such slot, another group's slot, else the group's own remove. Each exit cites one law of a command, in the order of the tests.
-use Rattle.cards.proofs.Answering.{command_no_slot, command_other, command_done}
+use Rattle.std.proofs.Common.{arith}
+use Rattle.std.proofs.lemmas.Grind.{common_steps}
+use Rattle.cards.specs.Commands.{command_of}
+use Rattle.cards.specs.Parts.{group_outcome}
 use Rattle.cards.proofs.card.Card.remove.Goals as goal
 
-pub returns-then-not-is_slot : goal.returns-then-not-is_slot
-returns-then-not-is_slot c = command_no_slot c.args.self c.args.group c.args.slot c.is_slot.ensures _ (c.if-not-is_slot.true) c.refuse.ensures
+pub returns-in_err-check_own : goal.returns-in_err-check_own
+unfolding command_of group_outcome
+returns-in_err-check_own c = grind (arith, common_steps)
 
-pub returns-then-not-is_own : goal.returns-then-not-is_own
-returns-then-not-is_own c = command_other c.args.self c.args.group c.args.slot c.is_slot.ensures (c.if-not-is_slot.false) c.is_own.ensures _ (c.if-not-is_own.true) c.refuse-then-not-is_own.ensures
+pub returns-in_err-sender : goal.returns-in_err-sender
+unfolding command_of group_outcome
+returns-in_err-sender c = grind (arith, common_steps)
 
 pub returns : goal.returns
-returns c = command_done c.args.self c.args.group c.args.slot c.is_slot.ensures (c.if-not-is_slot.false) c.is_own.ensures (c.if-not-is_own.false) _ c.sender_of-sender.ensures c.remove-outcome.ensures c.group_outcome.ensures
+unfolding command_of group_outcome
+returns c = grind (arith, common_steps)

@@ -1,5 +1,12 @@
-use Rattle.sender.proofs.Sending.{begun_as}
+use Rattle.std.proofs.Common.{arith}
+use Rattle.std.proofs.lemmas.Grind.{common_steps}
+use Rattle.sender.specs.Epochs.{begin_of}
 use Rattle.sender.proofs.epochs.Sender.start.Goals as goal
 
+pub returns-in_err-table : goal.returns-in_err-table
+unfolding begin_of
+returns-in_err-table c = grind (arith, common_steps)
+
 pub returns : goal.returns
-returns c = begun_as _ _ _ c.start-outcome.ensures c.fresh_sender.ensures
+unfolding begin_of
+returns c = grind (arith, common_steps)

@@ -1,5 +1,0 @@
-use Rattle.sender.proofs.Sending.{outcome_put}
-use Rattle.sender.proofs.epochs.Sender.remove.Goals as goal
-
-pub returns : goal.returns
-returns c = outcome_put c.args.self c.remove.ensures c.with_outcome.ensures
