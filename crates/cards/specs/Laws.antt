@@ -4,5 +4,4 @@ pub mod EachCall
 pub mod GroupSender
 pub mod Members
 pub mod Seeing
-pub mod Told
 pub mod Ways

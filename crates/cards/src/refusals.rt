@@ -1,7 +1,7 @@
 // What a card's calls refuse with: what a sender's do, then 14 and 15 (02, 2026-06).
 ghost use Rattle.std.specs.Prelude.{◌≡◌};
 ghost use Rattle.cards.specs.Answers.{from_refusal, group_answer, only_told, refusal_number};
-ghost use Rattle.cards.specs.Laws.Told.{some_number};
+ghost use Rattle.std.proofs.Common.{rules};
 
 #[derive(Clone, Copy, PartialEq, Eq)]
 pub enum Refusal {
@@ -31,7 +31,7 @@ impl ground::Refusal for Refusal {
         }
     }
 
-    ghost is_no_zero = { some_number };
+    ghost is_no_zero = { Prim.search rules };
 }
 
 impl From<sender::Refusal> for Refusal {

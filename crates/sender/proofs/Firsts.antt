@@ -1,14 +1,14 @@
 -- Some, how many and which of the first n of a list: what a chain of iterators over `&xs[..n]` gives is what the definitions have.
-use Rattle.std.specs.Prelude.{◌≡◌, refl, Bool, true, false, cond, not, ◌&&◌, ◌||◌, List, Option, Some, None, ℕ, zero, suc, ◌+◌, ◌≤◌, ◌<◌, ltb, length, get_or, take, count_by, position}
+use Rattle.std.specs.Prelude.{◌≡◌, refl, Bool, true, false, cond, not, ◌&&◌, List, Option, Some, None, ℕ, zero, suc, ◌+◌, ◌≤◌, ◌<◌, ltb, length, get_or, take, count_by, position}
 use Rattle.std.specs.List.{list_any, position_or_len, zip}
 use Rattle.std.proofs.Common.{◌++◌, map, drop, set, subst, sym, ap, ◌∙◌, add-one, arith, length-take, ltb-true}
 use Rattle.std.proofs.lemmas.Bool.{ltb-false}
 use Rattle.std.proofs.lemmas.List.{get_or-take, get_or_default, length-take-le, take_all}
 use Rattle.std.proofs.lemmas.List.Edits.{map_over_more}
-use Rattle.std.proofs.lemmas.List.Folds.{list_any_more}
-use Rattle.std.proofs.lemmas.List.Sums.{count_by_more_no, count_by_more_yes, fails_before_first, passes_at_first}
+use Rattle.std.proofs.lemmas.List.Sums.{fails_before_first, passes_at_first}
 use Rattle.std.proofs.lemmas.Slice.Zip.{get_or-zip, length-zip}
 use Rattle.ground.specs.Counting.Each.{Done, done_none, done_more, done_next, done_all}
+use Rattle.ground.specs.Counting.Laws.Chains.{any_first, count_first}
 use Rattle.ground.specs.Counting.Laws.Numbers.{count_ext}
 use Rattle.ground.specs.Counting.Laws.Tests.{some_ext}
 use Rattle.ground.specs.Counting.Words.{count, some}
@@ -21,28 +21,6 @@ use Rattle.sender.specs.Laws.Finding.{holder_here, holder_nowhere}
 use Rattle.sender.specs.Ranks.{carries, carriers_in, rank_of, rank_under}
 use Rattle.sender.specs.Reports.{comes_before, number_after, opens_wait}
 use Rattle.sender.specs.Table.{holder_of, holds, is_active, is_add, is_member, members_of, slot_at}
-
-module _ {X : Type 0} (p : X → Bool) (xs : List X) (d : X) where
-  count_next : (n : ℕ) → n < length xs → count_by p (take (n + 1) xs) ≡ count_by p (take n xs) + cond (p (get_or xs n d)) 1 0
-  count_next n h = go (p (get_or xs n d)) refl
-    where
-      go : (b : Bool) → p (get_or xs n d) ≡ b → count_by p (take (n + 1) xs) ≡ count_by p (take n xs) + cond b 1 0
-      go true e = count_by_more_yes p xs n d h e
-      go false e = count_by_more_no p xs n d h e ∙ (omega arith)
-
-  count_first : (n : ℕ) → n ≤ length xs → count_by p (take n xs) ≡ count n (λ i. p (get_or xs i d))
-  count_first zero h = refl
-  count_first (suc n) h =
-      let rest : count_by p (take n xs) ≡ count n (λ i. p (get_or xs i d)) = count_first n (omega arith) in
-      let next : count_by p (take (suc n) xs) ≡ count_by p (take n xs) + cond (p (get_or xs n d)) 1 0 = rw add-one at (count_next n (omega arith)) in
-      next ∙ ap (λ m. m + cond (p (get_or xs n d)) 1 0) rest
-
-  some_first : (n : ℕ) → n ≤ length xs → list_any p (take n xs) ≡ some n (λ i. p (get_or xs i d))
-  some_first zero h = refl
-  some_first (suc n) h =
-      let rest : list_any p (take n xs) ≡ some n (λ i. p (get_or xs i d)) = some_first n (omega arith) in
-      let next : list_any p (take (suc n) xs) ≡ (list_any p (take n xs) || p (get_or xs n d)) = rw add-one at (list_any_more p xs n d (omega arith)) in
-      next ∙ ap (λ b. b || p (get_or xs n d)) rest
 
 -- the first n of a list written anew in place, each by what stands there
 module _ {X : Type 0} (f : X → X) (xs : List X) (d : X) where
@@ -63,7 +41,7 @@ module _ (slots : List Slot) {n : ℕ} (h : n ≤ length slots) where
 
   pub higher_first : (q : ℕ) {r : Bool} → r ≡ list_any (λ s. is_active s.state && ltb q s.number) (take n slots) → not r ≡ highest slots n q
   unfolding highest
-  higher_first q e = ap not (e ∙ some_first (λ s. is_active s.state && ltb q s.number) slots _ n h)
+  higher_first q e = ap not (e ∙ any_first (λ s. is_active s.state && ltb q s.number) slots _ n h)
 
   pub fallen_first : (q : ℕ) {r : List Slot} → r ≡ map (λ s. fallen q s) (take n slots) → r ++ drop n slots ≡ fallen_in slots n q
   unfolding fallen_in
@@ -111,7 +89,7 @@ module _ {X : Type 0} (f : X → X → Bool) (xs ys : List X) (d : X) (n : ℕ) 
 
   some_pairs : list_any test pairs ≡ some n (λ i. f (get_or xs i d) (get_or ys i d))
   some_pairs =
-      sym (ap (λ (l : List (X × X)). list_any test l) whole) ∙ some_first test pairs (d, d) n (omega (arith, pairs_length))
+      sym (ap (λ (l : List (X × X)). list_any test l) whole) ∙ any_first test pairs (d, d) n (omega (arith, pairs_length))
       ∙ some_ext n _ _ tested
 
 module _ (was is : List Slot) {n : ℕ} (a : n ≤ length was) (b : n ≤ length is) where

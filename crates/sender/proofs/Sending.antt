@@ -1,6 +1,6 @@
 -- The payload of a slot, as the definitions have it.
-use Rattle.std.specs.Prelude.{◌≡◌, refl, Bool, true, false, cond, ◌&&◌, List, ℕ, ◌<◌, length, Result, Ok, Err}
-use Rattle.std.proofs.Common.{◌∙◌, sym, ap, ltb, lt-ltb}
+use Rattle.std.specs.Prelude.{◌≡◌, refl, true, false, List, ℕ, ◌<◌, length, Result, Err}
+use Rattle.std.proofs.Common.{◌∙◌, ap, lt-ltb}
 use Rattle.packet.specs.Kinds.{payload_right}
 use Rattle.payload.specs.declared.answer.Answer as P
 use Rattle.payload.specs.Spreading.{one_answer, spread_one}

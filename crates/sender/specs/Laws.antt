@@ -9,4 +9,3 @@ pub mod Reporting
 pub mod Runs
 pub mod Sizes
 pub mod Speaking
-pub mod Told

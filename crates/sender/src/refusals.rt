@@ -1,7 +1,7 @@
 // What the sender's calls refuse with (01, 'Answer numbers').
 ghost use Rattle.std.specs.Prelude.{◌≡◌};
 ghost use Rattle.sender.specs.Answers.{refusal_number, unwritten_as};
-ghost use Rattle.sender.specs.Laws.Told.{some_number};
+ghost use Rattle.std.proofs.Common.{rules};
 
 use packet::Unwritten;
 
@@ -29,7 +29,7 @@ impl ground::Refusal for Refusal {
         }
     }
 
-    ghost is_no_zero = { some_number };
+    ghost is_no_zero = { Prim.search rules };
 }
 
 impl From<Unwritten> for Refusal {

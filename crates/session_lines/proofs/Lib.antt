@@ -3,6 +3,7 @@ pub mod AsConsole
 pub mod Flags
 pub mod Gathers
 pub mod Keeping
+pub mod Replying
 pub mod Lengths
 pub mod Parting
 pub mod Reading

@@ -1,7 +1,7 @@
 -- What a line is answered (01, 'Session').
 use Rattle.std.specs.Prelude.{Bool, true, false, ℕ, if◌then◌else◌, ◌==◌}
 use Rattle.ground.specs.Types.{Bytes}
-use Rattle.sender.specs.declared.table.Outcome.{Outcome}
+use Rattle.sender.specs.Answers.{Outcome}
 use Rattle.sender.specs.declared.table.Table.{Table}
 use Rattle.sender.specs.Board.{board_of}
 use Rattle.sender.specs.Calls as S

@@ -1,9 +1,12 @@
 // What a line is answered (01, 'Session'): the number and the table afterwards.
 ghost use Rattle.std.specs.Prelude.{◌≡◌};
-ghost use Rattle.session_lines.specs.Replies.{is_board, replied_of, reply_of, size_reply};
+ghost use Rattle.std.specs.Result.{result_unwrap_or};
+ghost use Rattle.ground.specs.Refusals.{number_told};
+ghost use Rattle.sender.specs.Answers.{refusal_number};
+ghost use Rattle.session_lines.specs.Replies.{is_board, replied, reply_of};
 
 use crate::line::Line;
-use sender::{Outcome, Table};
+use sender::{Refusal, Table};
 
 #[derive(Clone, Copy)]
 pub struct Reply {
@@ -11,28 +14,13 @@ pub struct Reply {
     pub number: u8,
 }
 
-fn replied(outcome: Outcome) -> Reply
-    ensures { result ≡ replied_of outcome }
+// What a call leaves: a refused one the table as it was.
+fn replied(table: Table, answer: Result<Table, Refusal>) -> Reply
+    ensures { result ≡ replied (result_unwrap_or answer table) (number_told refusal_number answer) }
 {
-    let table = outcome.table;
-    let answer = outcome.answer;
     Reply {
-        table,
-        number: answer.number(),
-    }
-}
-
-// A count out of range leaves the table.
-fn size_reply(table: Table, count: u32) -> Reply
-    ensures { result ≡ size_reply table count }
-{
-    let fresh = replied(sender::start(table.kind, count));
-    if fresh.number == 0 {
-        return fresh;
-    }
-    Reply {
-        table,
-        number: fresh.number,
+        table: answer.unwrap_or(table),
+        number: ground::number_told(answer),
     }
 }
 
@@ -40,11 +28,14 @@ pub fn reply_to(table: Table, line: Line) -> Reply
     ensures { result ≡ reply_of table line }
 {
     match line {
-        Line::Size(count) => size_reply(table, count),
-        Line::Add(slot) => replied(sender::add(table, slot)),
-        Line::Remove(slot) => replied(sender::remove(table, slot)),
-        Line::Report(epoch, mst, ack) => replied(sender::report(table, epoch, mst, ack)),
-        Line::Lapse => replied(sender::lapse(table)),
+        Line::Size(count) => replied(table, sender::start(table.kind, count)),
+        Line::Add(slot) => replied(table, sender::add(table, slot)),
+        Line::Remove(slot) => replied(table, sender::remove(table, slot)),
+        Line::Report(epoch, mst, ack) => Reply {
+            table: sender::report(table, epoch, mst, ack),
+            number: 0,
+        },
+        Line::Lapse => replied(table, sender::lapse(table)),
         Line::Board => Reply { table, number: 0 },
         Line::Malformed => Reply { table, number: 13 },
     }

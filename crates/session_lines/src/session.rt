@@ -27,10 +27,8 @@ pub const OUTPUT_ROOM: usize = 1095;
 pub fn begin() -> Session
     ensures { result ≡ beginning }
 {
-    let empty = sender::start(kinds::H4, 0);
-    let table = empty.table;
     Session {
-        table,
+        table: sender::empty(kinds::H4),
         kept: Kept::nothing(),
     }
 }

@@ -1,6 +1,6 @@
 -- The code tells of a card's call by a Result, and loses nothing of its outcome: a refusal has the number of its answer, and a refused call leaves the card that it was given. A refused start leaves a card of two empty groups, and a refused reading shows what an empty group does.
 use Rattle.std.specs.Result.{result_unwrap_or}
-use Rattle.std.specs.Prelude.{◌≡◌, refl, Bool, true, false, cond, ◌||◌, ◌==◌, ◌≢◌, ℕ, replicate, Result, Ok, Err}
+use Rattle.std.specs.Prelude.{◌≡◌, refl, Bool, true, false, cond, ◌||◌, ◌==◌, ◌≢◌, ℕ, replicate}
 use Rattle.std.proofs.Common.{ap, ◌∙◌, ltb, sym}
 use Rattle.ground.specs.Refusals.{number_told}
 use Rattle.sender.specs.Answers as S
@@ -11,14 +11,13 @@ use Rattle.sender.specs.Commands as T
 use Rattle.sender.specs.Theorems.Told.{sender_stands}
 use Rattle.sender.specs.declared.epochs.Sender.{Sender}
 use Rattle.cards.specs.declared.card.Card.{Card}
-use Rattle.cards.specs.declared.refusals.Refusal.{Refusal}
-use Rattle.cards.specs.Answers.{Answer, BoardOutcome, CardOutcome, RanksOutcome, answer_back, answer_number, from_sender, given, group_answer, outcome_back, refusal_number, told}
+use Rattle.cards.specs.Answers.{Answer, CardOutcome, answer_back, answer_number, from_sender, given, group_answer, outcome_back, refusal_number, told}
 use Rattle.cards.specs.Answers.Answer.{Done, NoSlot, NotAllowed, WaitOpen, OutOfRange, Field, Length, Owned, Used}
 use Rattle.cards.specs.Calls.{Call, outcome_of}
 use Rattle.cards.specs.Commands.{sent_of, start_of}
 use Rattle.cards.specs.Laws.Ways.{by_ways}
 use Rattle.cards.specs.Owners.{owned_bytes}
-use Rattle.cards.specs.Parts.{empty_sender, group_outcome, marked, refused, sender_of, shown_sender, with_sender}
+use Rattle.cards.specs.Parts.{empty_sender, group_outcome, marked, sender_of, shown_sender, with_sender}
 use Rattle.cards.specs.Readings.{board_shown, outgoing_shown, ranks_shown, owned_shown}
 
 -- the number of what is told is the answer's

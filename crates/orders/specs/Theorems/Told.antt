@@ -1,5 +1,5 @@
 -- The code tells of an order by a Result, and loses nothing: an order that is refused leaves the card that it was given.
-use Rattle.std.specs.Prelude.{◌≡◌, refl, true, false, List, ℕ, take, length, ◌==◌}
+use Rattle.std.specs.Prelude.{◌≡◌, refl, List, ℕ, take, length, ◌==◌}
 use Rattle.std.specs.Result.{result_unwrap_or}
 use Rattle.std.proofs.Common.{ltb}
 use Rattle.ground.specs.Truth.{cond_by}

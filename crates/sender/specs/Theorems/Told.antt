@@ -1,19 +1,18 @@
 -- The code tells of a call by a Result, and loses nothing of its outcome: a refusal has the number of its answer, and a refused call leaves what it was given, so that whoever keeps that knows the whole outcome. A refused start alone leaves something else, the empty group.
 use Rattle.std.specs.Result.{result_unwrap_or}
-use Rattle.std.specs.Prelude.{◌≡◌, refl, Bool, true, false, cond, not, ◌||◌, ◌==◌, ◌&&◌, ◌≢◌, ℕ, Result, Ok, Err}
+use Rattle.std.specs.Prelude.{◌≡◌, refl, Bool, true, false, cond, not, ◌||◌, ◌==◌, ◌&&◌, ◌≢◌, ℕ}
 use Rattle.std.proofs.Common.{ap, ltb, sym}
 use Rattle.ground.specs.Refusals.{number_told}
 use Rattle.sender.specs.declared.epochs.Sender.{Sender}
-use Rattle.sender.specs.declared.refusals.Refusal.{Refusal}
 use Rattle.sender.specs.declared.table.Table.{Table}
-use Rattle.sender.specs.Answers.{Answer, Outcome, SenderOutcome, answer_back, given, only_told, outcome_back, refusal_number, sender_back, sender_told, told}
+use Rattle.sender.specs.Answers.{Answer, Outcome, SenderOutcome, answer_back, given, outcome_back, refusal_number, sender_back, sender_told, told}
 use Rattle.sender.specs.Answers.Answer.{Done, NoSlot, NotAllowed, WaitOpen, OutOfRange, Field, Length}
 use Rattle.sender.specs.Calls.{Call, outcome_of}
 use Rattle.sender.specs.Calls.Call.{AddSlot, RemoveSlot, Report, Lapse}
 use Rattle.sender.specs.Commands.{add_of, added_to, answered, fresh_of, in_order, lapse_of, remove_of, removed_from, start_of, with_slots}
 use Rattle.sender.specs.Epochs.{SenderCall, begin_of, fresh_sender, sender_outcome_of, start_epoch_of, started_sender}
 use Rattle.sender.specs.Epochs.SenderCall.{OnTable, StartEpoch}
-use Rattle.sender.specs.Reports.{acted_on, report_of, waited}
+use Rattle.sender.specs.Reports.{report_of}
 use Rattle.sender.specs.Table.{answer_number, is_member, slot_at, slot_count}
 
 -- the number of what is told is the answer's
@@ -74,6 +73,9 @@ refused_stands t Lapse n = go t.wait n
     go true n = absurd (n refl)
     go false n = refl
 
+pub table_kept : (t : Table) (c : Call) → result_unwrap_or (told (outcome_of t c)) t ≡ (outcome_of t c).table
+table_kept t c = told_kept (outcome_of t c).answer t (outcome_of t c).table (refused_stands t c)
+
 -- so that the table given and what is told give the outcome
 pub nothing_lost : (t : Table) (c : Call) → outcome_back t (told (outcome_of t c)) ≡ outcome_of t c
 nothing_lost t c =
@@ -91,6 +93,9 @@ sender_stands s (StartEpoch gid mst ack) n = go (ltb gid 2 && ltb ack 2) n
         → (cond {A = SenderOutcome} b (record { sender = started_sender s gid mst ack; answer = Done }) (record { sender = s; answer = Field })).sender ≡ s
     go true n = absurd (n refl)
     go false n = refl
+
+pub sender_kept : (s : Sender) (c : SenderCall) → result_unwrap_or (sender_told (sender_outcome_of s c)) s ≡ (sender_outcome_of s c).sender
+sender_kept s c = told_kept (sender_outcome_of s c).answer s (sender_outcome_of s c).sender (sender_stands s c)
 
 pub sender_lost : (s : Sender) (c : SenderCall) → sender_back s (sender_told (sender_outcome_of s c)) ≡ sender_outcome_of s c
 sender_lost s c =

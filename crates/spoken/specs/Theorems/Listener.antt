@@ -9,8 +9,8 @@ use Rattle.sender.specs.Commands.{start_of}
 use Rattle.sender.specs.Epochs.{SenderCall, begin_of, fresh_sender, sender_after, sender_outcome_of, sender_run, start_epoch_of, started_sender}
 use Rattle.sender.specs.declared.board.Board.{Board}
 use Rattle.sender.specs.declared.epochs.Sender.{Sender}
-use Rattle.sender.specs.declared.epochs.SenderOutcome.{SenderOutcome}
-use Rattle.sender.specs.declared.table.Answer.TheVariants as A
+use Rattle.sender.specs.Answers.{SenderOutcome}
+use Rattle.sender.specs.Answers.{Answer as A}
 use Rattle.sender.specs.declared.table.Table.{Table}
 use Rattle.sender.specs.Epochs.SenderCall.{OnTable, StartEpoch}
 use Rattle.sender.specs.Laws.Kept.{Sound, group_call, sound_call, sound_start}

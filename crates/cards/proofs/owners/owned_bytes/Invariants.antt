@@ -1,5 +1,5 @@
 -- The first bytes say whether their slots are the group's.
-use Rattle.std.specs.Prelude.{◌&&◌, ◌<◌}
+use Rattle.std.specs.Prelude.{◌&&◌}
 use Rattle.ground.specs.Counting.Each.{Done}
 use Rattle.ground.specs.Flags.{one_if}
 use Rattle.ground.specs.Plain.{◌<?◌}

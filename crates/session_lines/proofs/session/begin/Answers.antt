@@ -3,4 +3,4 @@ use Rattle.session_lines.proofs.session.begin.Goals as goal
 
 pub returns : goal.returns
 unfolding beginning
-returns c = rw (c.start-empty.ensures, c.nothing.ensures)
+returns c = rw (c.empty.ensures, c.nothing.ensures)
