@@ -15,12 +15,16 @@ use Rattle.packet.specs.Kinds as K
 use Rattle.packet.specs.Kinds.{epochs, known_kind}
 use Rattle.packet.specs.Theorems.Tags.{epochs_fit}
 use Rattle.sender.specs.declared.epochs.Sender.{Sender}
-use Rattle.sender.specs.declared.epochs.SenderOutcome.{SenderOutcome}
-use Rattle.sender.specs.declared.table.Answer.{Answer}
+use Rattle.sender.specs.declared.refusals.Refusal.{Refusal}
+use Rattle.sender.specs.Answers.{SenderOutcome, Answer, given, only_told, refusal_number, sender_told}
+use Rattle.sender.specs.Answers.Answer.{Done, NoSlot, NotAllowed, WaitOpen, OutOfRange, Field, Length}
+use Rattle.sender.specs.Commands.{start_of}
+use Rattle.sender.specs.Theorems.Told.{told_number}
+use Rattle.ground.specs.Refusals.{number_told}
+use Rattle.std.specs.Prelude.{Result, Ok}
 use Rattle.sender.specs.Epochs.{SenderCall, begin_of, packet_answer, packet_bytes, payload_answer, payload_bytes, sender_outcome_of}
-use Rattle.sender.specs.Table.{answer_number}
 use Rattle.c_face.specs.Keeping.{bytes_of, sender_of}
-use Rattle.c_face.specs.Senders.{are_bytes, call_answer_c, call_state_c, is_epoch, kept_bytes, no_start, outside, packet_answer_c, packet_bytes_c, payload_answer_c, payload_bytes_c, sends, start_answer_c, start_state_c}
+use Rattle.c_face.specs.Senders.{are_bytes, call_answer_c, call_state_c, is_epoch, kept_bytes, no_start, outside, packet_answer_c, packet_bytes_c, payload_answer_c, payload_bytes_c, sends, start_answer_c, start_state_c, told_bytes}
 
 pub record Three (a b c : ℕ) : Type 0 where
   pub first : a < 256
@@ -36,12 +40,15 @@ three_said a b c t =
       third = ltb-true c 256 (and_right (ltb a 256 && ltb b 256) (ltb c 256) t);
     }
 
-module _ (outcome : SenderOutcome) (old : List ℕ) (n : ℕ) (e : n ≡ answer_number outcome.answer) where
-  pub keep_refused : (n ≡ 0 → ⊥) → (n ≡ answer_number outcome.answer) × (old ≡ kept_bytes outcome old)
-  keep_refused d = (e, rw (ne_eqb (answer_number outcome.answer) 0 (λ z. d (e ∙ z))) refl)
-
-  pub keep_done : (out : List ℕ) → n ≡ 0 → out ≡ bytes_of outcome.sender → (0 ≡ answer_number outcome.answer) × (out ≡ kept_bytes outcome old)
-  keep_done out z h = (sym z ∙ e, rw (eq-eqb (answer_number outcome.answer) 0 (sym e ∙ z)) h)
+-- what a call tells keeps what its outcome does
+kept_told : (a : Answer) (s : Sender) (state : List ℕ) → told_bytes (given a s) state ≡ kept_bytes (record { sender = s; answer = a }) state
+kept_told Done s state = refl
+kept_told NoSlot s state = refl
+kept_told NotAllowed s state = refl
+kept_told WaitOpen s state = refl
+kept_told OutOfRange s state = refl
+kept_told Field s state = refl
+kept_told Length s state = refl
 
 module _ (state : List ℕ) (fits : Bool) (call : SenderCall) where
   pub call_length : (length state ≡ 397 → ⊥) → (9 ≡ call_answer_c fits call state) × (state ≡ call_state_c fits call state)
@@ -52,11 +59,14 @@ module _ (state : List ℕ) (fits : Bool) (call : SenderCall) where
   unfolding call_answer_c call_state_c
   call_unfit l f = rw (eq-eqb (length state) 397 l, f) (refl, refl)
 
-  pub call_kept : (s : Sender) (outcome : SenderOutcome) (r : ℕ) (out : List ℕ) → length state ≡ 397 → fits ≡ true → s ≡ sender_of state
-      → outcome ≡ sender_outcome_of s call → (r ≡ answer_number outcome.answer) × (out ≡ kept_bytes outcome state)
+  pub call_kept : (s : Sender) (told : Result Sender Refusal) (r : ℕ) (out : List ℕ) → length state ≡ 397 → fits ≡ true → s ≡ sender_of state
+      → told ≡ sender_told (sender_outcome_of s call) → (r ≡ number_told refusal_number told) × (out ≡ told_bytes told state)
       → (r ≡ call_answer_c fits call state) × (out ≡ call_state_c fits call state)
   unfolding call_answer_c call_state_c
-  call_kept s outcome r out l f es e k = rw (eq-eqb (length state) 397 l, f, ← es, ← e) k
+  call_kept s told r out l f es e k =
+      let o : SenderOutcome = sender_outcome_of s call in
+      rw (eq-eqb (length state) 397 l, f, ← es)
+      (k.0 ∙ ap (number_told refusal_number) e ∙ told_number o.answer o.sender, k.1 ∙ ap (λ (t : Result Sender Refusal). told_bytes t state) e ∙ kept_told o.answer o.sender state)
 
 -- a number that is no byte is no kind
 pub unknown : (kind : ℕ) → 255 < kind → false ≡ sends kind
@@ -69,6 +79,15 @@ known_sent kind known e = ap (λ (b : Bool). b && not (eqb kind 2)) e
 
 pub sent_byte : (kind : ℕ) → sends kind ≡ true → kind < 256
 sent_byte kind t = ⊎_elim (λ (h : 256 ≤ kind). absurd (true≢false (sym t ∙ sym (unknown kind (omega arith))))) (λ (h : kind < 256). h) (le_or_lt 256 kind)
+
+neither_left : (b c : Bool) → (b || c) ≡ false → b ≡ false
+neither_left true c h = absurd (true≢false h)
+neither_left false c h = refl
+
+-- a start in range is done
+begun : (kind count e : ℕ) → no_start kind count ≡ false → sender_told (begin_of kind count e) ≡ Ok (begin_of kind count e).sender
+unfolding begin_of start_of
+begun kind count e o = rw (neither_left (outside count) (not (sends kind)) o) refl
 
 neither : (b c : Bool) → (b || c) ≡ false → c ≡ false
 neither true c h = absurd (true≢false h)
@@ -103,29 +122,33 @@ module _ (kind count first : ℕ) (state : List ℕ) where
   unfolding start_answer_c start_state_c
   start_unfit l o b = rw (eq-eqb (length state) 397 l, o, b) (refl, refl)
 
-  pub start_done : (out : List ℕ) → length state ≡ 397 → no_start kind count ≡ false → is_epoch kind first ≡ true → out ≡ bytes_of (begin_of kind count first).sender
-      → (0 ≡ start_answer_c kind count first state) × (out ≡ start_state_c kind count first state)
+  pub start_done : {told : Result Sender Refusal} (r : ℕ) (out : List ℕ) → length state ≡ 397 → no_start kind count ≡ false → is_epoch kind first ≡ true → told ≡ sender_told (begin_of kind count first)
+      → (r ≡ number_told refusal_number told) × (out ≡ told_bytes told state) → (r ≡ start_answer_c kind count first state) × (out ≡ start_state_c kind count first state)
   unfolding start_answer_c start_state_c
-  start_done out l o b h = rw (eq-eqb (length state) 397 l, o, b) (refl, h)
+  start_done r out l o b e k =
+      let t = e ∙ begun kind count first o in
+      rw (eq-eqb (length state) 397 l, o, b) (k.0 ∙ ap (number_told refusal_number) t, k.1 ∙ ap (λ (u : Result Sender Refusal). told_bytes u state) t)
 
 module _ (state : List ℕ) (slot : ℕ) (h4 : List ℕ) where
   pub packet_length : (length state ≡ 397 → ⊥) → (9 ≡ packet_answer_c state slot h4) × (h4 ≡ packet_bytes_c state slot h4)
   unfolding packet_answer_c packet_bytes_c
   packet_length d = rw (ne_eqb (length state) 397 d) (refl, refl)
 
-  pub packet_own : (s : Sender) (a : Answer) (r : ℕ) (out : List ℕ) → length state ≡ 397 → s ≡ sender_of state
-      → a ≡ packet_answer s slot h4 → out ≡ packet_bytes s slot h4 → r ≡ answer_number a
+  pub packet_own : (s : Sender) (a : Result (Unit {0}) Refusal) (r : ℕ) (out : List ℕ) → length state ≡ 397 → s ≡ sender_of state
+      → a ≡ only_told (packet_answer s slot h4) → out ≡ packet_bytes s slot h4 → r ≡ number_told refusal_number a
       → (r ≡ packet_answer_c state slot h4) × (out ≡ packet_bytes_c state slot h4)
   unfolding packet_answer_c packet_bytes_c
-  packet_own s a r out l es ea eo er = rw (eq-eqb (length state) 397 l, ← es) (er ∙ ap answer_number ea, eo)
+  packet_own s a r out l es ea eo er =
+      rw (eq-eqb (length state) 397 l, ← es) (er ∙ ap (number_told refusal_number) ea ∙ told_number (packet_answer s slot h4) tt, eo)
 
 module _ (state : List ℕ) (slot P : ℕ) (frame member : List ℕ) where
   pub payload_length : (length state ≡ 397 → ⊥) → (9 ≡ payload_answer_c state slot P frame member) × (member ≡ payload_bytes_c state slot P frame member)
   unfolding payload_answer_c payload_bytes_c
   payload_length d = rw (ne_eqb (length state) 397 d) (refl, refl)
 
-  pub payload_own : (s : Sender) (a : Answer) (r : ℕ) (out : List ℕ) → length state ≡ 397 → s ≡ sender_of state
-      → a ≡ payload_answer s slot P (length frame) (length member) → out ≡ payload_bytes s slot P frame member → r ≡ answer_number a
+  pub payload_own : (s : Sender) (a : Result (Unit {0}) Refusal) (r : ℕ) (out : List ℕ) → length state ≡ 397 → s ≡ sender_of state
+      → a ≡ only_told (payload_answer s slot P (length frame) (length member)) → out ≡ payload_bytes s slot P frame member → r ≡ number_told refusal_number a
       → (r ≡ payload_answer_c state slot P frame member) × (out ≡ payload_bytes_c state slot P frame member)
   unfolding payload_answer_c payload_bytes_c
-  payload_own s a r out l es ea eo er = rw (eq-eqb (length state) 397 l, ← es) (er ∙ ap answer_number ea, eo)
+  payload_own s a r out l es ea eo er =
+      rw (eq-eqb (length state) 397 l, ← es) (er ∙ ap (number_told refusal_number) ea ∙ told_number (payload_answer s slot P (length frame) (length member)) tt, eo)

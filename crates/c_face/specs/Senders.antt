@@ -1,10 +1,12 @@
 -- The sender's C calls in terms of the sender's own. A state of another length is refused with 9 before all else (at starting 4 comes before it),
 -- a number that is no byte with 8, and then the sender's own refusals follow.
-use Rattle.std.specs.Prelude.{Bool, not, ◌&&◌, ◌||◌, ℕ, length, if◌then◌else◌, ◌==◌}
+use Rattle.std.specs.Prelude.{Bool, not, ◌&&◌, ◌||◌, ℕ, length, if◌then◌else◌, ◌==◌, Result, Ok, Err}
 use Rattle.ground.specs.Plain.{◌<?◌}
 use Rattle.ground.specs.Types.{Bytes, Epoch}
 use Rattle.packet.specs.Kinds.{epochs, fixed_kind, known_kind}
-use Rattle.sender.specs.declared.epochs.SenderOutcome.{SenderOutcome}
+use Rattle.sender.specs.declared.epochs.Sender.{Sender}
+use Rattle.sender.specs.declared.refusals.Refusal.{Refusal}
+use Rattle.sender.specs.Answers.{SenderOutcome}
 use Rattle.sender.specs.Epochs.{SenderCall, begin_of, packet_answer, packet_bytes, payload_answer, payload_bytes, sender_outcome_of}
 use Rattle.sender.specs.Table.{answer_number}
 use Rattle.c_face.specs.Keeping.{bytes_of, sender_of, state_bytes}
@@ -46,6 +48,11 @@ call_answer_c fits call state = if is_state state then (if fits then answer_numb
 -- a refusal encodes nothing anew
 abbrev pub kept_bytes : SenderOutcome → Bytes → Bytes
 kept_bytes outcome state = if answer_number outcome.answer == 0 then bytes_of outcome.sender else state
+
+-- the same of what the call tells
+abbrev pub told_bytes : Result Sender Refusal → Bytes → Bytes
+told_bytes (Ok s) state = bytes_of s
+told_bytes (Err e) state = state
 
 unfoldable pub call_state_c : (fits : Bool) (call : SenderCall) (state : Bytes) → Bytes
 call_state_c fits call state = if is_state state then (if fits then kept_bytes (sender_outcome_of (sender_of state) call) state else state) else state

@@ -1,16 +1,16 @@
 // The sender for C. The whole state is a lent buffer; a refusal changes no byte of it, but for the empty group of a refused start.
 ghost use Rattle.std.specs.Prelude.{◌≡◌, true, length};
 ghost use Rattle.sender.specs.Calls.Call.{AddSlot, RemoveSlot, Report, Lapse};
-ghost use Rattle.sender.specs.Epochs.{begin_of};
+ghost use Rattle.ground.specs.Refusals.{number_told};
+ghost use Rattle.sender.specs.Answers.{refusal_number};
 ghost use Rattle.sender.specs.Epochs.SenderCall.{OnTable, StartEpoch};
-ghost use Rattle.sender.specs.Table.{answer_number};
-ghost use Rattle.c_face.specs.Keeping.{bytes_of, state_bytes};
-ghost use Rattle.c_face.specs.Senders.{are_bytes, call_answer_c, call_state_c, is_epoch, kept_bytes, no_start, outside, packet_answer_c, packet_bytes_c, payload_answer_c, payload_bytes_c, sends, start_answer_c, start_state_c};
+ghost use Rattle.c_face.specs.Keeping.{state_bytes};
+ghost use Rattle.c_face.specs.Senders.{are_bytes, call_answer_c, call_state_c, is_epoch, no_start, outside, packet_answer_c, packet_bytes_c, payload_answer_c, payload_bytes_c, sends, start_answer_c, start_state_c, told_bytes};
 
 use crate::keeping;
 use crate::keeping::SENDER_BYTES;
 use packet::kinds;
-use sender::{Sender, SenderOutcome};
+use sender::{Refusal, Sender};
 
 pub(crate) fn is_outside(count: u32) -> bool
     ensures { result ≡ outside count }
@@ -52,15 +52,6 @@ pub fn is_epoch(kind: u8, epoch: u32) -> bool
     epoch < (tags / frames as u16) as u32
 }
 
-fn put_start(kind: u8, count: u32, epoch: u8, state: &mut [u8])
-    requires { length state.old ≡ state_bytes }
-    ensures { state.new ≡ bytes_of (begin_of kind count epoch).sender }
-{
-    let outcome = Sender::start(kind, count, epoch);
-    let sender = outcome.sender;
-    keeping::put_sender(sender, state);
-}
-
 fn start_by(kind: u32, count: u32, first_epoch: u32, state: &mut [u8]) -> u8
     ensures { (result ≡ start_answer_c kind count first_epoch state.old)
         × (state.new ≡ start_state_c kind count first_epoch state.old) }
@@ -69,29 +60,24 @@ fn start_by(kind: u32, count: u32, first_epoch: u32, state: &mut [u8]) -> u8
         return if is_no_start(kind, count) { 4 } else { 9 };
     }
     if is_no_start(kind, count) {
-        put_start(kinds::H4, 0, 0, state);
+        keeping::put_sender(Sender::empty(kinds::H4, 0), state);
         return 4;
     }
     if !is_epoch(kind as u8, first_epoch) {
         return 8;
     }
-    put_start(kind as u8, count, first_epoch as u8, state);
-    0
+    keep(Sender::start(kind as u8, count, first_epoch as u8), state)
 }
 
-// What a call leaves: under 0 its sender's bytes, and under a refusal the bytes as they were.
-fn keep(outcome: SenderOutcome, state: &mut [u8]) -> u8
+// What a call leaves: its sender's bytes, and under a refusal the bytes as they were.
+fn keep(answer: Result<Sender, Refusal>, state: &mut [u8]) -> u8
     requires { length state.old ≡ state_bytes }
-    ensures { (result ≡ answer_number outcome.answer) × (state.new ≡ kept_bytes outcome state.old) }
+    ensures { (result ≡ number_told refusal_number answer) × (state.new ≡ told_bytes answer state.old) }
 {
-    let answer = outcome.answer;
-    let number = answer.number();
-    if number != 0 {
-        return number;
+    if let Ok(sender) = answer {
+        keeping::put_sender(sender, state);
     }
-    let sender = outcome.sender;
-    keeping::put_sender(sender, state);
-    0
+    ground::number_told(answer)
 }
 
 pub fn levelspruce_sender_start(count: u32, first_epoch: u32, state: &mut [u8]) -> u8
@@ -116,8 +102,7 @@ pub fn levelspruce_sender_add(state: &mut [u8], slot: u32) -> u8
         return 9;
     }
     let sender = keeping::sender_of(state);
-    let outcome = sender.add(slot);
-    keep(outcome, state)
+    keep(sender.add(slot), state)
 }
 
 pub fn levelspruce_sender_remove(state: &mut [u8], slot: u32) -> u8
@@ -128,8 +113,7 @@ pub fn levelspruce_sender_remove(state: &mut [u8], slot: u32) -> u8
         return 9;
     }
     let sender = keeping::sender_of(state);
-    let outcome = sender.remove(slot);
-    keep(outcome, state)
+    keep(sender.remove(slot), state)
 }
 
 pub fn levelspruce_sender_report(state: &mut [u8], epoch: u32, mst: u32, rs_ack: u32) -> u8
@@ -143,8 +127,8 @@ pub fn levelspruce_sender_report(state: &mut [u8], epoch: u32, mst: u32, rs_ack:
         return 8;
     }
     let sender = keeping::sender_of(state);
-    let outcome = sender.report(epoch as u8, mst as u8, rs_ack as u8);
-    keep(outcome, state)
+    let left = sender.report(epoch as u8, mst as u8, rs_ack as u8);
+    keep(Ok(left), state)
 }
 
 pub fn levelspruce_sender_lapse(state: &mut [u8]) -> u8
@@ -155,8 +139,7 @@ pub fn levelspruce_sender_lapse(state: &mut [u8]) -> u8
         return 9;
     }
     let sender = keeping::sender_of(state);
-    let outcome = sender.lapse();
-    keep(outcome, state)
+    keep(sender.lapse(), state)
 }
 
 pub fn levelspruce_sender_start_epoch(state: &mut [u8], gid: u32, mst: u32, rs_ack: u32) -> u8
@@ -170,8 +153,10 @@ pub fn levelspruce_sender_start_epoch(state: &mut [u8], gid: u32, mst: u32, rs_a
         return 8;
     }
     let sender = keeping::sender_of(state);
-    let outcome = sender.start_epoch(gid as u8, mst as u8, rs_ack as u8);
-    keep(outcome, state)
+    keep(
+        sender.start_epoch(gid as u8, mst as u8, rs_ack as u8),
+        state,
+    )
 }
 
 pub fn levelspruce_sender_packet(state: &[u8], slot: u32, h4: &mut [u8]) -> u8
@@ -182,8 +167,7 @@ pub fn levelspruce_sender_packet(state: &[u8], slot: u32, h4: &mut [u8]) -> u8
         return 9;
     }
     let sender = keeping::sender_of(state);
-    let answer = sender.packet(slot, h4);
-    answer.number()
+    ground::number_told(sender.packet(slot, h4))
 }
 
 pub fn levelspruce_sender_payload(
@@ -200,6 +184,5 @@ pub fn levelspruce_sender_payload(
         return 9;
     }
     let sender = keeping::sender_of(state);
-    let answer = sender.payload(slot, p, frame, member);
-    answer.number()
+    ground::number_told(sender.payload(slot, p, frame, member))
 }

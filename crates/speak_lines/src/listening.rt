@@ -25,8 +25,7 @@ pub struct Listener {
 pub fn begin(runs: bool) -> Listener
     ensures { result ≡ beginning runs }
 {
-    let empty = sender::start(kinds::H4, 0);
-    let table = empty.table;
+    let table = sender::empty(kinds::H4);
     Listener {
         table,
         heard: sender::board_of(table),

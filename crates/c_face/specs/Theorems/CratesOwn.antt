@@ -16,8 +16,8 @@ use Rattle.payload.specs.Joining.{joined, whole_answer}
 use Rattle.payload.specs.Spreading.{spread_all}
 use Rattle.sender.specs.Board.{board_of}
 use Rattle.sender.specs.Commands.{answered, fresh_of, start_of}
-use Rattle.sender.specs.declared.table.Answer.TheVariants.{Done, OutOfRange}
-use Rattle.sender.specs.declared.table.Outcome.{Outcome}
+use Rattle.sender.specs.Answers.Answer.{Done, OutOfRange}
+use Rattle.sender.specs.Answers.{Outcome}
 use Rattle.sender.specs.Epochs.{SenderCall, begin_of, packet_answer, packet_bytes, payload_answer, payload_bytes, ranks_of, sender_outcome_of}
 use Rattle.sender.specs.Table.{answer_number}
 use Rattle.c_face.specs.Boards.{board_bytes_c, board_bytes_of, outgoing_bytes_c, ranks_bytes_c, ranks_bytes_of, shown_answer_c, shown_bytes}

@@ -10,9 +10,8 @@ use Rattle.sender.specs.Board.{board_of, no_row, row_of, rows_of}
 use Rattle.sender.specs.SenderRuns.{Demand2Kept}
 use Rattle.sender.specs.Theorems.Epochs.{demand2_kept}
 use Rattle.sender.specs.declared.epochs.Sender.{Sender}
-use Rattle.sender.specs.declared.epochs.SenderOutcome.{SenderOutcome}
-use Rattle.sender.specs.declared.table.Answer.{Answer}
-use Rattle.sender.specs.declared.table.Answer.TheVariants.{Done, NotAllowed, Field}
+use Rattle.sender.specs.Answers.{SenderOutcome, Answer}
+use Rattle.sender.specs.Answers.Answer.{Done, NotAllowed, Field}
 use Rattle.sender.specs.declared.table.Table.{Table}
 use Rattle.sender.specs.Calls.{Call, outcome_of}
 use Rattle.sender.specs.Calls.Call.{AddSlot, RemoveSlot, Report, Lapse}

@@ -1,6 +1,6 @@
 -- The code tells of a call by a Result, and loses nothing of its outcome: a refusal has the number of its answer, and a refused call leaves what it was given, so that whoever keeps that knows the whole outcome. A refused start alone leaves something else, the empty group.
 use Rattle.std.specs.Result.{result_unwrap_or}
-use Rattle.std.specs.Prelude.{◌≡◌, refl, Bool, true, false, cond, not, ◌||◌, ◌==◌, ◌&&◌, ◌≢◌, ℕ}
+use Rattle.std.specs.Prelude.{Ok, ◌≡◌, refl, Bool, true, false, cond, not, ◌||◌, ◌==◌, ◌&&◌, ◌≢◌, ℕ}
 use Rattle.std.proofs.Common.{ap, ltb, sym}
 use Rattle.ground.specs.Refusals.{number_told}
 use Rattle.sender.specs.declared.epochs.Sender.{Sender}
@@ -81,6 +81,11 @@ pub nothing_lost : (t : Table) (c : Call) → outcome_back t (told (outcome_of t
 nothing_lost t c =
     let r : Outcome = outcome_of t c in
     rw (told_kept r.answer t r.table (refused_stands t c), told_answer r.answer r.table) refl
+
+-- and what the sender gives of one is its whole outcome
+pub report_told : (s : Sender) (e mst ack : ℕ) → sender_told (sender_outcome_of s (OnTable (Report e mst ack))) ≡ Ok (sender_outcome_of s (OnTable (Report e mst ack))).sender
+unfolding report_of
+report_told s e mst ack = refl
 
 pub sender_stands : (s : Sender) (c : SenderCall) → (sender_outcome_of s c).answer ≢ Done → (sender_outcome_of s c).sender ≡ s
 unfolding start_epoch_of

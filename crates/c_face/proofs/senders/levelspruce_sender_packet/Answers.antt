@@ -5,4 +5,4 @@ pub returns-then-state-ne-SENDER_BYTES : goal.returns-then-state-ne-SENDER_BYTES
 returns-then-state-ne-SENDER_BYTES c = packet_length _ _ _ c.if-state-ne-SENDER_BYTES.true
 
 pub returns : goal.returns
-returns c = packet_own _ _ _ _ _ _ _ c.if-state-ne-SENDER_BYTES.false c.sender_of-sender.ensures c.packet-answer.ensures.0 c.packet-answer.ensures.1 c.number.ensures
+returns c = packet_own _ _ _ _ _ _ _ c.if-state-ne-SENDER_BYTES.false c.sender_of-sender.ensures c.packet.ensures.0 c.packet.ensures.1 c.number_told.ensures

@@ -5,4 +5,4 @@ pub returns-then-state-ne-SENDER_BYTES : goal.returns-then-state-ne-SENDER_BYTES
 returns-then-state-ne-SENDER_BYTES c = payload_length _ _ _ _ _ c.if-state-ne-SENDER_BYTES.true
 
 pub returns : goal.returns
-returns c = payload_own _ _ _ _ _ _ _ _ _ c.if-state-ne-SENDER_BYTES.false c.sender_of-sender.ensures c.payload-answer.ensures.0 c.payload-answer.ensures.1 c.number.ensures
+returns c = payload_own _ _ _ _ _ _ _ _ _ c.if-state-ne-SENDER_BYTES.false c.sender_of-sender.ensures c.payload.ensures.0 c.payload.ensures.1 c.number_told.ensures

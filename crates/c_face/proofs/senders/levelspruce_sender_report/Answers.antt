@@ -1,6 +1,8 @@
 -- The call meets its contract: 9, 8 for a number that is no byte, and then what the table answers.
 -- Each exit cites one law of SenderCalls, in the order of the tests; behind them the three numbers are bytes (`three_said`).
-use mathlib.Core.Path.{◌∙◌, sym}
+use mathlib.Core.Path.{◌∙◌, ap, sym}
+use Rattle.std.specs.Prelude.{Ok}
+use Rattle.sender.specs.Theorems.Told.{report_told}
 use native.Mathlib.Omega.{arith}
 use Rattle.c_face.specs.Senders.{are_bytes}
 use Rattle.c_face.proofs.SenderCalls.{Three, call_length, call_unfit, call_kept, three_said}
@@ -30,4 +32,4 @@ overflow_cast-rs_ack c =
 
 pub returns : goal.returns
 returns c =
-    call_kept _ (are_bytes c.args.epoch c.args.mst c.args.rs_ack) (OnTable (Report c.args.epoch c.args.mst c.args.rs_ack)) _ _ _ _ c.if-state-ne-SENDER_BYTES.false (sym c.are_bytes.ensures ∙ c.if-not-are_bytes.false) c.sender_of-sender.ensures c.report-outcome.ensures c.keep.ensures
+    call_kept _ (are_bytes c.args.epoch c.args.mst c.args.rs_ack) (OnTable (Report c.args.epoch c.args.mst c.args.rs_ack)) _ _ _ _ c.if-state-ne-SENDER_BYTES.false (sym c.are_bytes.ensures ∙ c.if-not-are_bytes.false) c.sender_of-sender.ensures (ap Ok c.report-left.ensures ∙ sym (report_told _ _ _ _)) c.keep.ensures
