@@ -9,13 +9,14 @@ use lib.ListN.{length, get_or, take, drop}
 use borrow.Author.Tests.{eq-eqb, ne_eqb, eqb-true, lt-ltb, ltb-true}
 use Rattle.ground.specs.Drawn.{fill_at, fill_at_all}
 use Rattle.ground.specs.Table.{tabulate, tabulate_self}
-use Rattle.cards.specs.declared.answers.Answer.{Answer}
-use Rattle.cards.specs.declared.card.BoardOutcome.{BoardOutcome}
+use Rattle.std.specs.Prelude.{Result, Ok, Err, not}
+use Rattle.ground.specs.Refusals.{number_told}
+use Rattle.cards.specs.declared.refusals.Refusal.{Refusal}
+use Rattle.cards.specs.Answers.{Answer, CardOutcome, answer_number, board_told, given, group_answer, only_told, owned_told, ranks_told, refusal_number, told}
+use Rattle.cards.specs.Answers.Answer.{Done, NoSlot, NotAllowed, WaitOpen, OutOfRange, Field, Length, Owned, Used}
+use Rattle.cards.specs.Theorems.Told.{told_number}
+use Rattle.sender.specs.Commands as S
 use Rattle.cards.specs.declared.card.Card.{Card}
-use Rattle.cards.specs.declared.card.CardOutcome.{CardOutcome}
-use Rattle.cards.specs.declared.card.OwnedOutcome.{OwnedOutcome}
-use Rattle.cards.specs.declared.card.RanksOutcome.{RanksOutcome}
-use Rattle.cards.specs.Answers.{answer_number}
 use Rattle.cards.specs.Calls.{Call, outcome_of}
 use Rattle.cards.specs.Commands.{start_of}
 use Rattle.cards.specs.Laws.Alike.{Alike, AlikeAfter, alike_call, alike_payload, alike_shown}
@@ -23,13 +24,16 @@ use Rattle.cards.specs.Owners.{owner_in}
 use Rattle.cards.specs.Parts as P
 use Rattle.cards.specs.Readings.{board_shown, outgoing_shown, owned_shown, payload_answer, payload_bytes, ranks_shown}
 use Rattle.sender.specs.Board.{board_of}
+use Rattle.sender.specs.declared.board.Board.{Board}
+use Rattle.sender.specs.declared.ranks.Ranks.{Ranks}
 use Rattle.sender.specs.declared.epochs.Sender.{Sender}
-use Rattle.sender.specs.Epochs.{ranks_of}
+use Rattle.sender.specs.Epochs.{begin_of, ranks_of}
 use Rattle.c_face.specs.Boards.{board_bytes_of, ranks_bytes_of}
-use Rattle.c_cards.specs.Cards.{alone, are_epochs, behind, bytes_behind, call_answer_on, call_state_on, card_of, is_card, kept_card, owners_in, packet_answer_on, packet_bytes_on, part_at, part_in, payload_answer_on, payload_bytes_on, put_card, put_own, refusal_of, shown_answer_on, shown_bytes_on, start_answer_on, start_state_on}
+use Rattle.c_cards.specs.Cards.{alone, are_epochs, behind, bytes_behind, call_answer_on, call_state_on, card_of, is_card, kept_card, owners_in, packet_answer_on, packet_bytes_on, part_at, part_in, payload_answer_on, payload_bytes_on, put_card, put_own, refusal_of, shown_answer_on, shown_bytes_on, start_answer_on, start_state_on, told_card}
 use Rattle.c_face.specs.Keeping.{byte_at, bytes_of, sender_of}
 use Rattle.c_cards.specs.Laws.Slots.{slot_packet, slot_packet_answer, slot_packet_bytes}
-use Rattle.c_face.specs.Senders.{no_start}
+use Rattle.c_face.specs.Senders.{no_start, outside, sends}
+use Rattle.c_face.proofs.SenderCalls.{neither_left}
 use Rattle.c_cards.specs.Theorems.CardRuns.{part_of}
 use Rattle.c_cards.proofs.Parts.{mid_is, put_is}
 
@@ -76,17 +80,32 @@ own_whole g c s state mid out l em es eo =
 pub owned_whole : (owned d out : List ℕ) → length owned ≡ 64 → length d ≡ 64 → out ≡ fill_at 0 (length owned) (λ k. get_or owned k 0) d → out ≡ owned
 owned_whole owned d out l m e = e ∙ fill_at_all (length owned) (λ k. get_or owned k 0) d (m ∙ sym l) ∙ tabulate_self owned 0
 
-module _ (outcome : CardOutcome) (g : ℕ) (old : List ℕ) (n : ℕ) (e : n ≡ answer_number outcome.answer) where
-  pub keep_refused : (n ≡ 0 → ⊥) → (n ≡ answer_number outcome.answer) × (old ≡ kept_card g outcome old)
-  keep_refused d = (e, rw (ne_eqb (answer_number outcome.answer) 0 (λ z. d (e ∙ z))) refl)
+-- what a call tells keeps what its outcome does
+kept_told : (g : ℕ) (a : Answer) (c : Card) (state : List ℕ) → told_card g (given a c) state ≡ kept_card g (record { card = c; answer = a }) state
+kept_told g Done c state = refl
+kept_told g NoSlot c state = refl
+kept_told g NotAllowed c state = refl
+kept_told g WaitOpen c state = refl
+kept_told g OutOfRange c state = refl
+kept_told g Field c state = refl
+kept_told g Length c state = refl
+kept_told g Owned c state = refl
+kept_told g Used c state = refl
 
-  pub keep_done : (out : List ℕ) → n ≡ 0 → out ≡ put_own g outcome.card old → (0 ≡ answer_number outcome.answer) × (out ≡ kept_card g outcome old)
-  keep_done out z h = (sym z ∙ e, rw (eq-eqb (answer_number outcome.answer) 0 (sym e ∙ z)) h)
+-- a start in range is done
+begun : (kind count e₀ e₁ : ℕ) → no_start kind count ≡ false → told (start_of kind count e₀ e₁) ≡ Ok (start_of kind count e₀ e₁).card
+unfolding start_of begin_of S.start_of
+begun kind count e₀ e₁ o = rw (neither_left (outside count) (not (sends kind)) o) refl
 
-pub start_put : (kind count e₀ e₁ : ℕ) (outcome : CardOutcome) (state mid out : List ℕ) → outcome ≡ start_of kind count e₀ e₁ → mid ≡ put_own 0 outcome.card state
-    → out ≡ put_own 1 outcome.card mid → out ≡ put_card (start_of kind count e₀ e₁).card state
-start_put kind count e₀ e₁ outcome state mid out es em eo =
-    eo ∙ ap (λ (l : List ℕ). put_own 1 outcome.card l) em ∙ ap (λ (r : CardOutcome). put_card r.card state) es
+-- what the two groups are shown is not refused
+shown_ok : {T : Type 0} (g : ℕ) (x : T) → g < 2 → given (group_answer g) x ≡ Ok x
+shown_ok g x h = rw (lt-ltb g 2 h)
+
+shown_is : {T : Type 0} (g : ℕ) (x : T) {y : T} → g < 2 → Ok y ≡ given (group_answer g) x → y ≡ x
+shown_is {T} g x {y} h e = let same : ◌≡◌ {A = Result T Refusal} (Ok y) (Ok x) = e ∙ shown_ok g x h in cc
+
+shown_not : {T : Type 0} (g : ℕ) (x : T) {r : Refusal} → g < 2 → Err r ≡ given (group_answer g) x → ⊥
+shown_not g x {r} h e = let same : Err r ≡ Ok x = e ∙ shown_ok g x h in cc
 
 module _ (kind count e₀ e₁ : ℕ) (state : List ℕ) where
   pub start_none : (length state ≡ 858 → ⊥) → no_start kind count ≡ true → (4 ≡ start_answer_on kind count e₀ e₁ state) × (state ≡ start_state_on kind count e₀ e₁ state)
@@ -106,6 +125,12 @@ module _ (kind count e₀ e₁ : ℕ) (state : List ℕ) where
       → (8 ≡ start_answer_on kind count e₀ e₁ state) × (state ≡ start_state_on kind count e₀ e₁ state)
   unfolding start_answer_on start_state_on
   start_unfit l o b = rw (eq-eqb (length state) 858 l, o, b) (refl, refl)
+
+  pub start_is : no_start kind count ≡ false → {c : Card} → Ok c ≡ told (start_of kind count e₀ e₁) → c ≡ (start_of kind count e₀ e₁).card
+  start_is o {c} e = let same : ◌≡◌ {A = Result Card Refusal} (Ok c) (Ok (start_of kind count e₀ e₁).card) = e ∙ begun kind count e₀ e₁ o in cc
+
+  pub start_not : no_start kind count ≡ false → {r : Refusal} → Err r ≡ told (start_of kind count e₀ e₁) → ⊥
+  start_not o {r} e = let same : Err r ≡ Ok (start_of kind count e₀ e₁).card = e ∙ begun kind count e₀ e₁ o in cc
 
   pub start_done : (out : List ℕ) → length state ≡ 858 → no_start kind count ≡ false → are_epochs kind e₀ e₁ ≡ true → out ≡ put_card (start_of kind count e₀ e₁).card state
       → (0 ≡ start_answer_on kind count e₀ e₁ state) × (out ≡ start_state_on kind count e₀ e₁ state)
@@ -179,38 +204,57 @@ module _ (state : List ℕ) (g : ℕ) (o : Open state g) where
     alike : Alike g c (card_of state)
     alike = rw ec (alone_alike g (card_of state))
 
-    pub call_kept : (fits : Bool) (call : Call) (outcome : CardOutcome) (r : ℕ) (out : List ℕ) → fits ≡ true → outcome ≡ outcome_of c g call
-        → (r ≡ answer_number outcome.answer) × (out ≡ kept_card g outcome state)
+    pub call_kept : (fits : Bool) (call : Call) (t : Result Card Refusal) (r : ℕ) (out : List ℕ) → fits ≡ true → t ≡ told (outcome_of c g call)
+        → (r ≡ number_told refusal_number t) × (out ≡ told_card g t state)
         → (r ≡ call_answer_on fits g call state) × (out ≡ call_state_on fits g call state)
     unfolding call_answer_on call_state_on
-    call_kept fits call outcome r out f es k =
-        let a : AlikeAfter g outcome (outcome_of (card_of state) g call) = rw es (alike_call g c (card_of state) alike call) in
-        rw (eq-eqb (length state) 858 o.sized, lt-ltb g 2 o.group, f)
-        (k.0 ∙ ap answer_number a.answer, k.1 ∙ kept_alike g outcome (outcome_of (card_of state) g call) state a)
+    call_kept fits call t r out f es k =
+        let outcome : CardOutcome = outcome_of c g call in
+        let a : AlikeAfter g outcome (outcome_of (card_of state) g call) = alike_call g c (card_of state) alike call in
+        rw (eq-eqb (length state) 858 o.sized, lt-ltb g 2 o.group, f) (
+          k.0 ∙ ap (number_told refusal_number) es ∙ told_number outcome.answer outcome.card ∙ ap answer_number a.answer,
+          k.1 ∙ ap (λ (x : Result Card Refusal). told_card g x state) es ∙ kept_told g outcome.answer outcome.card state ∙ kept_alike g outcome (outcome_of (card_of state) g call) state a,
+        )
 
-    pub payload_own : (slot p : ℕ) (frame member : List ℕ) (x : Answer) (r : ℕ) (out : List ℕ) → x ≡ payload_answer c g slot p (length frame) (length member)
-        → out ≡ payload_bytes c g slot p frame member → r ≡ answer_number x
+    pub payload_own : (slot p : ℕ) (frame member : List ℕ) (x : Result (Unit {0}) Refusal) (r : ℕ) (out : List ℕ) → x ≡ only_told (payload_answer c g slot p (length frame) (length member))
+        → out ≡ payload_bytes c g slot p frame member → r ≡ number_told refusal_number x
         → (r ≡ payload_answer_on state g slot p frame member) × (out ≡ payload_bytes_on state g slot p frame member)
     unfolding payload_answer_on payload_bytes_on
     payload_own slot p frame member x r out ex eo er =
         let a = alike_payload g c (card_of state) alike slot p (length frame) (length member) frame member in
-        rw (eq-eqb (length state) 858 o.sized, lt-ltb g 2 o.group) (er ∙ ap answer_number (ex ∙ a.0), eo ∙ a.1)
+        rw (eq-eqb (length state) 858 o.sized, lt-ltb g 2 o.group) (er ∙ ap (number_told refusal_number) ex ∙ told_number _ tt ∙ ap answer_number a.0, eo ∙ a.1)
 
-    pub board_own : (x : BoardOutcome) → x ≡ board_shown c g → board_bytes_of x.board ≡ board_bytes_of (board_shown (card_of state) g).board
+    pub board_own : {y : Board} → Ok y ≡ board_told (board_shown c g) → board_bytes_of y ≡ board_bytes_of (board_shown (card_of state) g).board
     unfolding board_shown
-    board_own x e = ap (λ (y : BoardOutcome). board_bytes_of y.board) e ∙ ap (λ (s : Sender). board_bytes_of (board_of s.table)) (alike_shown g c (card_of state) alike)
+    board_own e = ap board_bytes_of (shown_is g _ o.group e) ∙ ap (λ (s : Sender). board_bytes_of (board_of s.table)) (alike_shown g c (card_of state) alike)
 
-    pub outgoing_own : (x : BoardOutcome) → x ≡ outgoing_shown c g → board_bytes_of x.board ≡ board_bytes_of (outgoing_shown (card_of state) g).board
+    pub board_not : {r : Refusal} → Err r ≡ board_told (board_shown c g) → ⊥
+    unfolding board_shown
+    board_not e = shown_not g _ o.group e
+
+    pub outgoing_own : {y : Board} → Ok y ≡ board_told (outgoing_shown c g) → board_bytes_of y ≡ board_bytes_of (outgoing_shown (card_of state) g).board
     unfolding outgoing_shown
-    outgoing_own x e = ap (λ (y : BoardOutcome). board_bytes_of y.board) e ∙ ap (λ (s : Sender). board_bytes_of s.outgoing) (alike_shown g c (card_of state) alike)
+    outgoing_own e = ap board_bytes_of (shown_is g _ o.group e) ∙ ap (λ (s : Sender). board_bytes_of s.outgoing) (alike_shown g c (card_of state) alike)
 
-    pub ranks_own : (x : RanksOutcome) → x ≡ ranks_shown c g → ranks_bytes_of x.ranks ≡ ranks_bytes_of (ranks_shown (card_of state) g).ranks
+    pub outgoing_not : {r : Refusal} → Err r ≡ board_told (outgoing_shown c g) → ⊥
+    unfolding outgoing_shown
+    outgoing_not e = shown_not g _ o.group e
+
+    pub ranks_own : {y : Ranks} → Ok y ≡ ranks_told (ranks_shown c g) → ranks_bytes_of y ≡ ranks_bytes_of (ranks_shown (card_of state) g).ranks
     unfolding ranks_shown
-    ranks_own x e = ap (λ (y : RanksOutcome). ranks_bytes_of y.ranks) e ∙ ap (λ (s : Sender). ranks_bytes_of (ranks_of s)) (alike_shown g c (card_of state) alike)
+    ranks_own e = ap ranks_bytes_of (shown_is g _ o.group e) ∙ ap (λ (s : Sender). ranks_bytes_of (ranks_of s)) (alike_shown g c (card_of state) alike)
 
-    pub owned_own : (x : OwnedOutcome) → x ≡ owned_shown c g → x.owned ≡ (owned_shown (card_of state) g).owned
+    pub ranks_not : {r : Refusal} → Err r ≡ ranks_told (ranks_shown c g) → ⊥
+    unfolding ranks_shown
+    ranks_not e = shown_not g _ o.group e
+
+    pub owned_own : {y : List ℕ} → Ok y ≡ owned_told (owned_shown c g) → y ≡ (owned_shown (card_of state) g).owned
     unfolding owned_shown
-    owned_own x e = ap (λ (y : OwnedOutcome). y.owned) e ∙ ap (λ (d : Card). (owned_shown d g).owned) ec
+    owned_own e = shown_is g _ o.group e ∙ ap (λ (d : Card). (owned_shown d g).owned) ec
+
+    pub owned_not : {r : Refusal} → Err r ≡ owned_told (owned_shown c g) → ⊥
+    unfolding owned_shown
+    owned_not e = shown_not g _ o.group e
 
   pub shown_room : (n : ℕ) (new out : List ℕ) → (length out ≡ n → ⊥) → (9 ≡ shown_answer_on n state g out) × (out ≡ shown_bytes_on n state g new out)
   unfolding shown_answer_on shown_bytes_on

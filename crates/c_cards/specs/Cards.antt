@@ -1,14 +1,14 @@
 -- Two circuits on one card (02, 2026-06) for C, in terms of the card's own calls. The state is 858 bytes: the owner row in bytes 0 to 63, then the state of each group's sender.
 -- Any bytes are a card. A state of another length is refused with 9 before all else (at starting 4 comes before it), then a group other than the two with 1, a number that is
 -- no byte with 8, and then the card's own refusals follow.
-use Rattle.std.specs.Prelude.{Bool, ◌&&◌, List, ℕ, ◌+◌, get_or, length, if◌then◌else◌, ◌==◌}
+use Rattle.std.specs.Prelude.{Bool, ◌&&◌, List, ℕ, ◌+◌, get_or, length, if◌then◌else◌, ◌==◌, Result, Ok, Err}
 use Rattle.ground.specs.Drawn.{fill_at}
 use Rattle.ground.specs.Plain.{◌<?◌}
 use Rattle.ground.specs.Table.{tabulate}
 use Rattle.ground.specs.Types.{Bytes, Epoch}
 use Rattle.cards.specs.declared.card.Card.{Card}
-use Rattle.cards.specs.declared.card.CardOutcome.{CardOutcome}
-use Rattle.cards.specs.Answers.{answer_number}
+use Rattle.cards.specs.declared.refusals.Refusal.{Refusal}
+use Rattle.cards.specs.Answers.{CardOutcome, answer_number}
 use Rattle.cards.specs.Calls.{Call, outcome_of}
 use Rattle.cards.specs.Commands.{start_of}
 use Rattle.cards.specs.Owners.{owner_in}
@@ -56,6 +56,11 @@ put_card c state = put_own 1 c (put_own 0 c state)
 -- a refusal encodes nothing anew
 abbrev pub kept_card : (group : ℕ) (outcome : CardOutcome) (state : Bytes) → Bytes
 kept_card g outcome state = if answer_number outcome.answer == 0 then put_own g outcome.card state else state
+
+-- the same of what the call tells
+abbrev pub told_card : (group : ℕ) (told : Result Card Refusal) (state : Bytes) → Bytes
+told_card g (Ok c) state = put_own g c state
+told_card g (Err e) state = state
 
 abbrev pub are_epochs : (kind e₀ e₁ : ℕ) → Bool
 are_epochs kind e₀ e₁ = is_epoch kind e₀ && is_epoch kind e₁

@@ -1,11 +1,11 @@
 // Two circuits on one card for C. The whole state is a lent buffer: the owner row, then a sender's state for each group. A call reads and writes the owner row and its group's own part.
 ghost use Rattle.std.specs.Prelude.{◌≡◌, true, ◌<◌, length};
-ghost use Rattle.cards.specs.Answers.{answer_number};
+ghost use Rattle.ground.specs.Refusals.{number_told};
+ghost use Rattle.cards.specs.Answers.{refusal_number};
 ghost use Rattle.cards.specs.Calls.Call.{Claim, Release, AddSlot, RemoveSlot, Report, Lapse, StartEpoch};
-ghost use Rattle.cards.specs.Commands.{start_of};
 ghost use Rattle.cards.specs.Owners.{owner_in};
 ghost use Rattle.ground.specs.Drawn.{fill_at};
-ghost use Rattle.c_cards.specs.Cards.{alone, are_epochs, board_bytes_on, call_answer_on, call_state_on, card_bytes, card_of, kept_card, outgoing_bytes_on, owned_bytes_on, owners_in, packet_answer_on, packet_bytes_on, part_at, part_in, payload_answer_on, payload_bytes_on, put_card, put_own, ranks_bytes_on, refusal_of, shown_answer_on, start_answer_on, start_state_on};
+ghost use Rattle.c_cards.specs.Cards.{alone, are_epochs, board_bytes_on, call_answer_on, call_state_on, card_bytes, card_of, outgoing_bytes_on, owned_bytes_on, owners_in, packet_answer_on, packet_bytes_on, part_at, part_in, payload_answer_on, payload_bytes_on, put_card, put_own, ranks_bytes_on, refusal_of, shown_answer_on, start_answer_on, start_state_on, told_card};
 ghost use Rattle.c_face.specs.Keeping.{byte_at, sender_of, state_bytes};
 ghost use Rattle.c_cards.specs.Laws.Slots.{slot_packet_answer, slot_packet_bytes, slot_refusal};
 ghost use Rattle.c_face.specs.Senders.{are_bytes};
@@ -13,7 +13,8 @@ ghost use Rattle.c_face.specs.Senders.{are_bytes};
 use crate::{boards, keeping};
 use c_face::boards::{BOARD_BYTES, RANKS_BYTES};
 use c_face::senders;
-use cards::{Card, CardOutcome};
+use cards::Card;
+use ground::Refusal;
 use packet::kinds;
 use sender::Sender;
 
@@ -93,27 +94,21 @@ pub(crate) fn put_own(card: Card, group: u32, state: &mut [u8])
     put_part(sender, group, state);
 }
 
-// What a call leaves: under 0 the owner row and the group's part, and under a refusal the bytes as they were.
-pub(crate) fn keep(outcome: CardOutcome, group: u32, state: &mut [u8]) -> u8
+// What a call leaves: the owner row and the group's part, and under a refusal the bytes as they were.
+pub(crate) fn keep(answer: Result<Card, cards::Refusal>, group: u32, state: &mut [u8]) -> u8
     requires { length state.old ≡ card_bytes }
-    ensures { (result ≡ answer_number outcome.answer) × (state.new ≡ kept_card group outcome state.old) }
+    ensures { (result ≡ number_told refusal_number answer) × (state.new ≡ told_card group answer state.old) }
 {
-    let answer = outcome.answer;
-    let number = answer.number();
-    if number != 0 {
-        return number;
+    if let Ok(card) = answer {
+        put_own(card, group, state);
     }
-    let card = outcome.card;
-    put_own(card, group, state);
-    0
+    ground::number_told(answer)
 }
 
-fn put_start(kind: u8, count: u32, epoch_0: u8, epoch_1: u8, state: &mut [u8])
+fn put_whole(card: Card, state: &mut [u8])
     requires { length state.old ≡ card_bytes }
-    ensures { state.new ≡ put_card (start_of kind count epoch_0 epoch_1).card state.old }
+    ensures { state.new ≡ put_card card state.old }
 {
-    let outcome = Card::start(kind, count, epoch_0, epoch_1);
-    let card = outcome.card;
     put_own(card, 0, state);
     put_own(card, 1, state);
 }
@@ -138,20 +133,19 @@ fn start_by(kind: u32, count: u32, first_epoch_0: u32, first_epoch_1: u32, state
         };
     }
     if senders::is_no_start(kind, count) {
-        put_start(kinds::H4, 0, 0, 0, state);
+        put_whole(Card::empty(kinds::H4, 0, 0), state);
         return 4;
     }
     if !are_epochs(kind as u8, first_epoch_0, first_epoch_1) {
         return 8;
     }
-    put_start(
-        kind as u8,
-        count,
-        first_epoch_0 as u8,
-        first_epoch_1 as u8,
-        state,
-    );
-    0
+    match Card::start(kind as u8, count, first_epoch_0 as u8, first_epoch_1 as u8) {
+        Ok(card) => {
+            put_whole(card, state);
+            0
+        }
+        Err(refusal) => refusal.number(),
+    }
 }
 
 pub fn levelspruce_card_start(
@@ -188,8 +182,7 @@ pub fn levelspruce_card_claim(state: &mut [u8], group: u32, slot: u32) -> u8
         return first;
     }
     let card = own_card(state, group);
-    let outcome = card.claim(group, slot);
-    keep(outcome, group, state)
+    keep(card.claim(group, slot), group, state)
 }
 
 pub fn levelspruce_card_release(state: &mut [u8], group: u32, slot: u32) -> u8
@@ -201,8 +194,7 @@ pub fn levelspruce_card_release(state: &mut [u8], group: u32, slot: u32) -> u8
         return first;
     }
     let card = own_card(state, group);
-    let outcome = card.release(group, slot);
-    keep(outcome, group, state)
+    keep(card.release(group, slot), group, state)
 }
 
 pub fn levelspruce_card_add(state: &mut [u8], group: u32, slot: u32) -> u8
@@ -214,8 +206,7 @@ pub fn levelspruce_card_add(state: &mut [u8], group: u32, slot: u32) -> u8
         return first;
     }
     let card = own_card(state, group);
-    let outcome = card.add(group, slot);
-    keep(outcome, group, state)
+    keep(card.add(group, slot), group, state)
 }
 
 pub fn levelspruce_card_remove(state: &mut [u8], group: u32, slot: u32) -> u8
@@ -227,8 +218,7 @@ pub fn levelspruce_card_remove(state: &mut [u8], group: u32, slot: u32) -> u8
         return first;
     }
     let card = own_card(state, group);
-    let outcome = card.remove(group, slot);
-    keep(outcome, group, state)
+    keep(card.remove(group, slot), group, state)
 }
 
 pub fn levelspruce_card_lapse(state: &mut [u8], group: u32) -> u8
@@ -240,8 +230,7 @@ pub fn levelspruce_card_lapse(state: &mut [u8], group: u32) -> u8
         return first;
     }
     let card = own_card(state, group);
-    let outcome = card.lapse(group);
-    keep(outcome, group, state)
+    keep(card.lapse(group), group, state)
 }
 
 pub fn levelspruce_card_report(
@@ -262,8 +251,11 @@ pub fn levelspruce_card_report(
         return 8;
     }
     let card = own_card(state, group);
-    let outcome = card.report(group, epoch as u8, mst as u8, rs_ack as u8);
-    keep(outcome, group, state)
+    keep(
+        card.report(group, epoch as u8, mst as u8, rs_ack as u8),
+        group,
+        state,
+    )
 }
 
 pub fn levelspruce_card_start_epoch(
@@ -284,8 +276,11 @@ pub fn levelspruce_card_start_epoch(
         return 8;
     }
     let card = own_card(state, group);
-    let outcome = card.start_epoch(group, gid as u8, mst as u8, rs_ack as u8);
-    keep(outcome, group, state)
+    keep(
+        card.start_epoch(group, gid as u8, mst as u8, rs_ack as u8),
+        group,
+        state,
+    )
 }
 
 // The owner of a slot, 0 where there is no such slot.
@@ -320,8 +315,7 @@ fn packet_in(owner: u8, group: u32, part: &[u8], slot: u32, h4: &mut [u8]) -> u8
     if first != 0 {
         return first;
     }
-    let answer = sender.packet(slot, h4);
-    answer.number()
+    ground::number_told(sender.packet(slot, h4))
 }
 
 pub fn levelspruce_card_packet(state: &[u8], group: u32, slot: u32, h4: &mut [u8]) -> u8
@@ -355,8 +349,7 @@ pub fn levelspruce_card_payload(
         return first;
     }
     let card = own_card(state, group);
-    let answer = card.payload(group, slot, p, frame, member);
-    answer.number()
+    ground::number_told(card.payload(group, slot, p, frame, member))
 }
 
 pub fn levelspruce_card_board(state: &[u8], group: u32, board: &mut [u8]) -> u8
@@ -371,10 +364,13 @@ pub fn levelspruce_card_board(state: &[u8], group: u32, board: &mut [u8]) -> u8
         return 9;
     }
     let card = own_card(state, group);
-    let shown = card.board(group);
-    let whole = shown.board;
-    boards::put_board(whole, board);
-    0
+    match card.board(group) {
+        Ok(shown) => {
+            boards::put_board(shown, board);
+            0
+        }
+        Err(refusal) => refusal.number(),
+    }
 }
 
 pub fn levelspruce_card_board_going(state: &[u8], group: u32, board: &mut [u8]) -> u8
@@ -389,10 +385,13 @@ pub fn levelspruce_card_board_going(state: &[u8], group: u32, board: &mut [u8]) 
         return 9;
     }
     let card = own_card(state, group);
-    let shown = card.outgoing(group);
-    let whole = shown.board;
-    boards::put_board(whole, board);
-    0
+    match card.outgoing(group) {
+        Ok(shown) => {
+            boards::put_board(shown, board);
+            0
+        }
+        Err(refusal) => refusal.number(),
+    }
 }
 
 pub fn levelspruce_card_ranks(state: &[u8], group: u32, ranks: &mut [u8]) -> u8
@@ -407,10 +406,13 @@ pub fn levelspruce_card_ranks(state: &[u8], group: u32, ranks: &mut [u8]) -> u8
         return 9;
     }
     let card = own_card(state, group);
-    let shown = card.ranks(group);
-    let whole = shown.ranks;
-    boards::put_ranks(whole, ranks);
-    0
+    match card.ranks(group) {
+        Ok(shown) => {
+            boards::put_ranks(shown, ranks);
+            0
+        }
+        Err(refusal) => refusal.number(),
+    }
 }
 
 fn put_owned(owned: [u8; 64], out: &mut [u8])
@@ -432,8 +434,11 @@ pub fn levelspruce_card_owned(state: &[u8], group: u32, owned: &mut [u8]) -> u8
         return 9;
     }
     let card = own_card(state, group);
-    let shown = card.owned(group);
-    let whole = shown.owned;
-    put_owned(whole, owned);
-    0
+    match card.owned(group) {
+        Ok(shown) => {
+            put_owned(shown, owned);
+            0
+        }
+        Err(refusal) => refusal.number(),
+    }
 }

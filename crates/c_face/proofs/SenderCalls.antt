@@ -80,7 +80,7 @@ known_sent kind known e = ap (λ (b : Bool). b && not (eqb kind 2)) e
 pub sent_byte : (kind : ℕ) → sends kind ≡ true → kind < 256
 sent_byte kind t = ⊎_elim (λ (h : 256 ≤ kind). absurd (true≢false (sym t ∙ sym (unknown kind (omega arith))))) (λ (h : kind < 256). h) (le_or_lt 256 kind)
 
-neither_left : (b c : Bool) → (b || c) ≡ false → b ≡ false
+pub neither_left : (b c : Bool) → (b || c) ≡ false → b ≡ false
 neither_left true c h = absurd (true≢false h)
 neither_left false c h = refl
 

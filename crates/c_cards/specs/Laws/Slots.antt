@@ -2,7 +2,7 @@
 use Rattle.std.specs.Prelude.{◌≡◌, refl, Bool, true, false, cond, ◌&&◌, List, ℕ, ◌<◌, eqb, ltb, length}
 use Rattle.std.proofs.Common.{sym, arith, eq-eqb, lt-ltb}
 use Rattle.cards.specs.Answers.{answer_number, from_sender}
-use Rattle.cards.specs.declared.answers.Answer.TheVariants.{NoSlot, Owned}
+use Rattle.cards.specs.Answers.Answer.{NoSlot, Owned}
 use Rattle.cards.specs.Laws.GroupSender.{sender_number_lem}
 use Rattle.cards.specs.Owners.{mark_of, owner_in}
 use Rattle.cards.specs.Parts as P

@@ -7,13 +7,12 @@ use Rattle.std.proofs.Math.Bool.{true, false}
 use Prim.Native.Nat.{ℕ, zero, suc, ◌<◌}
 use borrow.Author.Tests.{eq-eqb, eqb-false, eqb-true, lt-ltb}
 use Rattle.ground.specs.Truth.{cond_by, eq_or_ne}
-use Rattle.cards.specs.Answers.{answer_number, from_sender}
+use Rattle.cards.specs.Answers.{answer_number, from_sender, CardOutcome}
 use Rattle.cards.specs.Calls.{Call, outcome_of}
 use Rattle.cards.specs.Calls.Call.{Claim, Release, AddSlot, RemoveSlot, Report, Lapse, StartEpoch}
 use Rattle.cards.specs.Commands.{claim_of, command_of, group_call_of, of_own, release_of, sent_of, start_of}
-use Rattle.cards.specs.declared.answers.Answer.TheVariants as A
+use Rattle.cards.specs.Answers.{Answer as A}
 use Rattle.cards.specs.declared.card.Card.{Card}
-use Rattle.cards.specs.declared.card.CardOutcome.{CardOutcome}
 use Rattle.cards.specs.Laws.Seeing.{sender_marked, sender_outcome}
 use Rattle.cards.specs.Owners.{has_owner, mark_of}
 use Rattle.cards.specs.Parts as P
@@ -26,7 +25,7 @@ use Rattle.sender.specs.Board.{board_of}
 use Rattle.sender.specs.Calls.{Call as T}
 use Rattle.sender.specs.Commands as S
 use Rattle.sender.specs.declared.epochs.Sender.{Sender}
-use Rattle.sender.specs.declared.epochs.SenderOutcome.{SenderOutcome}
+use Rattle.sender.specs.Answers.{SenderOutcome}
 use Rattle.sender.specs.declared.table.Table.{Table}
 use Rattle.sender.specs.Epochs.{SenderCall as E, begin_of, fresh_sender, sender_outcome_of, start_epoch_of, started_sender}
 use Rattle.sender.specs.Laws.Kept.{group_call, sound_start}

@@ -11,10 +11,8 @@ use Rattle.std.proofs.Math.ListN.{length, length-replicate, get_or}
 use Rattle.ground.specs.Drawn.{fill_at, get_or_after, get_or_before, get_or_fill_at, length_fill_at}
 use Rattle.ground.specs.Table.{tabulate, length_tabulate, tabulate_ext, tabulate_is}
 use Rattle.ground.specs.Truth.{clash, cond_by, eq_or_ne}
-use Rattle.cards.specs.declared.answers.Answer.{Answer}
+use Rattle.cards.specs.Answers.{Answer, CardOutcome, answer_number}
 use Rattle.cards.specs.declared.card.Card.{Card}
-use Rattle.cards.specs.declared.card.CardOutcome.{CardOutcome}
-use Rattle.cards.specs.Answers.{answer_number}
 use Rattle.cards.specs.Calls.{Call, outcome_of}
 use Rattle.cards.specs.Commands.{sent_of, start_of}
 use Rattle.cards.specs.Laws.Alike.{Alike, AlikeAfter, alike_call}

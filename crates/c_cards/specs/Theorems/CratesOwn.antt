@@ -14,8 +14,8 @@ use Rattle.paths.specs.Answers.{number_of as plan_number}
 use Rattle.paths.specs.Checking.{checked_of}
 use Rattle.paths.specs.Planning.{plan_of}
 use Rattle.sender.specs.Commands.{answered, fresh_of, start_of}
-use Rattle.sender.specs.declared.table.Answer.TheVariants.{Done, OutOfRange}
-use Rattle.sender.specs.declared.table.Outcome.{Outcome}
+use Rattle.sender.specs.Answers.Answer.{Done, OutOfRange}
+use Rattle.sender.specs.Answers.{Outcome}
 use Rattle.sender.specs.Epochs.{begin_of}
 use Rattle.c_face.specs.Boards.{board_bytes_of, ranks_bytes_of}
 use Rattle.c_cards.specs.Cards.{are_epochs, board_bytes_on, call_answer_on, call_state_on, card_of, is_card, kept_card, outgoing_bytes_on, owned_bytes_on, packet_answer_on, packet_bytes_on, payload_answer_on, payload_bytes_on, put_card, ranks_bytes_on, shown_answer_on, shown_bytes_on, start_answer_on, start_state_on}

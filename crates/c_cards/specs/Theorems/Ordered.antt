@@ -4,8 +4,7 @@ use Rattle.std.proofs.Common.{◌∙◌, ap, sym, eq-eqb}
 use Rattle.ground.specs.Drawn.{fill_at, length_fill_at}
 use Rattle.ground.specs.Table.{tabulate_ext}
 use Rattle.cards.specs.declared.card.Card.{Card}
-use Rattle.cards.specs.declared.card.CardOutcome.{CardOutcome}
-use Rattle.cards.specs.Answers.{answer_number}
+use Rattle.cards.specs.Answers.{CardOutcome, answer_number}
 use Rattle.cards.specs.Calls.{Call, outcome_of}
 use Rattle.cards.specs.Owners.{owner_in}
 use Rattle.cards.specs.Parts as P

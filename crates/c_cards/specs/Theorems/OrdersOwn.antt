@@ -6,17 +6,15 @@ use Rattle.ground.specs.Counting.Each.{length_each}
 use Rattle.ground.specs.Table.{length_tabulate}
 use Rattle.ground.specs.Truth.{cond_by, eq_or_ne}
 use Rattle.sender.specs.declared.epochs.Sender.{Sender}
-use Rattle.sender.specs.declared.table.Outcome.{Outcome}
+use Rattle.sender.specs.Answers.{Outcome}
 use Rattle.sender.specs.declared.table.Table.{Table}
 use Rattle.sender.specs.Calls.{Call as T}
 use Rattle.sender.specs.Commands.{add_of, added_to, fallen, fallen_in, idle_slot, remove_of, removed_from}
 use Rattle.sender.specs.Epochs.{SenderCall as S, sender_outcome_of}
 use Rattle.sender.specs.Table.{is_member, slot_count, slot_at}
-use Rattle.cards.specs.declared.answers.Answer.{Answer}
-use Rattle.cards.specs.declared.answers.Answer.TheVariants as A
+use Rattle.cards.specs.Answers.{Answer, CardOutcome, answer_number}
+use Rattle.cards.specs.Answers.{Answer as A}
 use Rattle.cards.specs.declared.card.Card.{Card}
-use Rattle.cards.specs.declared.card.CardOutcome.{CardOutcome}
-use Rattle.cards.specs.Answers.{answer_number}
 use Rattle.cards.specs.Calls.{outcome_of}
 use Rattle.cards.specs.Commands.{claim_of, command_of, release_of, sent_of}
 use Rattle.cards.specs.Laws.Seeing.{owners_outcome, sender_marked, sender_other, sender_outcome}

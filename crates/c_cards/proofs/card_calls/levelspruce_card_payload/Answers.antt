@@ -13,4 +13,4 @@ own_card-card-requires c =
 
 pub returns : goal.returns
 returns c =
-    payload_own c.args.state.now c.args.group (opened c.args.state.now c.args.group _ c.refusal-first.ensures c.if-first-ne0.false) _ c.own_card-card.ensures c.args.slot c.args.p c.args.frame.now c.args.member.now _ _ _ c.payload-answer.ensures.0 c.payload-answer.ensures.1 c.number.ensures
+    payload_own c.args.state.now c.args.group (opened c.args.state.now c.args.group _ c.refusal-first.ensures c.if-first-ne0.false) _ c.own_card-card.ensures c.args.slot c.args.p c.args.frame.now c.args.member.now _ _ _ c.payload.ensures.0 c.payload.ensures.1 c.number_told.ensures

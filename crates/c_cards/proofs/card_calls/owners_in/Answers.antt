@@ -1,8 +1,7 @@
 use mathlib.Core.Path.{refl}
 use native.Mathlib.Omega.{arith}
-use Rattle.ground.specs.Counting.Each.{done_none, done_more}
+use Rattle.ground.specs.Counting.Each.{done_none, done_more, done_table}
 use Rattle.c_cards.specs.Cards.{owners_in}
-use Rattle.c_face.proofs.Wholes.{done_whole}
 use Rattle.c_cards.proofs.card_calls.owners_in.Goals as goal
 
 pub loop-i-init : goal.loop-i-init
@@ -13,4 +12,4 @@ loop-i-preserved c = (c.loop-i.invariant.0, omega arith, done_more _ c.loop-i.in
 
 pub returns : goal.returns
 unfolding owners_in
-returns c = done_whole c.loop-i.invariant.2 (omega arith) c.loop-i.invariant.0
+returns c = done_table {n = 64} c.loop-i.invariant.2 (omega arith) c.loop-i.invariant.0

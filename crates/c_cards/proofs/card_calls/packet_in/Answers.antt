@@ -1,6 +1,8 @@
 -- `packet_in` meets its contract: 1 or 14 where the slot is refused, else what the group's sender answers and writes.
 use mathlib.Core.Path.{ap, ◌∙◌}
-use Rattle.sender.specs.Table.{answer_number as sender_number}
+use Rattle.ground.specs.Refusals.{number_told}
+use Rattle.sender.specs.Answers.{refusal_number}
+use Rattle.sender.specs.Theorems.Told.{told_number}
 use Rattle.c_cards.specs.Laws.Slots.{slot_refused, slot_taken}
 use Rattle.c_cards.proofs.card_calls.packet_in.Goals as goal
 
@@ -10,4 +12,4 @@ returns-then-first-ne0 c =
 
 pub returns : goal.returns
 returns c =
-    rw (← c.sender_of-sender.ensures) (slot_taken c.args.owner c.args.group c.sender_of-sender.result c.args.slot c.args.h4.now _ c.slot_refusal-first.ensures c.if-first-ne0.false _ _ (c.number.ensures ∙ ap sender_number c.packet-answer.ensures.0) c.packet-answer.ensures.1)
+    rw (← c.sender_of-sender.ensures) (slot_taken c.args.owner c.args.group c.sender_of-sender.result c.args.slot c.args.h4.now _ c.slot_refusal-first.ensures c.if-first-ne0.false _ _ (c.number_told.ensures ∙ ap (number_told refusal_number) c.packet.ensures.0 ∙ told_number _ tt) c.packet.ensures.1)
