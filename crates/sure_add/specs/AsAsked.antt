@@ -3,7 +3,7 @@ use Rattle.std.specs.Prelude.{◌≡◌, ◌⊎◌, ◌≢◌, true, false, ℕ,
 use Rattle.reply.specs.Members.{ok_state, port_at}
 use Rattle.rows.specs.Member.{member_at}
 use Rattle.rows.specs.Packets.{marks_at}
-use Rattle.sender.specs.declared.table.Answer.TheVariants.{Done}
+use Rattle.sender.specs.Answers.Answer.{Done}
 use Rattle.sender.specs.Commands.{add_of}
 use Rattle.sender.specs.Numbering.{number_in, slots_in, state_in}
 use Rattle.sender.specs.Table.{is_add}

@@ -7,7 +7,7 @@ use Rattle.packet.specs.Ruling.{read_row}
 use Rattle.packet.specs.Symbols.{packet_row}
 use Rattle.packet.specs.Reading.{Reading}
 use Rattle.receiver.specs.Shown.{reply_of}
-use Rattle.sender.specs.declared.table.Answer.TheVariants.{Done}
+use Rattle.sender.specs.Answers.Answer.{Done}
 use Rattle.sender.specs.declared.table.Table.{Table}
 use Rattle.sender.specs.Calls.{Call, run}
 use Rattle.sender.specs.Calls.Call.{AddSlot, Report}

@@ -13,7 +13,7 @@ use Rattle.reply.specs.Members.{ok_state, port_at}
 use Rattle.reply.specs.Waiting.{standing_at}
 use Rattle.rows.specs.Group.{group_at}
 use Rattle.rows.specs.Packets.{marks_at}
-use Rattle.sender.specs.declared.table.Answer.TheVariants.{Done}
+use Rattle.sender.specs.Answers.Answer.{Done}
 use Rattle.sender.specs.declared.table.Table.{Table}
 use Rattle.sender.specs.Board.{board_of}
 use Rattle.sender.specs.Calls.{Call, run}

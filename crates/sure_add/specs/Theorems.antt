@@ -3,7 +3,7 @@ use Rattle.std.specs.Prelude.{◌≡◌, ◌≢◌, true, false, not, ℕ, suc, 
 use Rattle.packet.specs.Kinds.{fixed_kind, mst_fails}
 use Rattle.packet.specs.Mst.{Spoken}
 use Rattle.receiver.specs.Shown.{reply_of}
-use Rattle.sender.specs.declared.table.Answer.TheVariants.{Done}
+use Rattle.sender.specs.Answers.Answer.{Done}
 use Rattle.sender.specs.Commands.{add_of}
 use Rattle.sender.specs.Numbering.{slots_in, state_in}
 use Rattle.sender.specs.Table.{is_active, is_add}

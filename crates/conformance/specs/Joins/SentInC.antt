@@ -24,9 +24,9 @@ use Rattle.sender.specs.Epochs.{SenderCall, begin_of, fresh_sender, packet_answe
 use Rattle.sender.specs.SenderRuns.{AllGiven}
 use Rattle.sender.specs.Theorems.Packets.{packet_done, written_done}
 use Rattle.sender.specs.declared.epochs.Sender.{Sender}
-use Rattle.sender.specs.declared.epochs.SenderOutcome.{SenderOutcome}
+use Rattle.sender.specs.Answers.{SenderOutcome}
 use Rattle.sender.specs.Epochs.SenderCall.{OnTable, StartEpoch}
-use Rattle.sender.specs.declared.table.Answer.TheVariants.{Done, Field}
+use Rattle.sender.specs.Answers.Answer.{Done, Field}
 use Rattle.sender.specs.Laws.Kept.{group_call, start_kind}
 use Rattle.sender.specs.Laws.Sizes.{size_large, size_small}
 use Rattle.sender.specs.Table.{answer_number, slot_count}

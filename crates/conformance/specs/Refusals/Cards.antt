@@ -2,11 +2,9 @@
 use Rattle.std.specs.Prelude.{◌≡◌, refl, Bool, true, false, not, ◌&&◌, ◌||◌, List, [], ◌∷◌, ℕ, get_or, length, replicate, if◌then◌else◌, ◌==◌}
 use Rattle.std.proofs.Common.{◌∙◌, ap}
 use Rattle.ground.specs.Plain.{◌<?◌}
-use Rattle.cards.specs.declared.answers.Answer.{Answer}
-use Rattle.cards.specs.declared.answers.Answer.TheVariants as A
+use Rattle.cards.specs.Answers.{Answer, CardOutcome, answer_number, from_sender}
+use Rattle.cards.specs.Answers.{Answer as A}
 use Rattle.cards.specs.declared.card.Card.{Card}
-use Rattle.cards.specs.declared.card.CardOutcome.{CardOutcome}
-use Rattle.cards.specs.Answers.{answer_number, from_sender}
 use Rattle.cards.specs.Calls.{Call as CardCall, outcome_of}
 use Rattle.cards.specs.Calls.Call.{AddSlot, Claim, Lapse, Release, RemoveSlot, Report, StartEpoch}
 use Rattle.cards.specs.Commands.{claim_of, command_of, group_call_of, release_of, start_of}
@@ -18,8 +16,8 @@ use Rattle.conformance.specs.Refusals.Entries.{Call, Copes, If, Refusal, Unless,
 use Rattle.conformance.specs.Refusals.Epochs as sender
 use Rattle.conformance.specs.Refusals.Tables.{idle, member_is, state_at}
 use Rattle.sender.specs.declared.epochs.Sender.{Sender}
-use Rattle.sender.specs.declared.epochs.SenderOutcome.{SenderOutcome}
-use Rattle.sender.specs.declared.table.Answer as S
+use Rattle.sender.specs.Answers.{SenderOutcome}
+use Rattle.sender.specs.Answers as S
 use Rattle.sender.specs.Board.{board_of}
 use Rattle.sender.specs.Commands.{fresh_of}
 use Rattle.sender.specs.Epochs as E

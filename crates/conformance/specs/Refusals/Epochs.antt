@@ -14,7 +14,7 @@ use Rattle.conformance.specs.Refusals.Packets.{small_of}
 use Rattle.conformance.specs.Refusals.Payloads.{ranged}
 use Rattle.conformance.specs.Refusals.Tables as table
 use Rattle.sender.specs.declared.epochs.Sender.{Sender}
-use Rattle.sender.specs.declared.table.Answer.TheVariants.{Length, OutOfRange}
+use Rattle.sender.specs.Answers.Answer.{Length, OutOfRange}
 use Rattle.sender.specs.declared.table.Table.{Table}
 use Rattle.sender.specs.Calls.Call.{AddSlot, Lapse, RemoveSlot, Report}
 use Rattle.sender.specs.Commands.{fresh_of}

@@ -14,13 +14,13 @@ use Rattle.sender.specs.Epochs.{on_table, rank_in, sender_run, x_of}
 use Rattle.sender.specs.SenderRuns.{Fixed}
 use Rattle.sender.specs.Theorems.Epochs.{fixed}
 use Rattle.sender.specs.declared.epochs.Sender.{Sender}
-use Rattle.sender.specs.declared.table.Answer.TheVariants.{Done}
+use Rattle.sender.specs.Answers.Answer.{Done}
 use Rattle.sender.specs.Epochs as E
 use Rattle.sender.specs.Outcomes.{spread_told}
 use Rattle.sender.specs.Ranks.{no_rank}
 use Rattle.sender.specs.Table.{slot_count}
 use Rattle.cards.specs.Answers.{from_sender}
-use Rattle.cards.specs.declared.answers.Answer.TheVariants as A
+use Rattle.cards.specs.Answers.{Answer as A}
 use Rattle.cards.specs.declared.card.Card.{Card}
 use Rattle.cards.specs.Parts.{is_slot, owns, sender_of}
 use Rattle.cards.specs.Readings as R

@@ -13,9 +13,9 @@ use Rattle.sender.specs.Calls.{Call as T}
 use Rattle.sender.specs.Epochs.{SenderCall as E}
 use Rattle.cards.specs.Calls.Call.{Claim, Release, AddSlot, RemoveSlot, Report, Lapse, StartEpoch}
 use Rattle.cards.specs.Commands.{claim_of, command_of, group_call_of, release_of, sent_of, start_of}
-use Rattle.cards.specs.declared.answers.Answer.TheVariants as A
+use Rattle.cards.specs.Answers.{Answer as A}
 use Rattle.cards.specs.declared.card.Card.{Card}
-use Rattle.cards.specs.declared.card.CardOutcome.{CardOutcome}
+use Rattle.cards.specs.Answers.{CardOutcome}
 use Rattle.cards.specs.Laws.Seeing.{sender_marked, sender_outcome}
 use Rattle.cards.specs.Owners.{has_owner, mark_of}
 use Rattle.cards.specs.Parts.{is_slot, is_used, marked, owns, refused, sender_of}

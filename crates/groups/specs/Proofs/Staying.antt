@@ -8,9 +8,9 @@ use Rattle.sender.specs.Epochs.{SenderCall, sender_outcome_of}
 use Rattle.cards.specs.Alone.{own_in}
 use Rattle.cards.specs.Calls.Call.{Claim, Release, AddSlot, RemoveSlot, Report, Lapse, StartEpoch}
 use Rattle.cards.specs.Commands.{command_of, group_call_of, sent_of}
-use Rattle.cards.specs.declared.answers.Answer.TheVariants as A
+use Rattle.cards.specs.Answers.{Answer as A}
 use Rattle.cards.specs.declared.card.Card.{Card}
-use Rattle.cards.specs.declared.card.CardOutcome.{CardOutcome}
+use Rattle.cards.specs.Answers.{CardOutcome}
 use Rattle.cards.specs.Laws.Seeing.{own_is, owners_outcome}
 use Rattle.cards.specs.Owners.{mark_of, owner_in}
 use Rattle.cards.specs.Parts.{is_slot, owns, refused, sender_of}

@@ -5,7 +5,7 @@ use Rattle.packet.specs.Kinds.{frames}
 use Rattle.sender.specs.Epochs as E
 use Rattle.sender.specs.Ranks.{no_rank}
 use Rattle.cards.specs.Answers.{answer_number}
-use Rattle.cards.specs.declared.answers.Answer.TheVariants.{Done}
+use Rattle.cards.specs.Answers.Answer.{Done}
 use Rattle.cards.specs.Parts.{sender_of}
 use Rattle.cards.specs.Readings.{packet_answer, packet_bytes, payload_answer, payload_bytes}
 use Rattle.link.specs.History.{packet_sent}

@@ -4,7 +4,7 @@ use Rattle.cards.specs.Answers.{answer_number}
 use Rattle.cards.specs.Calls.{Call, outcome_of}
 use Rattle.cards.specs.Calls.Call.{AddSlot, Claim, Lapse, Release, RemoveSlot, Report, StartEpoch}
 use Rattle.cards.specs.Commands.{start_of}
-use Rattle.cards.specs.declared.answers.Answer.TheVariants as A
+use Rattle.cards.specs.Answers.{Answer as A}
 use Rattle.cards.specs.declared.card.Card.{Card}
 use Rattle.cards.specs.Owners.{has_owner, is_marked, with_owner}
 use Rattle.cards.specs.Readings.{board_shown, outgoing_shown, owned_shown, packet_answer, packet_bytes, payload_answer, payload_bytes, ranks_shown}

@@ -2,7 +2,7 @@
 use Rattle.std.specs.Prelude.{◌≡◌, ◌≢◌, false, ℕ, ◌<◌}
 use Rattle.std.proofs.Common.{sym, ap, ◌∙◌, true≢false}
 use Rattle.ground.specs.Truth.{fails}
-use Rattle.sender.specs.declared.table.Answer.TheVariants.{Done}
+use Rattle.sender.specs.Answers.Answer.{Done}
 use Rattle.sender.specs.declared.table.Table.{Table}
 use Rattle.sender.specs.Calls.Call.{AddSlot, Report}
 use Rattle.sender.specs.Commands.{add_of}

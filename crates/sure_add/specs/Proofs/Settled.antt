@@ -2,7 +2,7 @@
 use Rattle.std.specs.Prelude.{◌≡◌, ◌≢◌, false, ℕ, ◌<◌, eqb}
 use Rattle.std.proofs.Common.{sym, ◌∙◌, true≢false, arith}
 use Rattle.packet.specs.Kinds.{fixed_kind}
-use Rattle.sender.specs.declared.table.Answer.TheVariants.{Done}
+use Rattle.sender.specs.Answers.Answer.{Done}
 use Rattle.sender.specs.Calls.Call.{AddSlot, Report}
 use Rattle.sender.specs.declared.table.Table.{Table}
 use Rattle.sender.specs.Commands.{add_of, start_of}

@@ -4,7 +4,7 @@ use Rattle.std.proofs.Common.{sym, ap, ◌∙◌, arith, ne_eqb}
 use Rattle.ground.specs.Plain.{◌<?◌}
 use Rattle.packet.specs.Kinds.{mst_epochs}
 use Rattle.packet.specs.Words.{ADD, EOS, IDLE, NORM}
-use Rattle.sender.specs.declared.table.Answer.TheVariants.{Done}
+use Rattle.sender.specs.Answers.Answer.{Done}
 use Rattle.sender.specs.declared.table.Table.{Table}
 use Rattle.sender.specs.Calls.{run}
 use Rattle.sender.specs.Calls.Call.{AddSlot, Lapse, Report}

@@ -25,7 +25,7 @@ use Rattle.rows.specs.Group.{group_at}
 use Rattle.rows.specs.Member.{member_at}
 use Rattle.rows.specs.Packets.{marks_at}
 use Rattle.rows.specs.Rows.{rows_for}
-use Rattle.sender.specs.declared.table.Answer.TheVariants.{Done}
+use Rattle.sender.specs.Answers.Answer.{Done}
 use Rattle.sender.specs.declared.table.Table.{Table}
 use Rattle.sender.specs.Board.{board_of}
 use Rattle.sender.specs.Calls.{Call}

@@ -8,7 +8,7 @@ use Rattle.packet.specs.Theorems.Sent as laws
 use Rattle.packet.specs.Kinds.{first_tag, frames}
 use Rattle.packet.specs.Sent.{sent_answer, sent_bytes}
 use Rattle.sender.specs.declared.epochs.Sender.{Sender}
-use Rattle.sender.specs.declared.table.Answer.TheVariants.{Done}
+use Rattle.sender.specs.Answers.Answer.{Done}
 use Rattle.sender.specs.Epochs.{packet_answer, packet_bytes, packet_fields}
 use Rattle.sender.specs.Outcomes.{written}
 use Rattle.sender.specs.Table.{slot_count}

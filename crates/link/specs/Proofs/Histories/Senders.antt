@@ -12,8 +12,8 @@ use Rattle.sender.specs.Epochs.{SenderCall, begin_of, fresh_sender, on_table, se
 use Rattle.sender.specs.SenderRuns.{AllGiven}
 use Rattle.sender.specs.Theorems.Epochs.{SoundSender, sender_sound}
 use Rattle.sender.specs.declared.epochs.Sender.{Sender}
-use Rattle.sender.specs.declared.epochs.SenderOutcome.{SenderOutcome}
-use Rattle.sender.specs.declared.table.Answer.TheVariants.{Done, Field}
+use Rattle.sender.specs.Answers.{SenderOutcome}
+use Rattle.sender.specs.Answers.Answer.{Done, Field}
 use Rattle.sender.specs.declared.table.Table.{Table}
 use Rattle.sender.specs.Calls.{Call}
 use Rattle.sender.specs.Epochs.SenderCall.{OnTable, StartEpoch}
