@@ -5,7 +5,8 @@ it, by `stateless REFUSALS ANSWER LENT LEFT` or `stateful REFUSALS ANSWER LENT L
 definition there that ends so. What is proved of it says something of the entry point only if these are the contract's
 own terms. So, with the call's parameters named by place as the function's are, and x.old and x.now of a lent one read as x:
 - the answer is the result of the `ensures`, or its part .answer or .number, under a function that a method `number` of
-  the crates promises or that is `number_told` of one, or bare; a result told X, an Ok or an Err by the answer in the record X, counts as X;
+  the crates promises or that is `number_told` of one, or bare; a result told X, an Ok or an Err by the answer in the record X, counts as X, and so
+  does a part of X alone where a law NAME_done says that the answer of that function is Done;
 - each slice lent to be changed is in LENT, and what stands for it in LEFT is what the `ensures` has for it afterwards; or
   it is GIVEN, and RETURNED is; of several numbers that are lent so, GIVEN and RETURNED are tuples, in one order;
 - any other RETURNED, or each part of a tuple, is a part of the result, and where the answer is a part there is a RETURNED.
@@ -15,6 +16,8 @@ import re
 from checks.contracts import functions, lent, module_path, parted
 from checks.exports import EXPORTS, LIBRARIES
 
+# under such a name a definition tells an answer, or a record that has one, as a Result
+TOLD = re.compile(r"(?:[a-z]+_)?told")
 TOKEN = re.compile(r"\(|\)|,|\.\w+|[^\s(),.]+|\.")
 
 
@@ -144,7 +147,8 @@ def equations(f):
 
 def result(f):
     returned = dict(equations(f)).get("result")
-    return returned[1] if isinstance(returned, list) and len(returned) == 2 and returned[0] == "told" else returned
+    told = isinstance(returned, list) and len(returned) == 2 and isinstance(returned[0], str) and TOLD.fullmatch(returned[0])
+    return returned[1] if told else returned
 
 
 def afterwards(f, name):
@@ -159,11 +163,18 @@ def whole(items, parts):
     return items, None
 
 
-def faults(f, call, numbers):
+def never_refused(top):
+    """The functions of which a law NAME_done says that the answer is Done."""
+    return {name for file in sorted(top.glob("crates/*/specs/**/*.antt")) for name in re.findall(r"^pub (\w+)_done : .*\.answer ≡ Done$", file.read_text(), re.M)}
+
+
+def faults(f, call, numbers, done=()):
     """What in the opened call is not of the contract."""
     if not isinstance(call, list) or (call[0], len(call)) not in (("stateless", 5), ("stateful", 8)):
         return ["does not end in stateless or stateful"]
     wrong, told = [], result(f)
+    if f.name.split("::")[-1] in done and isinstance(told, list) and len(told) == 2 and isinstance(told[1], str) and told[1].startswith("."):
+        told = told[0]
     answer = call[2][1] if isinstance(call[2], list) and len(call[2]) == 2 and isinstance(call[2][0], str) and call[2][0] in numbers else call[2]
     # a contract may give the answer itself as a field of the call's outcome; then it is no part of the result
     answer, part = (answer, None) if answer == told else whole(answer, (".answer", ".number"))
@@ -201,6 +212,7 @@ def check(top):
     files = {short: file for file, short in re.findall(r"^use (\w+) as (\w+)$", text, re.M)}
     made = dict(definitions(table.parent / "Refusals"))
     found, numbers = contracts(top)
+    done = never_refused(top)
     rows = re.findall(r'\brow "([^"]+)" (\w+)\.(\S+)', text)
     wrong = []
     for name, file, call in rows:
@@ -216,7 +228,7 @@ def check(top):
                 wrong.append(f"{name}\tthe row has {len(places)} parameters, the function {len(names)}")
                 continue
             renamed = put(opened(made, files[file], definition[1]), dict(zip(places, names)))
-            wrong += [f"{name}\t{fault}" for fault in faults(these[0], renamed, numbers)]
+            wrong += [f"{name}\t{fault}" for fault in faults(these[0], renamed, numbers, done)]
     wrong += [f"{name}\thas two rows" for name in sorted({n for n, _, _ in rows if [m for m, _, _ in rows].count(n) > 1})]
     if not rows:
         wrong.append("no row found\tthis check would hold of anything")

@@ -4,7 +4,8 @@
 - A law of specs/ that nothing names: no other declaration, no page of docs/. Theorems, wrong readings, samples and
   examples are there for their own sake (files and folders of these names, crates/conformance and crates/pinned), and so
   are equations by refl among definitions.
-- A function of src/ that is not public and that nothing calls. What is public is held by promised-names.
+- A function of src/ that is not public and that nothing calls, but for those that a trait of the crates asks for. What is
+  public is held by promised-names.
 """
 import collections
 import re
@@ -15,6 +16,7 @@ OWN_SAKE = ("Theorems", "Wrong", "Samples", "Examples")
 USE = re.compile(r"(?m)^[ \t]*((?:pub |ghost |unfoldable )*)use\s+([^\s{;]+?)(?:\.\{([^}]*)\}|\s+as\s+([^\s;]+))?[ \t]*;?[ \t]*$")
 LAW = re.compile(r"(?m)^( *)(pub )?([^\s(){}:]+)(?: \{[^}]*\})? :(?=\s)")
 FUNCTION = re.compile(r"(?m)^\s*fn (\w+)")
+TRAIT = re.compile(r"^(?:pub(?:\([a-z]+\))? )?trait .*?^}", re.M | re.S)
 NO_LAW = ("abbrev", "unfoldable", "record", "data", "axiom", "module", "mod", "use")
 
 
@@ -68,6 +70,8 @@ def check(top):
         cited.update(set(said[path]))
         cited.update({item.split()[0] for _, _, listed, _ in USE.findall(text) for item in listed.split(",") if item.strip()})
     pages = words(" ".join(page.read_text() for page in sorted(top.glob("docs/**/*.md"))).replace("`", " "))
+    # what a trait asks for is called through the trait
+    asked = {name for path, text in texts.items() if path.suffix == ".rt" for trait in TRAIT.findall(text) for name in FUNCTION.findall(trait)}
     faults = []
     for path, text in texts.items():
         inside = path.relative_to(top / "crates")
@@ -83,6 +87,6 @@ def check(top):
         if path.suffix == ".rt":
             for name in FUNCTION.findall(text):
                 calls = sum(len(re.findall(rf"(?<!fn )\b{name}\b", other)) for at, other in texts.items() if at.suffix == ".rt" and inside.parts[0] in at.parts)
-                if not calls and name != "main":
+                if not calls and name != "main" and name not in asked:
                     faults.append(f"{shown}\tnothing calls\t{name}")
     return f"all that stands in crates is named\tfiles {len(texts)}", faults

@@ -73,6 +73,10 @@ tells_c (text, a, b) = stateful {S = ℕ × ℕ} [] (tell_answer text) [] [] (a,
 TOLD = "pub number_of : Answered → ℕ\nnumber_of = number_told refused_number\n"
 
 
+# a call that gives a part of its outcome alone
+PART = SOURCE.replace("result ≡ outcome_of table (AddSlot slot)", "result ≡ (outcome_of table (AddSlot slot)).table")
+
+
 def files(source=SOURCE, face=FACE, table=TABLE, calls=CALLS, told=""):
     return {
         "crates/one/src/lib.rt": source,
@@ -93,6 +97,9 @@ def other(old, new):
 CASES = [
     ("rows of their contracts", files(), ""),
     ("a number told of a Result", files(source=SOURCE[SOURCE.index("pub fn write") :], told=TOLD), ""),
+    ("a part alone of a call that a law says is done", files(source=PART, told="pub add_done : (t : Table) → (outcome_of t).answer ≡ Done\n"), ""),
+    ("a part alone, and no such law", files(source=PART), "one::add\tthe answer is not the result"),
+    ("told of a record under another name", files(source=SOURCE.replace("result ≡ outcome_of table (AddSlot slot)", "result ≡ table_told (outcome_of table (AddSlot slot))")), ""),
     ("a number that nothing promises", files(source=SOURCE[SOURCE.index("pub fn write") :]), "one::write\tthe answer is not the result"),
     ("another answer", other("(number_of (write_answer f (length h4)))", "(number_of (read_answer f (length h4)))"), "one::write\tthe answer is not the result"),
     ("an answer of another argument", other("(length h4)))", "(length f)))"), "one::write\tthe answer is not the result"),
