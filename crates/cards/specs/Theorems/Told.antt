@@ -4,7 +4,6 @@ use Rattle.std.specs.Prelude.{◌≡◌, refl, Bool, true, false, cond, ◌||◌
 use Rattle.std.proofs.Common.{ap, ◌∙◌, ltb, sym}
 use Rattle.ground.specs.Refusals.{number_told}
 use Rattle.sender.specs.Answers as S
-use Rattle.sender.specs.Answers.{SenderOutcome}
 use Rattle.sender.specs.Board.{board_of}
 use Rattle.sender.specs.Epochs.{SenderCall, begin_of, fresh_sender, ranks_of, sender_outcome_of}
 use Rattle.sender.specs.Commands as T
