@@ -6,14 +6,11 @@ use native.Mathlib.Omega.{arith}
 use lib.ListN.{length, get_or}
 use borrow.Author.Tests.{eq-eqb, ne_eqb, le-ltb, lt-ltb}
 use Rattle.ground.specs.Drawn.{Filling, fill_at, fill_at_ext, filling, filling_all, filling_piece}
-use Rattle.sender.specs.declared.board.Board.{Board}
 use Rattle.spoken.specs.Applying.{applied_of, change_in}
 use Rattle.spoken.specs.Changes.{answer_number, compared_of}
-use Rattle.spoken.specs.declared.applying.Applied.{Applied}
-use Rattle.spoken.specs.declared.comparing.Compared.{Compared}
 use Rattle.spoken.specs.declared.lists.Change.{Change}
 use Rattle.spoken.specs.declared.lists.Changes.{Changes}
-use Rattle.spoken.specs.declared.speaking.Speech.{Speech}
+use Rattle.spoken.specs.Answers.{Speech}
 use Rattle.spoken.specs.Shown.{wait_code}
 use Rattle.spoken.specs.Speaking.{SPEECH-ROOM, speech_bytes, speech_of}
 use Rattle.spoken.specs.SpeakingRuns.{runs_speech_bytes, runs_speech_of}
@@ -52,14 +49,6 @@ module _ (cs : Changes) where
       let A : Filling 0 2 (changes_byte cs) d a = filling 0 2 (changes_byte cs) d a (e ∙ fill_at_ext 0 2 (λ k. get_or (cs.count ∷ wait_code cs.wait ∷ []) k 0) (changes_byte cs) d head_bytes) in
       let B : Filling 0 322 (changes_byte cs) d out = filling_piece 320 (list_byte cs.list) out A eo list_bytes in
       filling_all B l
-
--- what the crate's own calls say, on the boards and changes that the bytes are
-pub compared_both : (old new : List ℕ) (a b : Board) (r : Compared) → a ≡ board_from old → b ≡ board_from new → r ≡ compared_of a b → r ≡ compared_of (board_from old) (board_from new)
-compared_both old new a b r ea eb e = e ∙ rw (ea, eb)
-
-pub applied_both : (board changes : List ℕ) (b : Board) (cs : Changes) (r : Applied) → b ≡ board_from board → cs ≡ changes_from changes → r ≡ applied_of b cs
-    → r ≡ applied_of (board_from board) (changes_from changes)
-applied_both board changes b cs r eb ec e = e ∙ rw (eb, ec)
 
 module _ (old new out : List ℕ) where
   compared_kept : (n : ℕ) → compared_answer_c old new out ≡ n → (n ≡ 0 → ⊥) → (n ≡ compared_answer_c old new out) × (out ≡ compared_bytes_c old new out)
@@ -149,12 +138,6 @@ module _ (speech : Changes → List ℕ → Speech) (said : Changes → List ℕ
 
 -- one line a slot
 module _ (changes text : List ℕ) where
-  pub spoken_is : (cs : Changes) (r : Speech) → cs ≡ changes_from changes → r ≡ speech_of cs text → r ≡ speech_of (changes_from changes) text
-  spoken_is cs r ec e = e ∙ rw ec
-
-  pub spoken_bytes : (cs : Changes) (left : List ℕ) → cs ≡ changes_from changes → left ≡ speech_bytes cs text → left ≡ speech_bytes (changes_from changes) text
-  spoken_bytes cs left ec e = e ∙ rw ec
-
   module _ (written : ℕ) where
     abbrev Speaks : ℕ → List ℕ → ℕ → Type 0
     Speaks n left w = (n ≡ spoken_answer_c changes text) × (left ≡ spoken_bytes_c changes text) × (w ≡ written_c changes text written)
@@ -184,12 +167,6 @@ module _ (changes text : List ℕ) where
 
 -- in runs
 module _ (changes text : List ℕ) where
-  pub runs_is : (cs : Changes) (r : Speech) → cs ≡ changes_from changes → r ≡ runs_speech_of cs text → r ≡ runs_speech_of (changes_from changes) text
-  runs_is cs r ec e = e ∙ rw ec
-
-  pub runs_bytes : (cs : Changes) (left : List ℕ) → cs ≡ changes_from changes → left ≡ runs_speech_bytes cs text → left ≡ runs_speech_bytes (changes_from changes) text
-  runs_bytes cs left ec e = e ∙ rw ec
-
   module _ (written : ℕ) where
     abbrev Tells : ℕ → List ℕ → ℕ → Type 0
     Tells n left w = (n ≡ runs_answer_c changes text) × (left ≡ runs_bytes_c changes text) × (w ≡ runs_written_c changes text written)

@@ -10,7 +10,7 @@ use Rattle.cards.specs.Readings.{outgoing_shown}
 use Rattle.sender.specs.declared.board.Board.{Board}
 use Rattle.sender.specs.declared.epochs.Sender.{Sender}
 use Rattle.spoken.specs.Changes.{answer_number, compared_of}
-use Rattle.spoken.specs.declared.comparing.Compared.{Compared}
+use Rattle.spoken.specs.Answers.{Compared}
 use Rattle.spoken.specs.Taking.{taken_of}
 use Rattle.c_face.specs.Boards.{board_bytes_of}
 use Rattle.c_cards.specs.Cards.{card_of, part_in, refusal_of}
@@ -19,10 +19,6 @@ use Rattle.c_cards.specs.Going.{changes_answer_c, changes_answer_on, changes_byt
 use Rattle.c_face.specs.Keeping.{sender_of}
 use Rattle.c_cards.specs.Theorems.CardRuns.{part_of}
 use Rattle.c_cards.proofs.TwoGroups.{Open, shut}
-
--- what the crate says of the board that the bytes are
-pub told_compared : (going old : Board) (told : List ℕ) (r : Compared) → old ≡ board_from told → r ≡ compared_of old going → r ≡ compared_of (board_from told) going
-told_compared going old told r eo e = e ∙ rw eo
 
 module _ (going : Board) (told changes : List ℕ) where
   abbrev pub Tells : ℕ → List ℕ → List ℕ → Type 0

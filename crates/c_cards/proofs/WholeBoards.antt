@@ -4,20 +4,12 @@ use mathlib.Core.List.{List}
 use Prim.Native.Nat.{ℕ, ◌≤◌, ◌<◌}
 use lib.ListN.{length}
 use borrow.Author.Tests.{eq-eqb, ne_eqb, le-ltb, lt-ltb}
-use Rattle.sender.specs.declared.board.Board.{Board}
 use Rattle.spoken.specs.Changes.{answer_number}
-use Rattle.spoken.specs.declared.speaking.Speech.{Speech}
+use Rattle.spoken.specs.Answers.{Speech}
 use Rattle.spoken.specs.Speaking.{SPEECH-ROOM}
 use Rattle.spoken.specs.SpeakingRuns.{whole_speech_bytes, whole_speech_of}
 use Rattle.c_cards.specs.Changes.{board_from}
 use Rattle.c_cards.specs.Runs.{whole_answer_c, whole_bytes_c, whole_written_c}
-
--- what the crate's own call says, on the board that the bytes are
-pub whole_is : (board text : List ℕ) (b : Board) (r : Speech) → b ≡ board_from board → r ≡ whole_speech_of b text → r ≡ whole_speech_of (board_from board) text
-whole_is board text b r eb e = e ∙ rw eb
-
-pub whole_bytes : (board text : List ℕ) (b : Board) (left : List ℕ) → b ≡ board_from board → left ≡ whole_speech_bytes b text → left ≡ whole_speech_bytes (board_from board) text
-whole_bytes board text b left eb e = e ∙ rw eb
 
 module _ (board text : List ℕ) (written : ℕ) where
   abbrev Speaks : ℕ → List ℕ → ℕ → Type 0

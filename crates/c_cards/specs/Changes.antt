@@ -13,7 +13,7 @@ use Rattle.spoken.specs.declared.lists.Change.{Change}
 use Rattle.spoken.specs.declared.lists.Changes.{Changes}
 use Rattle.spoken.specs.declared.lists.WaitChange.{WaitChange}
 use Rattle.spoken.specs.declared.lists.WaitChange.TheVariants.{Same, Opened, Closed}
-use Rattle.spoken.specs.declared.speaking.Speech.{Speech}
+use Rattle.spoken.specs.Answers.{Speech}
 use Rattle.spoken.specs.Shown.{wait_code}
 use Rattle.spoken.specs.Speaking.{SPEECH-ROOM, speech_bytes, speech_of}
 use Rattle.c_face.specs.Boards.{board_bytes, board_bytes_of}

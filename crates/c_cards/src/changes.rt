@@ -7,6 +7,7 @@ ghost use Rattle.c_cards.specs.Changes.{applied_answer_c, applied_bytes_c, board
 
 use crate::{boards, keeping};
 use c_face::boards::BOARD_BYTES;
+use ground::Refusal;
 use packet::Word;
 use sender::{Board, Row};
 use spoken::{Change, Changes, WaitChange};
@@ -142,15 +143,13 @@ pub fn levelspruce_board_changes(before: &[u8], after: &[u8], changes: &mut [u8]
     }
     let old = board_from(before);
     let new = board_from(after);
-    let compared = spoken::changes_between(old, new);
-    let told = compared.changes;
-    let answer = compared.answer;
-    let number = answer.number();
-    if number != 0 {
-        return number;
+    match spoken::changes_between(old, new) {
+        Ok(told) => {
+            put_changes(told, changes);
+            0
+        }
+        Err(refusal) => refusal.number(),
     }
-    put_changes(told, changes);
-    0
 }
 
 pub fn levelspruce_board_apply(board: &mut [u8], changes: &[u8]) -> u8
@@ -168,15 +167,13 @@ pub fn levelspruce_board_apply(board: &mut [u8], changes: &[u8]) -> u8
     }
     let old = board_from(board);
     let told = changes_from(changes);
-    let applied = spoken::apply(old, told);
-    let left = applied.board;
-    let answer = applied.answer;
-    let number = answer.number();
-    if number != 0 {
-        return number;
+    match spoken::apply(old, told) {
+        Ok(left) => {
+            boards::put_board(left, board);
+            0
+        }
+        Err(refusal) => refusal.number(),
     }
-    boards::put_board(left, board);
-    0
 }
 
 pub fn levelspruce_board_speak(changes: &[u8], text: &mut [u8], written: &mut usize) -> u8
@@ -194,12 +191,11 @@ pub fn levelspruce_board_speak(changes: &[u8], text: &mut [u8], written: &mut us
         return 2;
     }
     let told = changes_from(changes);
-    let speech = spoken::speak(told, text);
-    let answer = speech.answer;
-    let number = answer.number();
-    if number != 0 {
-        return number;
+    match spoken::speak(told, text) {
+        Ok(length) => {
+            *written = length;
+            0
+        }
+        Err(refusal) => refusal.number(),
     }
-    *written = speech.written;
-    0
 }

@@ -7,6 +7,7 @@ use crate::changes::CHANGES_BYTES;
 use crate::{boards, card_calls, changes, keeping};
 use c_face::boards::BOARD_BYTES;
 use c_face::keeping::SENDER_BYTES;
+use ground::Refusal;
 use sender::Board;
 
 fn tell(going: Board, told: &mut [u8], changes: &mut [u8]) -> u8
@@ -21,16 +22,14 @@ fn tell(going: Board, told: &mut [u8], changes: &mut [u8]) -> u8
         return 9;
     }
     let old = changes::board_from(told);
-    let compared = spoken::changes_between(old, going);
-    let list = compared.changes;
-    let answer = compared.answer;
-    let number = answer.number();
-    if number != 0 {
-        return number;
+    match spoken::changes_between(old, going) {
+        Ok(list) => {
+            changes::put_changes(list, changes);
+            boards::put_board(going, told);
+            0
+        }
+        Err(refusal) => refusal.number(),
     }
-    changes::put_changes(list, changes);
-    boards::put_board(going, told);
-    0
 }
 
 pub fn levelspruce_sender_changes(state: &[u8], told: &mut [u8], changes: &mut [u8]) -> u8

@@ -5,6 +5,7 @@ ghost use Rattle.c_cards.specs.Runs.{runs_answer_c, runs_bytes_c, runs_written_c
 use crate::changes;
 use crate::changes::CHANGES_BYTES;
 use c_face::boards::BOARD_BYTES;
+use ground::Refusal;
 
 pub fn levelspruce_board_speak_runs(changes: &[u8], text: &mut [u8], written: &mut usize) -> u8
     ensures { (result ≡ runs_answer_c changes.now text.old)
@@ -21,14 +22,13 @@ pub fn levelspruce_board_speak_runs(changes: &[u8], text: &mut [u8], written: &m
         return 2;
     }
     let told = changes::changes_from(changes);
-    let speech = spoken::speak_runs(told, text);
-    let answer = speech.answer;
-    let number = answer.number();
-    if number != 0 {
-        return number;
+    match spoken::speak_runs(told, text) {
+        Ok(length) => {
+            *written = length;
+            0
+        }
+        Err(refusal) => refusal.number(),
     }
-    *written = speech.written;
-    0
 }
 
 pub fn levelspruce_board_speak_whole(board: &[u8], text: &mut [u8], written: &mut usize) -> u8
@@ -43,12 +43,11 @@ pub fn levelspruce_board_speak_whole(board: &[u8], text: &mut [u8], written: &mu
         return 9;
     }
     let shown = changes::board_from(board);
-    let speech = spoken::speak_whole(shown, text);
-    let answer = speech.answer;
-    let number = answer.number();
-    if number != 0 {
-        return number;
+    match spoken::speak_whole(shown, text) {
+        Ok(length) => {
+            *written = length;
+            0
+        }
+        Err(refusal) => refusal.number(),
     }
-    *written = speech.written;
-    0
 }

@@ -9,7 +9,7 @@ use crate::table;
 use crate::table::{Slot, State, Table};
 use packet::{Word, kinds};
 
-#[derive(Clone, Copy)]
+#[derive(Clone, Copy, PartialEq, Eq)]
 pub struct Row {
     pub word: Word,
     pub number: u8,

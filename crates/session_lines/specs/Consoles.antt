@@ -12,6 +12,10 @@ use Rattle.session_lines.specs.Kept.{keep_all, line_in}
 use Rattle.session_lines.specs.Session.{has_end, over, used_of}
 use Rattle.text.specs.Text.{LINE-END}
 
+-- 01's number for a refusal: 'output .. length wrong'
+abbrev pub refusal_number : Refusal → ℕ
+refusal_number Length = 9
+
 -- a part of the input up to its first line end, kept behind what is kept already
 abbrev pub kept_behind : Kept → Bytes → Kept
 kept_behind kept input = keep_all kept (take (index_of LINE-END input) input)

@@ -3,4 +3,5 @@ pub mod Consoles
 pub mod Feeding
 pub mod Holding
 pub mod Keeping
+pub mod Refusals
 pub mod Telling

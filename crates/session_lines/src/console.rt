@@ -2,7 +2,8 @@
 ghost use Rattle.std.specs.Prelude.{◌≡◌, ℕ, List, ◌≤◌, length};
 ghost use Rattle.session_lines.specs.declared.kept.Kept.{Kept};
 ghost use Rattle.session_lines.specs.Kept.{line_in};
-ghost use Rattle.session_lines.specs.Consoles.{fed_by, fed_bytes_by, finished_by, finished_bytes_by};
+ghost use Rattle.session_lines.specs.Consoles.{fed_by, fed_bytes_by, finished_by, finished_bytes_by, refusal_number};
+ghost use Rattle.session_lines.specs.Laws.Refusals.{refusal_above};
 ghost use Rattle.session_lines.specs.Session.{over};
 
 use crate::gathering;
@@ -50,6 +51,18 @@ pub struct Fed<C> {
 pub enum Refusal {
     // The output buffer is below the console's room.
     Length,
+}
+
+impl ground::Refusal for Refusal {
+    ghost number_of = { refusal_number };
+
+    ghost is_no_zero = { refusal_above };
+
+    fn number(self) -> u8 {
+        match self {
+            Refusal::Length => 9,
+        }
+    }
 }
 
 // A part of the input, up to its first line end, whose line is then answered, or whole, where no line ends in it.

@@ -16,7 +16,7 @@ use Rattle.session_lines.specs.Told.{is_size}
 use Rattle.sender.specs.declared.board.Board.{Board}
 use Rattle.sender.specs.declared.table.Table.{Table}
 use Rattle.sender.specs.Board.{board_of}
-use Rattle.spoken.specs.declared.comparing.Compared.{Compared}
+use Rattle.spoken.specs.Answers.{Compared}
 use Rattle.spoken.specs.Changes.{compared_of}
 use Rattle.speak_lines.specs.declared.listening.Listener.{Listener}
 use Rattle.speak_lines.specs.Lines.{board_lines, change_lines, done_text, refused_text, said_of}

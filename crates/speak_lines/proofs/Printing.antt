@@ -1,5 +1,7 @@
 -- The lines for a listener put one behind the other, and how long they are at most.
-use mathlib.Core.Path.{◌≡◌, refl, ◌∙◌}
+use Rattle.std.specs.Prelude.{Result, Ok, Err}
+use Rattle.std.specs.Result.{result_unwrap_or}
+use mathlib.Core.Path.{◌≡◌, refl, sym, ◌∙◌, ap}
 use mathlib.Core.Bool.{Bool, true, false, cond}
 use mathlib.Core.List.{List, [], ◌∷◌, ◌++◌}
 use Prim.Native.Nat.{ℕ, zero, suc, ◌+◌, ◌/◌, ◌%◌, ◌≤◌}
@@ -19,9 +21,12 @@ use Rattle.sender.specs.declared.board.Board.{Board as BoardRows}
 use Rattle.sender.specs.declared.table.Table.{Table}
 use Rattle.sender.specs.Board.{board_of}
 use Rattle.spoken.specs.declared.lists.Changes.{Changes}
-use Rattle.spoken.specs.declared.speaking.Speech.{Speech}
-use Rattle.spoken.specs.Speaking.{SPEECH-ROOM, can_speak, speech_bytes, speech_of, spoken_text}
-use Rattle.spoken.specs.SpeakingRuns.{can_speak_whole, runs_speech_bytes, runs_speech_of, runs_text, whole_speech_bytes, whole_speech_of, whole_text}
+use Rattle.spoken.specs.Answers.{Compared, Speech, length_back, told_changes, told_length}
+use Rattle.spoken.specs.Changes.{compared_of, no_changes}
+use Rattle.spoken.specs.declared.lists.Refusal.{Refusal}
+use Rattle.spoken.specs.Theorems.NothingLost.{compared_known}
+use Rattle.spoken.specs.Speaking.{SPEECH-ROOM, can_speak, changes_speak, speech_bytes, speech_of, spoken_text, wait_line}
+use Rattle.spoken.specs.SpeakingRuns.{can_speak_whole, lines_in, runs_speech_bytes, runs_speech_of, runs_text, whole_speech_bytes, whole_speech_of, whole_text}
 use Rattle.text.specs.Ascii.{ascii}
 use Rattle.text.specs.Laws.Lengths.{decimal_le}
 use Rattle.text.specs.Laws.Putting.{is_put, put_then}
@@ -142,6 +147,23 @@ module _ (line : Line) (count : ℕ) (out : List ℕ) (b : Bool) (e : b ≡ is_s
 told_or_not : (b : Bool) (text out : List ℕ) → (cond b (length text) 0 ≡ length (cond b text [])) × (cond b (text ++ drop (length text) out) out ≡ over (cond b text []) out)
 told_or_not true text out = (refl, refl)
 told_or_not false text out = (refl, refl)
+
+-- how many bytes are written, none where nothing can be said
+written_is : (r : Result ℕ Refusal) → result_unwrap_or r 0 ≡ (length_back r).written
+written_is (Ok written) = refl
+written_is (Err refusal) = refl
+
+pub told_written : (r : Result ℕ Refusal) (s : Speech) (n : ℕ) → r ≡ told_length s → length_back (told_length s) ≡ s → n ≡ result_unwrap_or r 0 → n ≡ s.written
+told_written r s n e w f = f ∙ written_is r ∙ rw e (ap (λ (x : Speech). x.written) w)
+
+-- between boards of different sizes no change is told
+pub none_told : (runs : Bool) → change_lines runs no_changes ≡ []
+unfolding change_lines no_changes can_speak changes_speak runs_text lines_in spoken_text wait_line
+none_told true = refl
+none_told false = refl
+
+pub uncompared : (a b : BoardRows) (refusal : Refusal) → Err refusal ≡ told_changes (compared_of a b) → (compared_of a b).changes ≡ no_changes
+uncompared a b refusal e = ap (λ (c : Compared). c.changes) (sym (rw (← e) at (compared_known a b)))
 
 module _ (runs : Bool) (out new : List ℕ) (s : Speech) (r : SPEECH-ROOM ≤ length out) where
   pub board_runs : runs ≡ true → (t : Table) (d : BoardRows) → d ≡ board_of t → (s ≡ whole_speech_of d out) × (new ≡ whole_speech_bytes d out) → Stands (board_lines runs t) out s.written new

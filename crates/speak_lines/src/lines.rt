@@ -91,12 +91,13 @@ pub(crate) fn put_done(line: Line, count: u8, out: &mut [u8]) -> usize
     text::put_number(count, b'\n', out, next)
 }
 
+// What cannot be said has no line.
 pub(crate) fn put_board(runs: bool, table: Table, out: &mut [u8]) -> usize
     requires { SPEECH-ROOM ≤ length out.old }
     ensures { (result ≡ length (board_lines runs table)) × (out.new ≡ over (board_lines runs table) out.old) }
 {
     if runs {
-        return spoken::speak_whole(sender::board_of(table), out).written;
+        return spoken::speak_whole(sender::board_of(table), out).unwrap_or(0);
     }
     session_lines::show(table, out)
 }
@@ -106,7 +107,7 @@ pub(crate) fn put_changes(runs: bool, changes: Changes, out: &mut [u8]) -> usize
     ensures { (result ≡ length (change_lines runs changes)) × (out.new ≡ over (change_lines runs changes) out.old) }
 {
     if runs {
-        return spoken::speak_runs(changes, out).written;
+        return spoken::speak_runs(changes, out).unwrap_or(0);
     }
-    spoken::speak(changes, out).written
+    spoken::speak(changes, out).unwrap_or(0)
 }

@@ -98,8 +98,11 @@ fn put_line(listener: Listener, kept: Kept, out: &mut [u8]) -> usize
     ensures { (result ≡ length (text_of listener (line_in kept))) × (out.new ≡ over (text_of listener (line_in kept)) out.old) }
 {
     if is_epoch(kept) {
-        let compared = spoken::changes_between(listener.heard, sender::board_of(listener.table));
-        return lines::put_changes(listener.runs, compared.changes, out);
+        return match spoken::changes_between(listener.heard, sender::board_of(listener.table)) {
+            Ok(changes) => lines::put_changes(listener.runs, changes, out),
+            // between boards of different sizes no change is told
+            Err(_) => 0,
+        };
     }
     let line = session_lines::line_in(kept);
     put_said(listener.runs, listener.table, line, listener.place, out)

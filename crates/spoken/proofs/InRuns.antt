@@ -1,14 +1,16 @@
 -- The lines of runs put one behind the other, how long they are at most, and each way out of telling them.
+use Rattle.std.specs.List.{list_all}
+use Rattle.std.proofs.lemmas.List.Folds.{list_all_more}
 use mathlib.Core.Path.{◌≡◌, refl, sym, ◌∙◌, ap}
 use mathlib.Core.Bool.{Bool, true, false, cond, ◌&&◌, false≢true}
 use mathlib.Core.List.{List, [], ◌∷◌, ◌++◌, append_assoc, append-nil}
-use Prim.Native.Nat.{ℕ, suc, ◌+◌, ◌-◌, ◌*◌, ◌≤◌, ◌<◌}
+use Prim.Native.Nat.{ℕ, zero, suc, ◌+◌, ◌-◌, ◌*◌, ◌≤◌, ◌<◌}
 use native.Mathlib.Numerals.{add-one}
 use native.Mathlib.Omega.{arith}
 use lib.Dec.{eqb, leb}
 use lib.ListN.{drop, drop_of_length-le, length, length-append, length-take, take}
-use lib.Seq.{drop-cons, get_or-take, length-take-le, sets-eq}
-use borrow.Author.Tests.{eq-eqb, eqb-false, le-leb, le-ltb, leb-true, lt-leb, lt-ltb, ne_eqb}
+use lib.Seq.{drop-cons, get_or-take}
+use borrow.Author.Tests.{eq-eqb, eqb-false, le-leb, leb-true, lt-leb, ne_eqb}
 use Rattle.ground.specs.Flags.{one_if}
 use Rattle.ground.specs.Table.{get_or_tabulate}
 use Rattle.ground.specs.Truth.{cond_by}
@@ -20,17 +22,15 @@ use Rattle.text.specs.Laws.Lengths.{decimal_le, small_le, word_le}
 use Rattle.text.specs.Laws.Putting.{put_then, room}
 use Rattle.text.specs.Output.{Put, decimal_text, ended, word_text}
 use Rattle.text.specs.Text.{LINE-END, TAB}
-use Rattle.spoken.specs.declared.lists.Answer.TheVariants.{Done, Unfit, Length}
 use Rattle.spoken.specs.declared.lists.Change.{Change}
 use Rattle.spoken.specs.declared.lists.Changes.{Changes}
 use Rattle.spoken.specs.declared.runs.Run.{Run}
-use Rattle.spoken.specs.declared.speaking.Speech.{Speech}
 use Rattle.spoken.specs.Applying.{change_in}
 use Rattle.spoken.specs.Changes.{no_change}
 use Rattle.spoken.specs.Laws.Runs.{Whole, further, whole_longer, whole_single}
 use Rattle.spoken.specs.Runs.{continues, longer, runs_from, runs_of, single}
-use Rattle.spoken.specs.Speaking.{SPEECH-ROOM, can_speak, change_text, is_shown, speak_answer, wait_line}
-use Rattle.spoken.specs.SpeakingRuns.{are_text, can_speak_whole, closed_text, is_unnumbered, line_text, lines_in, many_shown, many_text, numbers_text, one_shown, rows_speak, rows_text, run_lines, run_text, runs_speech_bytes, runs_speech_of, runs_text, whole_answer, whole_speech_bytes, whole_speech_of, shown_text, slots_text, standing, standing_at, still_waits, were_text, whole_text}
+use Rattle.spoken.specs.Speaking.{SPEECH-ROOM, can_speak, change_text, is_shown, wait_line}
+use Rattle.spoken.specs.SpeakingRuns.{are_text, can_speak_whole, is_unnumbered, line_text, lines_in, many_shown, many_text, numbers_text, one_shown, rows_speak, rows_text, run_lines, slots_speak, run_text, runs_text, shown_text, slots_text, standing, standing_at, still_waits, were_text, whole_text}
 use Rattle.spoken.proofs.Saying.{Said, can_count, can_slots, change_le, first_put, row_le, slot_le, wait_le}
 
 -- a text that crates/text has put, and one behind it
@@ -84,14 +84,6 @@ module _ (run : Run) where
   pub line_run : (shown : Bool) → shown ≡ false → line_text shown run ≡ run_text run
   unfolding line_text
   line_run shown e = rw e
-
-  pub closed_none : (shown goes : Bool) (at : ℕ) (out : List ℕ) → goes ≡ true → Put (closed_text shown run goes) at out at out
-  unfolding closed_text
-  closed_none shown goes at out e = rw e (record { behind = omega arith; bytes = refl; kept = refl })
-
-  pub closed_line : (shown goes : Bool) → goes ≡ false → closed_text shown run goes ≡ line_text shown run
-  unfolding closed_text
-  closed_line shown goes e = rw e
 
 numbers_le : (first last mark : ℕ) → length (numbers_text first last mark) ≤ 11
 unfolding numbers_text
@@ -217,91 +209,84 @@ lines_le shown list n h =
     omega arith
 
 -- What is put so far, and what the changes behind it still make of the run that has begun.
-module _ (shown : Bool) (list : List Change) (n : ℕ) where
+module _ (shown : Bool) (first : Change) (rest : List Change) where
+  abbrev pub all_lines : List ℕ
+  all_lines = run_lines shown (runs_of (first ∷ rest))
+
   pub record Telling (run : Run) (k : ℕ) (out₀ : List ℕ) (at : ℕ) (out : List ℕ) : Type 0 where
     pub done : List ℕ
     pub put : Put done 0 out₀ at out
-    pub still : done ++ run_lines shown (runs_from run (drop k (take n list))) ≡ lines_in shown list n
+    pub still : done ++ run_lines shown (runs_from run (drop k rest)) ≡ all_lines
 
-  module _ (long : length list ≡ 64) (few : n ≤ 64) where
-    rest_cons : (k : ℕ) → k < n → drop k (take n list) ≡ change_in list k ∷ drop (suc k) (take n list)
-    rest_cons k h =
-        drop-cons (take n list) k no_change (rw (length-take-le n list (omega arith)) h)
-        ∙ ap (λ (c : Change). c ∷ drop (suc k) (take n list)) (get_or-take n list k no_change h)
+  pub telling_none : (out : List ℕ) → Telling (single first) 0 out 0 out
+  telling_none out = record { done = []; put = record { behind = omega arith; bytes = refl; kept = refl }; still = refl }
 
-    rest_none : drop n (take n list) ≡ []
-    rest_none = let l = length-take-le n list (omega arith) in drop_of_length-le (take n list) {i = n} (omega arith)
+  module _ {run : Run} {k at : ℕ} {out₀ out : List ℕ} (t : Telling run k out₀ at out) where
+    module _ (h : k < length rest) (b : Bool) (e : b ≡ continues run (change_in rest k)) where
+      abbrev next : Change
+      next = change_in rest k
 
-    pub telling_none : (n ≡ 0 → ⊥) → (out : List ℕ) → Telling (single (change_in list 0)) 1 out 0 out
-    unfolding lines_in
-    telling_none d out =
-        record {
-          done = [];
-          put = record { behind = omega arith; bytes = refl; kept = refl };
-          still = ap (λ (l : List Change). run_lines shown (runs_of l)) (sym (rest_cons 0 (omega arith)));
-        }
+      rest_is : drop k rest ≡ next ∷ drop (suc k) rest
+      rest_is = drop-cons rest k no_change h
 
-    line_then : (run : Run) (next : Change) (goes : Bool) (rest : List Change) → goes ≡ continues run next
-        → run_lines shown (runs_from run (next ∷ rest)) ≡ closed_text shown run goes ++ run_lines shown (runs_from (cond goes (longer run next) (single next)) rest)
-    unfolding closed_text
-    line_then run next true rest e = rw (← e) refl
-    line_then run next false rest e = rw (← e) refl
+      with_next : t.done ++ run_lines shown (runs_from run (next ∷ drop (suc k) rest)) ≡ all_lines
+      with_next = ap (λ (l : List Change). t.done ++ run_lines shown (runs_from run l)) (sym rest_is) ∙ t.still
 
-    module _ {run : Run} {k at : ℕ} {out₀ out : List ℕ} (t : Telling run k out₀ at out) where
-      module _ (goes : Bool) (h : k < n) (e : goes ≡ continues run (change_in list k)) where
-        then_still : t.done ++ (closed_text shown run goes ++ run_lines shown (runs_from (cond goes (longer run (change_in list k)) (single (change_in list k))) (drop (suc k) (take n list))))
-            ≡ lines_in shown list n
-        then_still =
-            ap (λ (l : List ℕ). t.done ++ l)
-            (sym (ap (λ (l : List Change). run_lines shown (runs_from run l)) (rest_cons k h) ∙ line_then run (change_in list k) goes (drop (suc k) (take n list)) e))
-            ∙ t.still
+      -- the next change makes the run longer
+      pub telling_longer : b ≡ true → Telling (longer run next) (k + 1) out₀ at out
+      telling_longer g = record { done = t.done; put = t.put; still = rw add-one (rw (← e, g) at with_next) }
 
-        pub closed_room : length (lines_in shown list n) ≤ length out₀ → at + length (closed_text shown run goes) ≤ length out
-        closed_room l =
-            let a = ap length then_still in
-            let b = length-append t.done (closed_text shown run goes ++ run_lines shown (runs_from (cond goes (longer run (change_in list k)) (single (change_in list k))) (drop (suc k) (take n list)))) in
-            let c = length-append (closed_text shown run goes) (run_lines shown (runs_from (cond goes (longer run (change_in list k)) (single (change_in list k))) (drop (suc k) (take n list)))) in
+      -- or ends it
+      module _ (g : b ≡ false) where
+        then_next : t.done ++ (line_text shown run ++ run_lines shown (runs_from (single next) (drop (suc k) rest))) ≡ all_lines
+        then_next = rw (← e, g) at with_next
+
+        pub line_room : length all_lines ≤ length out₀ → at + length (line_text shown run) ≤ length out
+        line_room l =
+            let a = ap length then_next in
+            let c = length-append t.done (line_text shown run ++ run_lines shown (runs_from (single next) (drop (suc k) rest))) in
+            let d = length-append (line_text shown run) (run_lines shown (runs_from (single next) (drop (suc k) rest))) in
             let p = t.put.behind in
             let q = t.put.kept in
             omega arith
 
-        pub telling_more : {next : ℕ} {new : List ℕ} (after : Run) → Put (closed_text shown run goes) at out next new → after ≡ cond goes (longer run (change_in list k)) (single (change_in list k))
-            → Telling after (k + 1) out₀ next new
-        telling_more after p s =
+        pub telling_next : {last : ℕ} {new : List ℕ} → Put (line_text shown run) at out last new → Telling (single next) (k + 1) out₀ last new
+        telling_next p =
             record {
-              done = t.done ++ closed_text shown run goes;
+              done = t.done ++ line_text shown run;
               put = put_then t.put p;
-              still = rw (add-one, s) (append_assoc t.done (closed_text shown run goes) _ ∙ then_still);
+              still = rw add-one (append_assoc t.done (line_text shown run) _ ∙ then_next);
             }
 
-      last_still : k ≡ n → t.done ++ line_text shown run ≡ lines_in shown list n
-      last_still e =
+    module _ (h : length rest ≤ k) where
+      last_still : t.done ++ line_text shown run ≡ all_lines
+      last_still =
           ap (λ (l : List ℕ). t.done ++ l) (sym (append-nil (line_text shown run)))
-          ∙ ap (λ (l : List Change). t.done ++ run_lines shown (runs_from run l)) (sym (ap (λ (j : ℕ). drop j (take n list)) e ∙ rest_none))
+          ∙ ap (λ (l : List Change). t.done ++ run_lines shown (runs_from run l)) (sym (drop_of_length-le rest {i = k} h))
           ∙ t.still
 
-      pub last_room : k ≡ n → length (lines_in shown list n) ≤ length out₀ → at + length (line_text shown run) ≤ length out
-      last_room e l =
-          let a = ap length (last_still e) in
+      pub last_room : length all_lines ≤ length out₀ → at + length (line_text shown run) ≤ length out
+      last_room l =
+          let a = ap length last_still in
           let b = length-append t.done (line_text shown run) in
           let p = t.put.behind in
           let q = t.put.kept in
           omega arith
 
-      pub telling_all : {next : ℕ} {new : List ℕ} → k ≡ n → Put (line_text shown run) at out next new → Put (lines_in shown list n) 0 out₀ next new
-      telling_all e p = rw (← last_still e) (put_then t.put p)
+      pub telling_all : {last : ℕ} {new : List ℕ} → Put (line_text shown run) at out last new → Put all_lines 0 out₀ last new
+      telling_all p = rw (← last_still) (put_then t.put p)
 
--- no changes, no lines
-pub lines_none : (shown : Bool) (list : List Change) (n : ℕ) (out : List ℕ) → n ≡ 0 → Put (lines_in shown list n) 0 out 0 out
+-- the lines of the changes that are looked at
+pub runs_taken : (shown : Bool) (list : List Change) (n : ℕ) (spoken : List Change) → spoken ≡ take n list → run_lines shown (runs_of spoken) ≡ lines_in shown list n
 unfolding lines_in
-lines_none shown list n out e = rw e (record { behind = omega arith; bytes = refl; kept = refl })
+runs_taken shown list n spoken s = rw s
 
 -- the lines of changes that can be spoken have room
 module _ (cs : Changes) where
   pub runs_room : can_speak cs ≡ true → length (lines_in false cs.list cs.count) ≤ 2176
   runs_room e = let a = lines_le false cs.list cs.count (can_slots cs e) in let n = can_count cs e in omega arith
 
-  runs_text_le : can_speak cs ≡ true → length (runs_text cs) ≤ SPEECH-ROOM
+  pub runs_text_le : can_speak cs ≡ true → length (runs_text cs) ≤ SPEECH-ROOM
   unfolding runs_text
   runs_text_le e =
       let a = runs_room e in
@@ -317,53 +302,36 @@ module _ (cs : Changes) where
       let y = p.kept in
       omega arith
 
-  -- the three ways out
-  abbrev Tells : List ℕ → Speech → List ℕ → Type 0
-  Tells out r new = (r ≡ runs_speech_of cs out) × (new ≡ runs_speech_bytes cs out)
-
-  pub runs_short : (out : List ℕ) → length out < SPEECH-ROOM → Tells out (record { answer = Length; written = 0 }) out
-  unfolding runs_speech_of speak_answer runs_speech_bytes
-  runs_short out h = rw (lt-ltb (length out) SPEECH-ROOM h) (refl, refl)
-
-  pub runs_unfit : (out : List ℕ) (f : Bool) → SPEECH-ROOM ≤ length out → f ≡ can_speak cs → f ≡ false → Tells out (record { answer = Unfit; written = 0 }) out
-  unfolding runs_speech_of speak_answer runs_speech_bytes
-  runs_unfit out f h e s = rw (le-ltb (length out) SPEECH-ROOM h, ← e, s) (refl, refl)
-
-  pub runs_done : (out new : List ℕ) (f : Bool) (written : ℕ) → SPEECH-ROOM ≤ length out → f ≡ can_speak cs → f ≡ true → Put (runs_text cs) 0 out written new
-      → Tells out (record { answer = Done; written = written }) new
-  unfolding runs_speech_of speak_answer runs_speech_bytes
-  runs_done out new f written h e s p =
-      let l = runs_text_le (sym e ∙ s) in
-      let w : written ≡ length (runs_text cs) = p.behind ∙ (omega arith) in
-      let b : new ≡ runs_text cs ++ drop (length (runs_text cs)) out = p.bytes ∙ sets-eq (runs_text cs) out 0 (omega arith) ∙ (let z : 0 + length (runs_text cs) ≡ length (runs_text cs) = omega arith in rw z) in
-      rw (le-ltb (length out) SPEECH-ROOM h, ← e, s, w) (refl, b)
-
 -- a board as it stands
-pub whole_more : (rows : List Row) (k : ℕ) (all r : Bool) → all ≡ rows_speak rows k → r ≡ is_shown (row_at rows k).word → (all && r) ≡ rows_speak rows (k + 1)
+pub rows_listed : (rows : List Row) (n : ℕ) → n ≤ length rows → rows_speak rows n ≡ list_all (λ (r : Row). is_shown r.word) (take n rows)
 unfolding rows_speak
-whole_more rows k all r e d = rw (add-one, e, d)
+rows_listed rows zero h = refl
+rows_listed rows (suc n) h =
+    let o = rows_listed rows n (omega arith) in
+    let m = list_all_more (λ (r : Row). is_shown r.word) rows n (record { word = record { 0 = 0 }; number = 0 }) (omega arith) in
+    ap (λ (b : Bool). b && is_shown (row_at rows n).word) o ∙ sym m ∙ ap (λ (k : ℕ). list_all (λ (r : Row). is_shown r.word) (take k rows)) (add-one n)
+
+pub slots_listed : (rows : List Row) (count n : ℕ) (r : Bool) → length rows ≡ 64 → count ≤ 64 → n ≡ count
+    → r ≡ list_all (λ (row : Row). is_shown row.word) (take n rows) → r ≡ slots_speak rows count
+slots_listed rows count n r l m s e = e ∙ rw (s, le-leb count 64 m) (sym (rows_listed rows count (omega arith)))
+
+pub slots_many : (rows : List Row) (count : ℕ) → 64 < count → leb count 64 ≡ slots_speak rows count
+slots_many rows count m = rw (lt-leb count 64 m)
 
 standing_at_lem : (rows : List Row) (k : ℕ) → k < 64 → change_in (standing rows) k ≡ standing_at rows k
 unfolding standing
 standing_at_lem rows k h = get_or_tabulate 64 (standing_at rows) k no_change h
 
-pub standing_runs : (list : List Change) (rows : List Row) (n : ℕ) {at : ℕ} {out new : List ℕ} → list ≡ standing rows → Put (lines_in true list n) 0 out at new
-    → Put (lines_in true (standing rows) n) 0 out at new
-standing_runs list rows n e p = rw e at p
+pub runs_standing : (board : Board) (list : List Change) (n : ℕ) → n ≡ board.count → list ≡ standing board.rows
+    → run_lines true (runs_of (take n list)) ≡ lines_in true (standing board.rows) board.count
+unfolding lines_in
+runs_standing board list n e f = rw (e, f)
 
 still_le : (wait : Bool) → length (still_waits wait) ≤ 9
 unfolding still_waits
 still_le wait = let a = decimal_le (one_if wait) in simp length-append (omega arith)
 
 module _ (board : Board) where
-  pub cannot_whole : 64 < board.count → false ≡ can_speak_whole board
-  unfolding can_speak_whole
-  cannot_whole h = rw (lt-leb board.count 64 h)
-
-  pub can_whole_each : (r : Bool) → board.count ≤ 64 → r ≡ rows_speak board.rows board.count → r ≡ can_speak_whole board
-  unfolding can_speak_whole
-  can_whole_each r h e = e ∙ rw (le-leb board.count 64 h)
-
   pub whole_count : can_speak_whole board ≡ true → board.count ≤ 64
   unfolding can_speak_whole
   whole_count e = go (leb board.count 64) refl e
@@ -380,7 +348,7 @@ module _ (board : Board) where
       (λ k h. let s = ap (λ (c : Change). c.slot) (standing_at_lem board.rows k (omega arith)) in omega arith) in
       omega arith
 
-  whole_text_le : can_speak_whole board ≡ true → length (whole_text board) ≤ SPEECH-ROOM
+  pub whole_text_le : can_speak_whole board ≡ true → length (whole_text board) ≤ SPEECH-ROOM
   unfolding whole_text
   whole_text_le e =
       let a = whole_room e in
@@ -395,23 +363,3 @@ module _ (board : Board) where
       let x = p.behind in
       let y = p.kept in
       omega arith
-
-  abbrev Shows : List ℕ → Speech → List ℕ → Type 0
-  Shows out r new = (r ≡ whole_speech_of board out) × (new ≡ whole_speech_bytes board out)
-
-  pub whole_short : (out : List ℕ) → length out < SPEECH-ROOM → Shows out (record { answer = Length; written = 0 }) out
-  unfolding whole_speech_of whole_answer whole_speech_bytes
-  whole_short out h = rw (lt-ltb (length out) SPEECH-ROOM h) (refl, refl)
-
-  pub whole_unfit : (out : List ℕ) (f : Bool) → SPEECH-ROOM ≤ length out → f ≡ can_speak_whole board → f ≡ false → Shows out (record { answer = Unfit; written = 0 }) out
-  unfolding whole_speech_of whole_answer whole_speech_bytes
-  whole_unfit out f h e s = rw (le-ltb (length out) SPEECH-ROOM h, ← e, s) (refl, refl)
-
-  pub whole_done : (out new : List ℕ) (f : Bool) (written : ℕ) → SPEECH-ROOM ≤ length out → f ≡ can_speak_whole board → f ≡ true → Put (whole_text board) 0 out written new
-      → Shows out (record { answer = Done; written = written }) new
-  unfolding whole_speech_of whole_answer whole_speech_bytes
-  whole_done out new f written h e s p =
-      let l = whole_text_le (sym e ∙ s) in
-      let w : written ≡ length (whole_text board) = p.behind ∙ (omega arith) in
-      let b : new ≡ whole_text board ++ drop (length (whole_text board)) out = p.bytes ∙ sets-eq (whole_text board) out 0 (omega arith) ∙ (let z : 0 + length (whole_text board) ≡ length (whole_text board) = omega arith in rw z) in
-      rw (le-ltb (length out) SPEECH-ROOM h, ← e, s, w) (refl, b)

@@ -1,30 +1,28 @@
 -- The lines put one behind the other, how long they are at most, and each way out of speaking.
-use mathlib.Core.Path.{◌≡◌, refl, ◌∙◌}
+use mathlib.Core.Path.{◌≡◌, refl, sym, ◌∙◌}
 use mathlib.Core.Bool.{Bool, true, false, cond, not, ◌&&◌, false≢true}
 use mathlib.Core.List.{List, ◌++◌}
 use Prim.Native.Nat.{ℕ, zero, suc, ◌+◌, ◌*◌, ◌≤◌, ◌<◌}
-use native.Mathlib.Numerals.{add-one}
 use native.Mathlib.Omega.{arith}
 use lib.Dec.{leb, ltb}
-use lib.ListN.{drop, length, length-append}
-use lib.Seq.{sets-eq}
-use borrow.Author.Tests.{le-leb, le-ltb, leb-true, lt-leb, lt-ltb, ltb-true}
+use lib.ListN.{length, length-append, take}
+use lib.Seq.{length-take-le}
+use borrow.Author.Tests.{le-leb, leb-true, lt-leb, ltb-true}
 use Rattle.ground.specs.Truth.{and_left}
-use Rattle.ground.specs.Counting.Laws.Tests.{every_at}
+use Rattle.ground.specs.Counting.Laws.Tests.{every_at, every_ext, every_fails, every_on}
 use Rattle.sender.specs.declared.board.Row.{Row}
 use Rattle.text.specs.Ascii.{ascii}
 use Rattle.text.specs.Laws.Lengths.{decimal_le, small_le, word_le}
 use Rattle.text.specs.Laws.Putting.{is_put, put_then, room, shorter}
 use Rattle.text.specs.Output.{Put, put_bytes, put_next}
-use Rattle.spoken.specs.declared.lists.Answer.TheVariants.{Done, Unfit, Length}
 use Rattle.spoken.specs.declared.lists.Change.{Change}
 use Rattle.spoken.specs.declared.lists.Changes.{Changes}
 use Rattle.spoken.specs.declared.lists.WaitChange.{WaitChange}
 use Rattle.spoken.specs.declared.lists.WaitChange.TheVariants.{Same, Opened, Closed}
-use Rattle.spoken.specs.declared.speaking.Speech.{Speech}
 use Rattle.spoken.specs.Applying.{change_in, rises_at}
 use Rattle.spoken.specs.Changes.{same_row}
-use Rattle.spoken.specs.Speaking.{SPEECH-ROOM, can_speak, change_lines, change_text, changes_speak, is_shown, now_text, row_text, slot_text, speak_answer, speaks_by, speech_bytes, speech_of, spoken_text, wait_line, was_text}
+use Rattle.spoken.proofs.Fitting.{taken_change, taken_rises}
+use Rattle.spoken.specs.Speaking.{SPEECH-ROOM, can_speak, change_lines, change_text, changes_speak, is_shown, now_text, row_text, slot_text, speaks_by, spoken_text, wait_line, was_text}
 
 -- what a call of the writers in crates/text says
 abbrev pub Said : List ℕ → ℕ → List ℕ → ℕ → List ℕ → Type 0
@@ -124,19 +122,39 @@ module _ (list : List Change) (i : ℕ) {at : ℕ} {out new : List ℕ} (long : 
       omega arith
 
 -- one change more is judged
-pub speak_more : (list : List Change) (k : ℕ) (all r rises : Bool) → all ≡ changes_speak list k → rises ≡ rises_at list k → r ≡ speaks_by (change_in list k) rises
-    → (all && r) ≡ changes_speak list (k + 1)
+module _ (list : List Change) (k : ℕ) (r : Bool) (e : r ≡ speaks_by (change_in list k) (rises_at list k)) where
+  pub speak_on : changes_speak list k ≡ true → r ≡ true → changes_speak list (k + 1) ≡ true
+  unfolding changes_speak
+  speak_on f t = every_on (λ j. speaks_by (change_in list j) (rises_at list j)) k f (sym e ∙ t)
+
+  pub speak_fails : (n : ℕ) → k < n → r ≡ false → false ≡ changes_speak list n
+  unfolding changes_speak
+  speak_fails n h t = sym (every_fails n (λ j. speaks_by (change_in list j) (rises_at list j)) k h (sym e ∙ t))
+
+pub taken_speak : (list : List Change) (n : ℕ) → changes_speak (take n list) n ≡ changes_speak list n
 unfolding changes_speak
-speak_more list k all r rises e s d = rw (add-one, e, d, s)
+taken_speak list n = every_ext n _ _ (λ k h. rw (taken_change list n k h, taken_rises list n k h) refl)
+
+pub taken_lines : (list : List Change) (n m : ℕ) → m ≤ n → change_lines (take n list) m ≡ change_lines list m
+taken_lines list n zero h = refl
+taken_lines list n (suc m) h = rw (taken_lines list n m (omega arith), taken_change list n m (omega arith)) refl
+
+pub lines_taken : (cs : Changes) (spoken : List Change) → cs.count ≤ 64 → length cs.list ≡ 64 → spoken ≡ take cs.count cs.list
+    → change_lines spoken (length spoken) ≡ change_lines cs.list cs.count
+lines_taken cs spoken h l s =
+    let n : length (take cs.count cs.list) ≡ cs.count = length-take-le cs.count cs.list (omega arith) in
+    rw (s, n) (taken_lines cs.list cs.count cs.count (omega arith))
 
 module _ (cs : Changes) where
-  pub cannot_many : 64 < cs.count → false ≡ can_speak cs
+  pub cannot_many : 64 < cs.count → leb cs.count 64 ≡ can_speak cs
   unfolding can_speak
   cannot_many h = rw (lt-leb cs.count 64 h)
 
-  pub can_each : (r : Bool) → cs.count ≤ 64 → r ≡ changes_speak cs.list cs.count → r ≡ can_speak cs
+  pub can_each : (spoken : List Change) (r : Bool) → cs.count ≤ 64 → length cs.list ≡ 64 → spoken ≡ take cs.count cs.list → r ≡ changes_speak spoken (length spoken) → r ≡ can_speak cs
   unfolding can_speak
-  can_each r h e = e ∙ rw (le-leb cs.count 64 h)
+  can_each spoken r h l s e =
+      let n : length (take cs.count cs.list) ≡ cs.count = length-take-le cs.count cs.list (omega arith) in
+      e ∙ rw (s, n, le-leb cs.count 64 h) (taken_speak cs.list cs.count)
 
   can_parts : can_speak cs ≡ true → (cs.count ≤ 64) × (changes_speak cs.list cs.count ≡ true)
   unfolding can_speak
@@ -166,23 +184,3 @@ module _ (cs : Changes) where
       let b = wait_le cs.wait in
       let n = can_count e in
       simp length-append (omega arith)
-
-  -- the three ways out
-  abbrev Speaks : List ℕ → Speech → List ℕ → Type 0
-  Speaks out r new = (r ≡ speech_of cs out) × (new ≡ speech_bytes cs out)
-
-  pub speak_short : (out : List ℕ) → length out < SPEECH-ROOM → Speaks out (record { answer = Length; written = 0 }) out
-  unfolding speech_of speak_answer speech_bytes
-  speak_short out h = rw (lt-ltb (length out) SPEECH-ROOM h) (refl, refl)
-
-  pub speak_unfit : (out : List ℕ) (f : Bool) → SPEECH-ROOM ≤ length out → f ≡ can_speak cs → f ≡ false → Speaks out (record { answer = Unfit; written = 0 }) out
-  unfolding speech_of speak_answer speech_bytes
-  speak_unfit out f h e s = rw (le-ltb (length out) SPEECH-ROOM h, ← e, s) (refl, refl)
-
-  pub speak_done : (out new : List ℕ) (f : Bool) (written : ℕ) → SPEECH-ROOM ≤ length out → f ≡ can_speak cs → f ≡ true → Put (spoken_text cs) 0 out written new
-      → length (spoken_text cs) ≤ length out → Speaks out (record { answer = Done; written = written }) new
-  unfolding speech_of speak_answer speech_bytes
-  speak_done out new f written h e s p l =
-      let w : written ≡ length (spoken_text cs) = p.behind ∙ (omega arith) in
-      let b : new ≡ spoken_text cs ++ drop (length (spoken_text cs)) out = p.bytes ∙ sets-eq (spoken_text cs) out 0 (omega arith) ∙ (let z : 0 + length (spoken_text cs) ≡ length (spoken_text cs) = omega arith in rw z) in
-      rw (le-ltb (length out) SPEECH-ROOM h, ← e, s, w) (refl, b)

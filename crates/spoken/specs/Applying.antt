@@ -5,8 +5,8 @@ use Rattle.ground.specs.Counting.Words.{every}
 use Rattle.sender.specs.declared.board.Board.{Board}
 use Rattle.sender.specs.declared.board.Row.{Row}
 use Rattle.sender.specs.Ranks.{row_at}
-use Rattle.spoken.specs.declared.applying.Applied.{Applied}
-use Rattle.spoken.specs.declared.lists.Answer.TheVariants.{Done, Unfit}
+use Rattle.spoken.specs.Answers.{Applied}
+use Rattle.spoken.specs.Answers.Answer.{Done, Unfit}
 use Rattle.spoken.specs.declared.lists.Change.{Change}
 use Rattle.spoken.specs.declared.lists.Changes.{Changes}
 use Rattle.spoken.specs.declared.lists.WaitChange.{WaitChange}

@@ -5,9 +5,9 @@ use Rattle.ground.specs.Plain.{◌≤?◌}
 use Rattle.sender.specs.declared.board.Board.{Board}
 use Rattle.sender.specs.declared.board.Row.{Row}
 use Rattle.sender.specs.Ranks.{row_at}
-use Rattle.spoken.specs.declared.comparing.Compared.{Compared}
-use Rattle.spoken.specs.declared.lists.Answer.{Answer}
-use Rattle.spoken.specs.declared.lists.Answer.TheVariants.{Done, Unfit, Counts, Length}
+use Rattle.spoken.specs.Answers.{Compared}
+use Rattle.spoken.specs.Answers.{Answer}
+use Rattle.spoken.specs.Answers.Answer.{Done, Unfit, Counts, Length}
 use Rattle.spoken.specs.declared.lists.Change.{Change}
 use Rattle.spoken.specs.declared.lists.Changes.{Changes}
 use Rattle.spoken.specs.declared.lists.WaitChange.{WaitChange}

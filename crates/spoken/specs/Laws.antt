@@ -1,4 +1,5 @@
 -- What stands in a list of changes, and what laying it on a board does.
+pub mod Answers
 pub mod Laying
 pub mod Rising
 pub mod Rows

@@ -1,3 +1,4 @@
+pub mod Answers
 pub mod Applying
 pub mod Changes
 pub mod Fitting

@@ -4,7 +4,7 @@ use Rattle.sender.specs.declared.board.Board.{Board}
 use Rattle.sender.specs.declared.epochs.Sender.{Sender}
 use Rattle.sender.specs.Epochs.{SenderCall, sender_outcome_of}
 use Rattle.sender.specs.Epochs.SenderCall.{OnTable, StartEpoch}
-use Rattle.spoken.specs.declared.applying.Applied.{Applied}
+use Rattle.spoken.specs.Answers.{Applied}
 use Rattle.spoken.specs.Applying.{applied_of}
 use Rattle.spoken.specs.Changes.{compared_of}
 use Rattle.spoken.specs.Taking.{taken_of}

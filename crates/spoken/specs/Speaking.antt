@@ -9,13 +9,13 @@ use Rattle.sender.specs.declared.board.Row.{Row}
 use Rattle.text.specs.Ascii.{ascii}
 use Rattle.text.specs.Output.{decimal_text, ended, word_text}
 use Rattle.text.specs.Text.{LINE-END, TAB}
-use Rattle.spoken.specs.declared.lists.Answer.{Answer}
-use Rattle.spoken.specs.declared.lists.Answer.TheVariants.{Done, Unfit, Length}
+use Rattle.spoken.specs.Answers.{Answer}
+use Rattle.spoken.specs.Answers.Answer.{Done, Unfit, Length}
 use Rattle.spoken.specs.declared.lists.Change.{Change}
 use Rattle.spoken.specs.declared.lists.Changes.{Changes}
 use Rattle.spoken.specs.declared.lists.WaitChange.{WaitChange}
 use Rattle.spoken.specs.declared.lists.WaitChange.TheVariants.{Same, Opened, Closed}
-use Rattle.spoken.specs.declared.speaking.Speech.{Speech}
+use Rattle.spoken.specs.Answers.{Speech}
 use Rattle.spoken.specs.Applying.{change_in, rises_at}
 use Rattle.spoken.specs.Changes.{same_row}
 
@@ -68,6 +68,10 @@ changes_speak list n = every n (λ k. speaks_by (change_in list k) (rises_at lis
 
 unfoldable pub can_speak : Changes → Bool
 can_speak cs = if cs.count ≤? 64 then changes_speak cs.list cs.count else false
+
+-- 9, and then 2 for what cannot be said
+abbrev pub spoken_answer : Bool → Bytes → Answer
+spoken_answer can out = if length out <? SPEECH-ROOM then Length else if can then Done else Unfit
 
 -- 9, 2
 unfoldable pub speak_answer : Changes → Bytes → Answer

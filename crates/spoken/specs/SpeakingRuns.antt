@@ -11,12 +11,12 @@ use Rattle.sender.specs.Ranks.{row_at}
 use Rattle.text.specs.Ascii.{ascii}
 use Rattle.text.specs.Output.{decimal_text, ended, word_text}
 use Rattle.text.specs.Text.{LINE-END, TAB}
-use Rattle.spoken.specs.declared.lists.Answer.{Answer}
-use Rattle.spoken.specs.declared.lists.Answer.TheVariants.{Done, Unfit, Length}
+use Rattle.spoken.specs.Answers.{Answer}
+use Rattle.spoken.specs.Answers.Answer.{Done, Unfit, Length}
 use Rattle.spoken.specs.declared.lists.Change.{Change}
 use Rattle.spoken.specs.declared.lists.Changes.{Changes}
 use Rattle.spoken.specs.declared.runs.Run.{Run}
-use Rattle.spoken.specs.declared.speaking.Speech.{Speech}
+use Rattle.spoken.specs.Answers.{Speech}
 use Rattle.spoken.specs.Runs.{runs_of}
 use Rattle.spoken.specs.Speaking.{SPEECH-ROOM, change_text, is_shown, is_spoken, row_text, slot_text, speak_answer, wait_line}
 
@@ -69,10 +69,6 @@ abbrev pub run_lines : (shown : Bool) (runs : List Run) → List ℕ
 run_lines shown [] = []
 run_lines shown (run ∷ runs) = line_text shown run ++ run_lines shown runs
 
--- with the next change: the line of a run that does not go on, and the run that has begun
-unfoldable pub closed_text : (shown : Bool) (run : Run) (goes : Bool) → List ℕ
-closed_text shown run goes = if goes then [] else line_text shown run
-
 unfoldable pub lines_in : (shown : Bool) (list : List Change) (n : ℕ) → List ℕ
 lines_in shown list n = run_lines shown (runs_of (take n list))
 
@@ -105,8 +101,11 @@ whole_text board = lines_in true (standing board.rows) board.count ++ still_wait
 unfoldable pub rows_speak : (rows : List Row) (n : ℕ) → Bool
 rows_speak rows n = every n (λ i. is_shown (row_at rows i).word)
 
+abbrev pub slots_speak : (rows : List Row) (count : ℕ) → Bool
+slots_speak rows count = if count ≤? 64 then rows_speak rows count else false
+
 unfoldable pub can_speak_whole : (board : Board) → Bool
-can_speak_whole board = if board.count ≤? 64 then rows_speak board.rows board.count else false
+can_speak_whole board = slots_speak board.rows board.count
 
 -- 9, 2
 unfoldable pub whole_answer : (board : Board) (out : List ℕ) → Answer

@@ -4,6 +4,7 @@ pub mod Exactly
 pub mod InOneRun
 pub mod Listener
 pub mod NoSecondAnswer
+pub mod NothingLost
 pub mod NoOther
 pub mod Runs
 pub mod Speakable

@@ -15,8 +15,8 @@ use Rattle.sender.specs.Epochs.SenderCall.{OnTable, StartEpoch}
 use Rattle.sender.specs.Ranks.{row_at}
 use Rattle.sender.specs.Shown.{after, numbers}
 use Rattle.sender.specs.Table.{slot_at}
-use Rattle.spoken.specs.declared.applying.Applied.{Applied}
-use Rattle.spoken.specs.declared.lists.Answer.TheVariants.{Done, Unfit}
+use Rattle.spoken.specs.Answers.{Applied}
+use Rattle.spoken.specs.Answers.Answer.{Done, Unfit}
 use Rattle.spoken.specs.declared.lists.Change.{Change}
 use Rattle.spoken.specs.declared.lists.Changes.{Changes}
 use Rattle.spoken.specs.declared.lists.WaitChange.{WaitChange}

@@ -1,16 +1,10 @@
 // Changes applied to a board: 'changes that don't fit the board they are applied to is 2, and the board stays.' All are judged against the board as it stands before the first is applied.
-ghost use Rattle.std.specs.Prelude.{◌≡◌, ℕ, ◌≤◌, ◌<◌};
+ghost use Rattle.std.specs.Prelude.{◌≡◌, ℕ, ◌≤◌, ◌<◌, length};
+ghost use Rattle.spoken.specs.Answers.{told_board};
 ghost use Rattle.spoken.specs.Applying.{applied_of, change_in, changes_fit, fits, fits_by, laid_to, rises_at, wait_after, wait_fits};
 
-use crate::lists;
-use crate::lists::{Answer, Change, Changes, WaitChange};
+use crate::lists::{Change, Changes, Refusal, WaitChange};
 use sender::{Board, Row};
-
-#[derive(Clone, Copy)]
-pub struct Applied {
-    pub board: Board,
-    pub answer: Answer,
-}
 
 // Opened on an open wait does not fit, nor Closed on none.
 fn wait_fits(wait: bool, change: WaitChange) -> bool
@@ -34,91 +28,63 @@ fn wait_after(wait: bool, change: WaitChange) -> bool
 }
 
 // The slots of the changes rise strictly.
-pub(crate) fn rises_at(list: [Change; 64], k: usize) -> bool
-    requires { k < 64 }
-    ensures { result ≡ rises_at list k }
+pub(crate) fn rises_at(changes: &[Change], k: usize) -> bool
+    requires { k < length changes.now }
+    ensures { result ≡ rises_at changes.now k }
 {
-    if k == 0 {
-        return true;
-    }
-    let before = list[k - 1];
-    let change = list[k];
-    before.slot < change.slot
+    k == 0 || changes[k - 1].slot < changes[k].slot
 }
 
 // One change against the row of its slot: the old word and number are the board's, and the new ones are others.
 fn fits_by(change: Change, row: Row, count: u8, rises: bool) -> bool
     ensures { result ≡ fits_by change row count rises }
 {
-    let old = change.old;
-    let new = change.new;
-    (change.slot < count) & rises & lists::same_row(old, row) & !lists::same_row(old, new)
+    change.slot < count && rises && change.old == row && change.old != change.new
 }
 
-fn changes_fit(rows: [Row; 64], count: u8, list: [Change; 64], n: usize) -> bool
-    requires { (n ≤ 64) × (count ≤ 64) }
-    ensures { result ≡ changes_fit rows count list n }
+fn changes_fit(rows: &[Row; 64], count: u8, changes: &[Change]) -> bool
+    requires { count ≤ 64 }
+    ensures { result ≡ changes_fit rows.now count changes.now (length changes.now) }
 {
-    let mut all = true;
-    let mut k = 0;
-    while k < n {
-        let change = list[k];
+    for (k, change) in changes.iter().enumerate() {
         // a slot that no board has is refused whatever row is looked at
-        let row = rows[(change.slot % 64) as usize];
-        let rises = rises_at(list, k);
-        all = all & fits_by(change, row, count, rises);
-        k += 1;
+        let row = rows[usize::from(change.slot % 64)];
+        if !fits_by(*change, row, count, rises_at(changes, k)) {
+            return false;
+        }
     }
-    all
+    true
 }
 
-fn does_fit(board: Board, changes: Changes) -> bool
-    ensures { result ≡ fits board changes }
+fn does_fit(board: &Board, changes: &Changes) -> bool
+    ensures { result ≡ fits board.now changes.now }
 {
-    let rows = board.rows;
-    let list = changes.list;
-    let wait = changes.wait;
-    let sized = (board.count <= 64) & (changes.count <= 64) & wait_fits(board.wait, wait);
-    if !sized {
+    if board.count > 64 || changes.count > 64 {
         return false;
     }
-    changes_fit(rows, board.count, list, changes.count as usize)
+    wait_fits(board.wait, changes.wait) && changes_fit(&board.rows, board.count, changes.as_slice())
 }
 
-// The rows with the first n changes laid on them.
-fn lay(rows: [Row; 64], list: [Change; 64], n: usize) -> [Row; 64]
-    requires { (n ≤ 64) × ((k : ℕ) → k < n → (change_in list k).slot < 64) }
-    ensures { result ≡ laid_to rows list n }
+// The rows with the changes laid on them.
+fn lay(mut rows: [Row; 64], changes: &[Change]) -> [Row; 64]
+    requires { (k : ℕ) → k < length changes.now → (change_in changes.now k).slot < 64 }
+    ensures { result ≡ laid_to rows changes.now (length changes.now) }
 {
-    let mut laid = rows;
-    let mut k = 0;
-    while k < n {
-        let change = list[k];
-        let new = change.new;
-        laid[change.slot as usize] = new;
-        k += 1;
+    for change in changes {
+        rows[usize::from(change.slot)] = change.new;
     }
-    laid
+    rows
 }
 
-pub fn apply(board: Board, changes: Changes) -> Applied
-    ensures { result ≡ applied_of board changes }
+pub fn apply(board: Board, changes: Changes) -> Result<Board, Refusal>
+    ensures { result ≡ told_board (applied_of board changes) }
 {
-    if !does_fit(board, changes) {
-        return Applied {
-            board,
-            answer: Answer::Unfit,
-        };
+    if !does_fit(&board, &changes) {
+        return Err(Refusal::Unfit);
     }
-    let rows = board.rows;
-    let list = changes.list;
-    let wait = changes.wait;
-    Applied {
-        board: Board {
-            rows: lay(rows, list, changes.count as usize),
-            count: board.count,
-            wait: wait_after(board.wait, wait),
-        },
-        answer: Answer::Done,
-    }
+    Ok(Board {
+        rows: lay(board.rows, changes.as_slice()),
+        wait: wait_after(board.wait, changes.wait),
+        ..board
+    })
 }

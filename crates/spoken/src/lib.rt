@@ -9,10 +9,10 @@ mod speaking;
 mod taking;
 mod telling;
 
-pub use applying::{Applied, apply};
-pub use comparing::{Compared, changes_between};
-pub use lists::{Answer, Change, Changes, WaitChange};
+pub use applying::apply;
+pub use comparing::changes_between;
+pub use lists::{Change, Changes, Refusal, WaitChange};
 pub use runs::Run;
-pub use speaking::{SPEECH_ROOM, Speech, speak};
+pub use speaking::{SPEECH_ROOM, speak};
 pub use taking::taken;
 pub use telling::{speak_runs, speak_whole};

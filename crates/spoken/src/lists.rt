@@ -1,6 +1,8 @@
-// A list of changes by value, and the answers of this crate.
-ghost use Rattle.std.specs.Prelude.{◌≡◌};
-ghost use Rattle.spoken.specs.Changes.{answer_number, no_change, same_row};
+// A list of changes by value, and what the calls of this crate refuse.
+ghost use Rattle.std.specs.Prelude.{◌≡◌, ◌+◌, ◌<◌, set, take};
+ghost use Rattle.spoken.specs.Answers.{refusal_number};
+ghost use Rattle.spoken.specs.Changes.{no_change};
+ghost use Rattle.spoken.specs.Laws.Answers.{refusal_above};
 
 use packet::Word;
 use sender::Row;
@@ -13,7 +15,7 @@ pub struct Change {
     pub new: Row,
 }
 
-#[derive(Clone, Copy)]
+#[derive(Clone, Copy, PartialEq, Eq)]
 pub enum WaitChange {
     Same,
     Opened,
@@ -28,47 +30,59 @@ pub struct Changes {
     pub wait: WaitChange,
 }
 
-#[derive(Clone, Copy)]
-pub enum Answer {
-    Done,
-    Unfit,
-    Counts,
-    Length,
-}
-
-impl Answer {
-    pub fn number(self) -> u8
-        ensures { result ≡ answer_number self }
+impl Change {
+    pub(crate) fn none() -> Change
+        ensures { result ≡ no_change }
     {
-        match self {
-            Answer::Done => 0,
-            Answer::Unfit => 2,
-            Answer::Counts => 4,
-            Answer::Length => 9,
+        let row = Row {
+            word: Word(0),
+            number: 0,
+        };
+        Change {
+            slot: 0,
+            old: row,
+            new: row,
         }
     }
 }
 
-pub(crate) fn same_row(one: Row, other: Row) -> bool
-    ensures { result ≡ same_row one other }
-{
-    let a = one.word;
-    let b = other.word;
-    (a.0 == b.0) & (one.number == other.number)
+impl Changes {
+    // Any count is taken: above 64 all of the list are changes.
+    pub(crate) fn as_slice(&self) -> &[Change]
+        ensures { result.now ≡ take self.now.count self.now.list }
+    {
+        &self.list[..usize::from(self.count).min(self.list.len())]
+    }
+
+    pub(crate) fn push(&mut self, change: Change)
+        requires { self.old.count < 64 }
+        ensures { self.new ≡ record self.old { list = set self.old.list self.old.count change; count = self.old.count + 1 } }
+    {
+        self.list[usize::from(self.count)] = change;
+        self.count += 1;
+    }
 }
 
-pub(crate) fn no_change() -> Change
-    ensures { result ≡ no_change }
-{
-    Change {
-        slot: 0,
-        old: Row {
-            word: Word(0),
-            number: 0,
-        },
-        new: Row {
-            word: Word(0),
-            number: 0,
-        },
+#[derive(Clone, Copy, PartialEq, Eq)]
+pub enum Refusal {
+    // Changes that fit no board or not this one, or a word with no name.
+    Unfit,
+    // Boards of different counts, or of more than 64 slots.
+    Counts,
+    // A buffer below SPEECH_ROOM.
+    Length,
+}
+
+impl ground::Refusal for Refusal {
+    ghost number_of = { refusal_number };
+
+    ghost is_no_zero = { refusal_above };
+
+    fn number(self) -> u8 {
+        match self {
+            Refusal::Unfit => 2,
+            Refusal::Counts => 4,
+            Refusal::Length => 9,
+        }
     }
 }

@@ -1,68 +1,59 @@
 // The changes as lines, for ears and fingertips.
 ghost use Rattle.std.specs.Prelude.{◌≡◌, ◌++◌, ℕ, ◌+◌, ◌≤◌, ◌<◌, length};
 ghost use Rattle.text.specs.Output.{Put};
+ghost use Rattle.spoken.specs.Answers.{told_by, told_length};
 ghost use Rattle.spoken.specs.Applying.{change_in};
-ghost use Rattle.spoken.specs.Speaking.{SPEECH-ROOM, can_speak, change_lines, change_text, changes_speak, is_shown, row_text, slot_text, speaks_by, speech_bytes, speech_of, wait_line};
+ghost use Rattle.spoken.specs.Speaking.{SPEECH-ROOM, can_speak, change_lines, change_text, changes_speak, is_shown, row_text, slot_text, speaks_by, speech_bytes, speech_of, spoken_answer, wait_line};
 
-use crate::lists::{Answer, Change, Changes, WaitChange};
-use crate::{applying, lists};
+use crate::applying;
+use crate::lists::{Change, Changes, Refusal, WaitChange};
 use packet::Word;
 use sender::Row;
-
-// answer: 0, 9 for a buffer below SPEECH_ROOM, 2 for changes that fit no board or have a word with no name. written: how many bytes the lines take.
-#[derive(Clone, Copy)]
-pub struct Speech {
-    pub answer: Answer,
-    pub written: usize,
-}
 
 // Room for the lines of any changes.
 pub const SPEECH_ROOM: usize = 2188;
 
+// Refused with 9 is a buffer without room, and then with 2 what cannot be said.
+pub(crate) fn ready(out: &[u8], can: bool) -> Result<(), Refusal>
+    ensures { result ≡ told_by (spoken_answer can out.now) tt }
+{
+    if out.len() < SPEECH_ROOM {
+        return Err(Refusal::Length);
+    }
+    if can { Ok(()) } else { Err(Refusal::Unfit) }
+}
+
 pub(crate) fn is_shown(word: Word) -> bool
     ensures { result ≡ is_shown word }
 {
-    let code = word.0;
-    (code == Word::ADD.0)
-        | (code == Word::NORM.0)
-        | (code == Word::EOS.0)
-        | (code == Word::DNU.0)
-        | (code == Word::IDLE.0)
+    matches!(
+        word,
+        Word::ADD | Word::NORM | Word::EOS | Word::DNU | Word::IDLE
+    )
 }
 
 fn speaks_by(change: Change, rises: bool) -> bool
     ensures { result ≡ speaks_by change rises }
 {
-    let old = change.old;
-    let new = change.new;
-    let before = old.word;
-    let after = new.word;
-    (change.slot < 64) & rises & !lists::same_row(old, new) & is_shown(before) & is_shown(after)
+    let Change { slot, old, new } = change;
+    slot < 64 && rises && old != new && is_shown(old.word) && is_shown(new.word)
 }
 
-fn changes_speak(list: [Change; 64], n: usize) -> bool
-    requires { n ≤ 64 }
-    ensures { result ≡ changes_speak list n }
+fn changes_speak(changes: &[Change]) -> bool
+    ensures { result ≡ changes_speak changes.now (length changes.now) }
 {
-    let mut all = true;
-    let mut k = 0;
-    while k < n {
-        let change = list[k];
-        let rises = applying::rises_at(list, k);
-        all = all & speaks_by(change, rises);
-        k += 1;
+    for (k, change) in changes.iter().enumerate() {
+        if !speaks_by(*change, applying::rises_at(changes, k)) {
+            return false;
+        }
     }
-    all
+    true
 }
 
-pub(crate) fn can_speak(changes: Changes) -> bool
-    ensures { result ≡ can_speak changes }
+pub(crate) fn can_speak(changes: &Changes) -> bool
+    ensures { result ≡ can_speak changes.now }
 {
-    let list = changes.list;
-    if changes.count > 64 {
-        return false;
-    }
-    changes_speak(list, changes.count as usize)
+    changes.count <= 64 && changes_speak(changes.as_slice())
 }
 
 pub(crate) fn put_slot(slot: u8, out: &mut [u8], at: usize) -> usize
@@ -77,9 +68,8 @@ pub(crate) fn put_row(label: &[u8], row: Row, mark: u8, out: &mut [u8], at: usiz
     requires { at + length (label.now ++ row_text row mark) ≤ length out.old }
     ensures { Put (label.now ++ row_text row mark) at out.old result out.new }
 {
-    let word = row.word;
     let second = text::put(label, out, at);
-    let third = text::put_word(word, out, second);
+    let third = text::put_word(row.word, out, second);
     text::put_number(row.number, mark, out, third)
 }
 
@@ -87,23 +77,20 @@ pub(crate) fn put_change(change: Change, out: &mut [u8], at: usize) -> usize
     requires { at + length (change_text change) ≤ length out.old }
     ensures { Put (change_text change) at out.old result out.new }
 {
-    let old = change.old;
-    let new = change.new;
     let second = put_slot(change.slot, out, at);
-    let third = put_row(b"was\t", old, b'\t', out, second);
-    put_row(b"now\t", new, b'\n', out, third)
+    let third = put_row(b"was\t", change.old, b'\t', out, second);
+    put_row(b"now\t", change.new, b'\n', out, third)
 }
 
-fn put_changes(list: [Change; 64], n: usize, out: &mut [u8]) -> usize
-    requires { (n ≤ 64) × ((k : ℕ) → k < n → (change_in list k).slot < 64) × (SPEECH-ROOM ≤ length out.old) }
-    ensures { Put (change_lines list n) 0 out.old result out.new }
+fn put_changes(changes: &[Change], out: &mut [u8]) -> usize
+    requires many { length changes.now ≤ 64 }
+    requires slots { (k : ℕ) → k < length changes.now → (change_in changes.now k).slot < 64 }
+    requires room { SPEECH-ROOM ≤ length out.old }
+    ensures { Put (change_lines changes.now (length changes.now)) 0 out.old result out.new }
 {
     let mut at = 0;
-    let mut k = 0;
-    while k < n {
-        let change = list[k];
-        at = put_change(change, out, at);
-        k += 1;
+    for change in changes {
+        at = put_change(*change, out, at);
     }
     at
 }
@@ -119,28 +106,11 @@ pub(crate) fn put_wait(wait: WaitChange, out: &mut [u8], at: usize) -> usize
     }
 }
 
-// The lines at the front of the buffer.
-pub fn speak(changes: Changes, out: &mut [u8]) -> Speech
-    ensures { (result ≡ speech_of changes out.old) × (out.new ≡ speech_bytes changes out.old) }
+// The lines at the front of the buffer: how many bytes they take.
+pub fn speak(changes: Changes, out: &mut [u8]) -> Result<usize, Refusal>
+    ensures { (result ≡ told_length (speech_of changes out.old)) × (out.new ≡ speech_bytes changes out.old) }
 {
-    if out.len() < SPEECH_ROOM {
-        return Speech {
-            answer: Answer::Length,
-            written: 0,
-        };
-    }
-    if !can_speak(changes) {
-        return Speech {
-            answer: Answer::Unfit,
-            written: 0,
-        };
-    }
-    let list = changes.list;
-    let wait = changes.wait;
-    let next = put_changes(list, changes.count as usize, out);
-    let written = put_wait(wait, out, next);
-    Speech {
-        answer: Answer::Done,
-        written,
-    }
+    ready(out, can_speak(&changes))?;
+    let next = put_changes(changes.as_slice(), out);
+    Ok(put_wait(changes.wait, out, next))
 }

@@ -14,8 +14,8 @@ use Rattle.sender.specs.Ranks.{row_at}
 use Rattle.sender.specs.Table.{slot_count}
 use Rattle.spoken.specs.Applying.{applied_of, change_in}
 use Rattle.spoken.specs.Changes.{answer_number, compared_of, no_change}
-use Rattle.spoken.specs.declared.applying.Applied.{Applied}
-use Rattle.spoken.specs.declared.lists.Answer.TheVariants.{Done}
+use Rattle.spoken.specs.Answers.{Applied}
+use Rattle.spoken.specs.Answers.Answer.{Done}
 use Rattle.spoken.specs.declared.lists.Changes.{Changes}
 use Rattle.spoken.specs.declared.lists.WaitChange.{WaitChange}
 use Rattle.spoken.specs.declared.lists.WaitChange.TheVariants.{Same, Opened, Closed}

@@ -1,5 +1,7 @@
 -- What the code gives says all that the definitions do: nothing of a refused call is lost, nor of a line that goes on.
 use Rattle.std.specs.Prelude.{◌≡◌, Bool, true, false, List, ℕ, length, nat_lt, refl}
+use Rattle.ground.specs.Refusals.{number_told}
+use Rattle.session_lines.specs.Consoles.{refusal_number}
 use Rattle.session_lines.specs.declared.kept.Kept.{Kept}
 use Rattle.session_lines.specs.declared.session.Session.{Session}
 use Rattle.session_lines.specs.Gathering as G
@@ -22,6 +24,24 @@ module _ (s : Session) (out : List ℕ) where
   finished_whole = go (nat_lt (length out) ROOM) refl
     where
       go : (b : Bool) → nat_lt (length out) ROOM ≡ b → fed_back s (told (finish_of s out)) ≡ finish_of s out
+      go true h = rw h
+      go false h = rw h
+
+-- and 01's number is the same
+module _ (s : Session) (out : List ℕ) where
+  pub fed_number : (input : List ℕ) → number_told refusal_number (told (feed_of s input out)) ≡ (feed_of s input out).answer
+  unfolding feed_of
+  fed_number input = go (nat_lt (length out) ROOM) refl
+    where
+      go : (b : Bool) → nat_lt (length out) ROOM ≡ b → number_told refusal_number (told (feed_of s input out)) ≡ (feed_of s input out).answer
+      go true h = rw h
+      go false h = rw h
+
+  pub finished_number : number_told refusal_number (told (finish_of s out)) ≡ (finish_of s out).answer
+  unfolding finish_of
+  finished_number = go (nat_lt (length out) ROOM) refl
+    where
+      go : (b : Bool) → nat_lt (length out) ROOM ≡ b → number_told refusal_number (told (finish_of s out)) ≡ (finish_of s out).answer
       go true h = rw h
       go false h = rw h
 

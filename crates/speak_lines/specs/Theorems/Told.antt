@@ -23,7 +23,7 @@ use Rattle.sender.specs.Numbering.{number_in, slots_in, state_in}
 use Rattle.sender.specs.Ranks.{row_at}
 use Rattle.sender.specs.Table as T
 use Rattle.sender.specs.Theorems.Epochs.{sender_sound}
-use Rattle.spoken.specs.declared.applying.Applied.{Applied}
+use Rattle.spoken.specs.Answers.{Applied}
 use Rattle.spoken.specs.declared.lists.Change.{Change}
 use Rattle.spoken.specs.declared.lists.Changes.{Changes}
 use Rattle.spoken.specs.Changes.{answer_number, changes_in, changes_of, comparable, compared_of, list_of, spoken_to}

@@ -18,8 +18,8 @@ use Rattle.sender.specs.Ranks.{row_at}
 use Rattle.sender.specs.Table.{slot_count}
 use Rattle.spoken.specs.Laws.Spoken.{length_list, spoken_le}
 use Rattle.spoken.specs.Said.{Agrees, Told}
-use Rattle.spoken.specs.declared.comparing.Compared.{Compared}
-use Rattle.spoken.specs.declared.lists.Answer.TheVariants.{Done, Counts}
+use Rattle.spoken.specs.Answers.{Compared}
+use Rattle.spoken.specs.Answers.Answer.{Done, Counts}
 use Rattle.spoken.specs.declared.lists.Change.{Change}
 use Rattle.spoken.specs.Applying.{applied_of, change_in, changes_fit, fits, fits_by, laid_to, with_changes}
 use Rattle.spoken.specs.Changes.{changed, changes_in, changes_of, comparable, compared_of, list_of, no_change, no_changes, same_row, spoken_to}

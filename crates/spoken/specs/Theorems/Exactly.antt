@@ -9,7 +9,7 @@ use Rattle.sender.specs.declared.board.Board.{Board}
 use Rattle.sender.specs.declared.board.Row.{Row}
 use Rattle.spoken.specs.Laws.Spoken.{list_at_lem, spoken_ordered, spoken_times, spoken_told}
 use Rattle.spoken.specs.Said.{Exactly, Told, WaitTold}
-use Rattle.spoken.specs.declared.lists.Answer.TheVariants.{Done, Counts}
+use Rattle.spoken.specs.Answers.Answer.{Done, Counts}
 use Rattle.spoken.specs.declared.lists.Change.{Change}
 use Rattle.spoken.specs.Applying.{change_in}
 use Rattle.spoken.specs.Changes.{changed, changes_in, changes_of, comparable, compared_of, list_of, no_changes, spoken_to, wait_change}

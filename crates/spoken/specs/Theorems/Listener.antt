@@ -16,8 +16,8 @@ use Rattle.sender.specs.Epochs.SenderCall.{OnTable, StartEpoch}
 use Rattle.sender.specs.Laws.Kept.{Sound, group_call, sound_call, sound_start}
 use Rattle.sender.specs.Theorems.Demand2.{sound_demand2}
 use Rattle.spoken.specs.Said.{OneTable}
-use Rattle.spoken.specs.declared.applying.Applied.{Applied}
-use Rattle.spoken.specs.declared.lists.Answer.TheVariants.{Done}
+use Rattle.spoken.specs.Answers.{Applied}
+use Rattle.spoken.specs.Answers.Answer.{Done}
 use Rattle.spoken.specs.Listening.{Moment, calls_in, hears_call, known_after, known_now, known_with, told_from}
 use Rattle.spoken.specs.Taking.{taken_of}
 use Rattle.spoken.specs.Theorems.Applied.{outright}

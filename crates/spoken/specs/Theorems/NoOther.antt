@@ -15,8 +15,8 @@ use Rattle.sender.specs.declared.board.Row.{Row}
 use Rattle.sender.specs.Ranks.{row_at}
 use Rattle.spoken.specs.Laws.Spoken.{spoken_changed, spoken_same, take_list}
 use Rattle.spoken.specs.Said.{Agrees, SameChanges, Told}
-use Rattle.spoken.specs.declared.applying.Applied.{Applied}
-use Rattle.spoken.specs.declared.lists.Answer.TheVariants.{Done, Unfit}
+use Rattle.spoken.specs.Answers.{Applied}
+use Rattle.spoken.specs.Answers.Answer.{Done, Unfit}
 use Rattle.spoken.specs.declared.lists.Change.{Change}
 use Rattle.spoken.specs.declared.lists.Changes.{Changes}
 use Rattle.spoken.specs.Applying.{applied_of, change_in, changes_fit, fits, fits_by, rises_at, wait_fits, with_changes}

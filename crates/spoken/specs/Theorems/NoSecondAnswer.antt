@@ -3,10 +3,10 @@ use Rattle.std.specs.Prelude.{◌≡◌, List, ℕ}
 use Rattle.std.proofs.Common.{◌∙◌, sym}
 use Rattle.sender.specs.declared.board.Board.{Board}
 use Rattle.sender.specs.declared.epochs.Sender.{Sender}
-use Rattle.spoken.specs.declared.applying.Applied.{Applied}
-use Rattle.spoken.specs.declared.comparing.Compared.{Compared}
+use Rattle.spoken.specs.Answers.{Applied}
+use Rattle.spoken.specs.Answers.{Compared}
 use Rattle.spoken.specs.declared.lists.Changes.{Changes}
-use Rattle.spoken.specs.declared.speaking.Speech.{Speech}
+use Rattle.spoken.specs.Answers.{Speech}
 use Rattle.spoken.specs.Applying.{applied_of}
 use Rattle.spoken.specs.Changes.{compared_of}
 use Rattle.spoken.specs.Speaking.{speech_bytes, speech_of}

@@ -1,10 +1,9 @@
 -- The call meets its contract: 9, 2 for a wait that is none, and then what applying answers; under 0 the board is written anew.
 -- Each exit cites one law of Telling, in the order of the tests.
-use mathlib.Core.Path.{◌∙◌, ap}
-use Rattle.spoken.specs.Changes.{answer_number}
-use Rattle.spoken.specs.declared.applying.Applied.{Applied}
+use mathlib.Core.Path.{◌∙◌, ap, refl, sym}
+use Rattle.spoken.specs.Laws.Answers.{done_number, refused_number, told_done}
 use Rattle.c_face.specs.Boards.{board_bytes_of}
-use Rattle.c_cards.proofs.Telling.{applied_both, applied_first, applied_refusal, applied_second, applied_told, applied_wait}
+use Rattle.c_cards.proofs.Telling.{applied_first, applied_refusal, applied_second, applied_told, applied_wait}
 use Rattle.c_cards.proofs.changes.levelspruce_board_apply.Goals as goal
 
 pub returns-then-board-ne-BOARD_BYTES : goal.returns-then-board-ne-BOARD_BYTES
@@ -17,10 +16,14 @@ pub returns-then-changes-ge3 : goal.returns-then-changes-ge3
 returns-then-changes-ge3 c =
     applied_wait _ _ c.if-board-ne-BOARD_BYTES.false c.if-changes-ne-CHANGES_BYTES.false c.if-changes-ge3.true
 
-pub returns-then-number-ne0 : goal.returns-then-number-ne0
-returns-then-number-ne0 c =
-    let s = applied_both _ _ _ _ _ c.board_from-old.ensures c.changes_from-told.ensures c.apply-applied.ensures in applied_refusal _ _ c.if-board-ne-BOARD_BYTES.false c.if-changes-ne-CHANGES_BYTES.false c.if-changes-ge3.false _ (c.number-number.ensures ∙ ap (λ (r : Applied). answer_number r.answer) s) c.if-number-ne0.true
+pub returns-in-Err : goal.returns-in-Err
+returns-in-Err c =
+    let f = rw (c.board_from-old.ensures, c.changes_from-told.ensures) at c.in-Err.ensures in
+    let q = refused_number _ _ c.in-Err.refusal _ f c.number.ensures in
+    applied_refusal _ _ c.if-board-ne-BOARD_BYTES.false c.if-changes-ne-CHANGES_BYTES.false c.if-changes-ge3.false _ q.0 q.1
 
-pub returns : goal.returns
-returns c =
-    let s = applied_both _ _ _ _ _ c.board_from-old.ensures c.changes_from-told.ensures c.apply-applied.ensures in applied_told _ _ c.if-board-ne-BOARD_BYTES.false c.if-changes-ne-CHANGES_BYTES.false c.if-changes-ge3.false _ (c.number-number.ensures ∙ ap (λ (r : Applied). answer_number r.answer) s) _ c.if-number-ne0.false (c.put_board.ensures ∙ ap (λ (r : Applied). board_bytes_of r.board) s)
+pub returns-in-Ok : goal.returns-in-Ok
+returns-in-Ok c =
+    let f = rw (c.board_from-old.ensures, c.changes_from-told.ensures) at c.in-Ok.ensures in
+    applied_told _ _ c.if-board-ne-BOARD_BYTES.false c.if-changes-ne-CHANGES_BYTES.false c.if-changes-ge3.false 0 (done_number _ _ _ f) _ refl
+    (c.put_board.ensures ∙ ap board_bytes_of (sym (told_done _ _ _ f).1))

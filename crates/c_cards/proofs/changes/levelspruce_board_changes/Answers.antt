@@ -1,10 +1,9 @@
 -- The call meets its contract: 9 for each of three lengths, 4 for boards of different counts, and then the changes.
 -- Each exit cites one law of Telling, in the order of the tests.
-use mathlib.Core.Path.{◌∙◌, ap}
-use Rattle.spoken.specs.Changes.{answer_number}
-use Rattle.spoken.specs.declared.comparing.Compared.{Compared}
+use mathlib.Core.Path.{◌∙◌, ap, refl, sym}
+use Rattle.spoken.specs.Laws.Answers.{done_number, refused_number, told_done}
 use Rattle.c_cards.specs.Changes.{changes_bytes_of}
-use Rattle.c_cards.proofs.Telling.{compared_first, compared_both, compared_refusal, compared_second, compared_third, compared_told}
+use Rattle.c_cards.proofs.Telling.{compared_first, compared_refusal, compared_second, compared_third, compared_told}
 use Rattle.c_cards.proofs.changes.levelspruce_board_changes.Goals as goal
 
 pub returns-then-before-ne-BOARD_BYTES : goal.returns-then-before-ne-BOARD_BYTES
@@ -17,10 +16,14 @@ pub returns-then-changes-ne-CHANGES_BYTES : goal.returns-then-changes-ne-CHANGES
 returns-then-changes-ne-CHANGES_BYTES c =
     compared_third _ _ _ c.if-before-ne-BOARD_BYTES.false c.if-after-ne-BOARD_BYTES.false c.if-changes-ne-CHANGES_BYTES.true
 
-pub returns-then-number-ne0 : goal.returns-then-number-ne0
-returns-then-number-ne0 c =
-    let s = compared_both _ _ _ _ _ c.board_from-old.ensures c.board_from-new.ensures c.changes_between-compared.ensures in compared_refusal _ _ _ c.if-before-ne-BOARD_BYTES.false c.if-after-ne-BOARD_BYTES.false c.if-changes-ne-CHANGES_BYTES.false _ (c.number-number.ensures ∙ ap (λ (r : Compared). answer_number r.answer) s) c.if-number-ne0.true
+pub returns-in-Err : goal.returns-in-Err
+returns-in-Err c =
+    let f = rw (c.board_from-old.ensures, c.board_from-new.ensures) at c.in-Err.ensures in
+    let q = refused_number _ _ c.in-Err.refusal _ f c.number.ensures in
+    compared_refusal _ _ _ c.if-before-ne-BOARD_BYTES.false c.if-after-ne-BOARD_BYTES.false c.if-changes-ne-CHANGES_BYTES.false _ q.0 q.1
 
-pub returns : goal.returns
-returns c =
-    let s = compared_both _ _ _ _ _ c.board_from-old.ensures c.board_from-new.ensures c.changes_between-compared.ensures in compared_told _ _ _ c.if-before-ne-BOARD_BYTES.false c.if-after-ne-BOARD_BYTES.false c.if-changes-ne-CHANGES_BYTES.false _ (c.number-number.ensures ∙ ap (λ (r : Compared). answer_number r.answer) s) _ c.if-number-ne0.false (c.put_changes.ensures ∙ ap (λ (r : Compared). changes_bytes_of r.changes) s)
+pub returns-in-Ok : goal.returns-in-Ok
+returns-in-Ok c =
+    let f = rw (c.board_from-old.ensures, c.board_from-new.ensures) at c.in-Ok.ensures in
+    compared_told _ _ _ c.if-before-ne-BOARD_BYTES.false c.if-after-ne-BOARD_BYTES.false c.if-changes-ne-CHANGES_BYTES.false 0 (done_number _ _ _ f) _ refl
+    (c.put_changes.ensures ∙ ap changes_bytes_of (sym (told_done _ _ _ f).1))

@@ -1,12 +1,16 @@
-use mathlib.Core.Path.{sym, ◌∙◌}
-use Rattle.spoken.proofs.Fitting.{applied_done, applied_refused, fit_count, fit_slots}
+use Rattle.std.proofs.Common.{◌≡◌, ◌∙◌, arith, length, sym}
+use Rattle.spoken.proofs.Fitting.{applied_done, applied_refused, fit_slots, laid_taken, taken_slots}
 use Rattle.spoken.proofs.applying.apply.Goals as goal
 
 pub returns-then-not-does_fit : goal.returns-then-not-does_fit
-returns-then-not-does_fit c = applied_refused c.args.board c.args.changes _ c.does_fit.ensures (c.if-not-does_fit.true)
+returns-then-not-does_fit c = applied_refused c.args.board c.args.changes _ c.does_fit.ensures c.if-not-does_fit.true
 
 pub lay-requires : goal.lay-requires
-lay-requires c = let f = sym c.does_fit.ensures ∙ c.if-not-does_fit.false in (fit_count c.args.board c.args.changes f, fit_slots c.args.board c.args.changes f)
+lay-requires c =
+    taken_slots c.args.changes.list c.args.changes.count _ c.as_slice.ensures (fit_slots c.args.board c.args.changes (sym c.does_fit.ensures ∙ c.if-not-does_fit.false))
 
 pub returns : goal.returns
-returns c = applied_done c.args.board c.args.changes _ _ _ c.does_fit.ensures (c.if-not-does_fit.false) c.lay.ensures c.wait_after.ensures
+returns c =
+    let l : length c.args.changes.list ≡ 64 = omega arith in
+    applied_done c.args.board c.args.changes _ _ _ c.does_fit.ensures c.if-not-does_fit.false
+    (laid_taken c.args.board c.args.changes (sym c.does_fit.ensures ∙ c.if-not-does_fit.false) l _ _ c.as_slice.ensures c.lay.ensures) c.wait_after.ensures

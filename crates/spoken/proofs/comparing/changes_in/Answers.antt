@@ -1,18 +1,24 @@
-use mathlib.Core.Path.{◌≡◌}
-use mathlib.Core.Bool.{not}
-use native.Mathlib.Omega.{arith}
-use Rattle.spoken.proofs.Listing.{listing_all, listing_more, listing_none, one_le}
+use Rattle.std.proofs.Common.{◌≡◌, ◌<◌, arith, refl}
+use Rattle.spoken.proofs.Listing.{listing_all, listing_changed, listing_none, listing_same}
 use Rattle.spoken.proofs.comparing.changes_in.Goals as goal
+use Rattle.spoken.proofs.comparing.changes_in.Goals.{then-ne, else-ne}
 
 pub loop-i-init : goal.loop-i-init
-loop-i-init c = (omega arith, omega arith, omega arith, listing_none _ _ _ c.no_change-none.ensures)
+loop-i-init c = record { listing = listing_none _ _ _ c.none.ensures; wait = refl }
 
-pub overflow_add-count : goal.overflow_add-count
-overflow_add-count c = let h = one_le (not c.same_row-changed.result) c.one_if-count.result c.one_if-count.ensures in let l = c.loop-i.invariant.3.at_most in omega arith
+pub push-requires : goal.push-requires
+push-requires c = let l = c.loop-i.invariant.listing.at_most in omega arith
 
 pub loop-i-preserved : goal.loop-i-preserved
 loop-i-preserved c =
-    (c.loop-i.invariant.0, c.loop-i.invariant.1, omega arith, listing_more c.args.old c.args.new _ _ _ _ c.loop-i.invariant.3 (omega arith) c.no_change-none.ensures c.same_row-changed.ensures c.change_if-entry.ensures c.one_if-count.ensures)
+    let h : c.loop-i.i < 64 = omega arith in
+    let o = c.loop-i.invariant.listing in
+    elim c.if-ne.branch [
+      | then-ne w ↦ rw (w.changes-is, w.push.ensures) (record { listing = listing_changed _ _ _ o h c.ne.ensures w.if-ne.true; wait = c.loop-i.invariant.wait })
+      | else-ne w ↦ rw w.changes-is (record { listing = listing_same _ _ _ o h c.ne.ensures w.if-ne.false; wait = c.loop-i.invariant.wait })
+    ]
 
 pub returns : goal.returns
-returns c = let e : c.loop-i.i ≡ c.args.n = omega arith in listing_all c.args.old c.args.new _ _ c.loop-i.invariant.3 e
+returns c =
+    let e : c.loop-i.i ≡ c.args.n = omega arith in
+    rw (← c.loop-i.invariant.wait) (listing_all c.args.old.now c.args.new.now c.args.n c.loop-i.changes.wait c.loop-i.invariant.listing e)

@@ -1,29 +1,44 @@
--- `speak` meets its contract: 9 for a buffer without room, 2 for changes that cannot be spoken, and otherwise all their lines.
--- Changes that can be spoken are at most 64, of slots below 64, so that their lines have room (`said_le`); the wait's line is put behind them.
-use mathlib.Core.Path.{◌∙◌, sym}
-use native.Mathlib.Omega.{arith}
+-- Changes that can be spoken are at most 64, of slots below 64, so that their lines have room; the wait's line is put behind them.
+use Rattle.std.proofs.Common.{◌≡◌, ◌∙◌, ◌≤◌, ◌<◌, ℕ, ap, arith, length, length-take, true}
+use Rattle.std.proofs.lemmas.Result.{err_from_is_err_and}
 use Rattle.text.specs.Laws.Putting.{put_then}
-use Rattle.spoken.specs.Speaking.{spoken_text}
-use Rattle.spoken.proofs.Saying.{can_count, can_slots, said_le, speak_done, speak_short, speak_unfit, wait_room}
+use Rattle.spoken.specs.Applying.{change_in}
+use Rattle.spoken.specs.Speaking.{SPEECH-ROOM, can_speak, speak_answer, speech_bytes, speech_of, spoken_text}
+use Rattle.spoken.proofs.Fitting.{taken_slots}
+use Rattle.spoken.proofs.Ready.{is_done, is_ready, is_refused}
+use Rattle.spoken.proofs.Saying.{can_count, can_slots, lines_taken, said_le, wait_room}
 use Rattle.spoken.proofs.speaking.speak.Goals as goal
+use Rattle.spoken.proofs.speaking.speak.Goals.{After-as_slice}
 
-pub returns-then-out-lt-SPEECH_ROOM : goal.returns-then-out-lt-SPEECH_ROOM
-returns-then-out-lt-SPEECH_ROOM c =
-    speak_short c.args.changes _ c.if-out-lt-SPEECH_ROOM.true
+pub returns-in_err-ready : goal.returns-in_err-ready
+unfolding speech_of speech_bytes speak_answer
+returns-in_err-ready c =
+    let p = err_from_is_err_and c.from_residual.result c.from_residual.ensures.1 in
+    rw (p.1, p.2) (is_refused (can_speak c.args.changes) (spoken_text c.args.changes) c.args.out.now c.can_speak.result c.can_speak.ensures _ c.in_err-ready.ensures)
 
-pub returns-then-not-can_speak : goal.returns-then-not-can_speak
-returns-then-not-can_speak c =
-    speak_unfit c.args.changes _ _ c.if-out-lt-SPEECH_ROOM.false c.can_speak.ensures (c.if-not-can_speak.true)
+ready : (c : After-as_slice) → (SPEECH-ROOM ≤ length c.args.out.now) × (can_speak c.args.changes ≡ true)
+ready c = is_ready (can_speak c.args.changes) (spoken_text c.args.changes) c.args.out.now c.can_speak.result c.can_speak.ensures c.in_ok-ready.ensures
 
-pub put_changes-next-requires : goal.put_changes-next-requires
-put_changes-next-requires c =
-    let f = sym c.can_speak.ensures ∙ c.if-not-can_speak.false in (can_count c.args.changes f, can_slots c.args.changes f, c.if-out-lt-SPEECH_ROOM.false)
+slots : (c : After-as_slice) → (k : ℕ) → k < length c.as_slice.result.now → (change_in c.as_slice.result.now k).slot < 64
+slots c = taken_slots c.args.changes.list c.args.changes.count c.as_slice.result.now c.as_slice.ensures (can_slots c.args.changes (ready c).1)
 
-pub put_wait-written-requires : goal.put_wait-written-requires
-put_wait-written-requires c =
-    let f = sym c.can_speak.ensures ∙ c.if-not-can_speak.false in wait_room c.args.changes.list c.args.changes.count c.if-out-lt-SPEECH_ROOM.false c.put_changes-next.ensures (can_count c.args.changes f) (can_slots c.args.changes f) _
+pub put_changes-next-requires-clause-slots : goal.put_changes-next-requires-clause-slots
+put_changes-next-requires-clause-slots c = slots (goal.at.put_changes-next-requires-clause-slots c).After-as_slice
+
+pub put_wait-requires : goal.put_wait-requires
+put_wait-requires c =
+    let a = (goal.at.put_wait-requires c).After-as_slice in
+    let m = can_count c.args.changes (ready a).1 in
+    let t = ap length c.as_slice.ensures ∙ length-take c.args.changes.count c.args.changes.list in
+    wait_room c.as_slice.result.now (length c.as_slice.result.now) (ready a).0 c.put_changes-next.ensures (omega arith) (slots a) _
 
 pub returns : goal.returns
-unfolding spoken_text
+unfolding speech_of speech_bytes speak_answer spoken_text
 returns c =
-    let f = sym c.can_speak.ensures ∙ c.if-not-can_speak.false in let l = said_le c.args.changes f in let h = c.if-out-lt-SPEECH_ROOM.false in speak_done c.args.changes _ _ _ _ h c.can_speak.ensures (c.if-not-can_speak.false) (put_then c.put_changes-next.ensures c.put_wait-written.ensures) (omega arith)
+    let a = (goal.at.returns c).After-as_slice in
+    let l : length c.args.changes.list ≡ 64 = omega arith in
+    let e = lines_taken c.args.changes c.as_slice.result.now (can_count c.args.changes (ready a).1) l c.as_slice.ensures in
+    let r = (ready a).0 in
+    let s = said_le c.args.changes (ready a).1 in
+    is_done (can_speak c.args.changes) (spoken_text c.args.changes) c.args.out.now c.can_speak.result c.can_speak.ensures _ _ c.in_ok-ready.ensures
+    (put_then (rw e at c.put_changes-next.ensures) c.put_wait.ensures) (omega arith)

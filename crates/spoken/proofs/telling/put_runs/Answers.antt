@@ -1,27 +1,28 @@
-use native.Mathlib.Omega.{arith}
-use Rattle.spoken.proofs.InRuns.{closed_room, last_room, lines_none, telling_all, telling_more, telling_none}
+use Rattle.spoken.proofs.InRuns.{last_room, line_room, telling_all, telling_longer, telling_next, telling_none}
 use Rattle.spoken.proofs.telling.put_runs.Goals as goal
+use Rattle.spoken.proofs.telling.put_runs.Goals.{then-continues, else-continues}
 
-pub returns-then-n-eq0 : goal.returns-then-n-eq0
-returns-then-n-eq0 c =
-    lines_none c.args.shown c.args.list c.args.n _ c.if-n-eq0.true
+pub loop-next-init : goal.loop-next-init
+loop-next-init g c = rw c.single-run.ensures (telling_none g.T.Told.shown c.in-Some.first.now c.in-Some.rest.now c.args.out.now)
 
-pub loop-k-init : goal.loop-k-init
-loop-k-init c =
-    (omega arith, omega arith, omega arith, telling_none c.args.shown c.args.list c.args.n (omega arith) c.requires.0 c.if-n-eq0.false _)
+pub put_line-at-requires : goal.put_line-at-requires
+put_line-at-requires g c =
+    line_room g.T.Told.shown c.single-run.result.first c.in-Some.rest.now c.loop-next.invariant c.loop-next-test.true c.continues.result c.continues.ensures c.if-continues.false
+    (rw c.single-run.ensures (rw c.in-Some.ensures.cases.0 at c.requires))
 
-pub put_closed-at-requires : goal.put_closed-at-requires
-put_closed-at-requires c =
-    closed_room c.args.shown c.args.list c.args.n c.loop-k.invariant.0 c.requires.0 c.loop-k.invariant.3 c.continues-goes.result (omega arith) c.continues-goes.ensures c.requires.1
-
-pub loop-k-preserved : goal.loop-k-preserved
-loop-k-preserved c =
-    (c.loop-k.invariant.0, omega arith, omega arith, telling_more c.args.shown c.args.list c.args.n c.loop-k.invariant.0 c.requires.0 c.loop-k.invariant.3 c.continues-goes.result (omega arith) c.continues-goes.ensures c.run_with-after.result c.put_closed-at.ensures c.run_with-after.ensures)
+pub loop-next-preserved : goal.loop-next-preserved
+loop-next-preserved g c =
+    elim c.if-continues.branch [
+      | then-continues w ↦ rw (w.out-is, w.run-is, w.at-is)
+          (telling_longer g.T.Told.shown c.single-run.result.first c.in-Some.rest.now c.loop-next.invariant c.loop-next-test.true c.continues.result c.continues.ensures w.if-continues.true)
+      | else-continues w ↦ rw (w.out-is, w.run-is, w.at-is, w.single-run-else-continues.ensures)
+          (telling_next g.T.Told.shown c.single-run.result.first c.in-Some.rest.now c.loop-next.invariant c.loop-next-test.true c.continues.result c.continues.ensures w.if-continues.false w.put_line-at.ensures)
+    ]
 
 pub put_line-requires : goal.put_line-requires
-put_line-requires c =
-    last_room c.args.shown c.args.list c.args.n c.loop-k.invariant.0 c.requires.0 c.loop-k.invariant.3 (omega arith) c.requires.1
+put_line-requires g c =
+    last_room g.T.Told.shown c.single-run.result.first c.in-Some.rest.now c.loop-next.invariant c.loop-next-test.false (rw c.single-run.ensures (rw c.in-Some.ensures.cases.0 at c.requires))
 
 pub returns : goal.returns
-returns c =
-    telling_all c.args.shown c.args.list c.args.n c.loop-k.invariant.0 c.requires.0 c.loop-k.invariant.3 (omega arith) c.put_line.ensures
+returns g c =
+    rw c.in-Some.ensures.cases.0 (rw c.single-run.ensures at (telling_all g.T.Told.shown c.single-run.result.first c.in-Some.rest.now c.loop-next.invariant c.loop-next-test.false c.put_line.ensures))

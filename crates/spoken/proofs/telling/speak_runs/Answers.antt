@@ -1,33 +1,40 @@
--- `speak_runs` meets its contract: a buffer that is too short, changes that cannot be spoken, else the lines of the runs and that of the wait. Each exit cites one law.
-use mathlib.Core.Path.{◌∙◌, sym}
-use native.Mathlib.Omega.{arith}
+-- Refused as one line a slot is; else the lines of the runs, which have room, and that of the wait behind them.
+use Rattle.std.proofs.Common.{◌≡◌, ◌≤◌, arith, length, true}
+use Rattle.std.proofs.lemmas.Result.{err_from_is_err_and}
 use Rattle.text.specs.Laws.Putting.{put_then}
-use Rattle.spoken.specs.SpeakingRuns.{runs_text}
-use Rattle.spoken.proofs.Saying.{can_count}
-use Rattle.spoken.proofs.InRuns.{runs_done, runs_room, runs_short, runs_unfit, wait_behind}
+use Rattle.spoken.specs.Speaking.{SPEECH-ROOM, can_speak, speak_answer}
+use Rattle.spoken.specs.SpeakingRuns.{runs_speech_bytes, runs_speech_of, runs_text}
+use Rattle.spoken.proofs.InRuns.{runs_room, runs_taken, runs_text_le, wait_behind}
+use Rattle.spoken.proofs.Ready.{is_done, is_ready, is_refused}
 use Rattle.spoken.proofs.telling.speak_runs.Goals as goal
+use Rattle.spoken.proofs.telling.speak_runs.Goals.{In_ok-ready}
 
-pub returns-then-out-lt-SPEECH_ROOM : goal.returns-then-out-lt-SPEECH_ROOM
-returns-then-out-lt-SPEECH_ROOM c =
-    runs_short c.args.changes _ c.if-out-lt-SPEECH_ROOM.true
+pub returns-in_err-ready : goal.returns-in_err-ready
+unfolding runs_speech_of runs_speech_bytes speak_answer
+returns-in_err-ready c =
+    let p = err_from_is_err_and c.from_residual.result c.from_residual.ensures.1 in
+    rw (p.1, p.2) (is_refused (can_speak c.args.changes) (runs_text c.args.changes) c.args.out.now c.can_speak.result c.can_speak.ensures _ c.in_err-ready.ensures)
 
-pub returns-then-not-can_speak : goal.returns-then-not-can_speak
-returns-then-not-can_speak c =
-    runs_unfit c.args.changes _ _ c.if-out-lt-SPEECH_ROOM.false c.can_speak.ensures (c.if-not-can_speak.true)
+ready : (c : In_ok-ready) → (SPEECH-ROOM ≤ length c.args.out.now) × (can_speak c.args.changes ≡ true)
+ready c = is_ready (can_speak c.args.changes) (runs_text c.args.changes) c.args.out.now c.can_speak.result c.can_speak.ensures c.in_ok-ready.ensures
 
 pub put_runs-next-requires : goal.put_runs-next-requires
 put_runs-next-requires c =
-    let f = sym c.can_speak.ensures ∙ c.if-not-can_speak.false in
-    let h = c.if-out-lt-SPEECH_ROOM.false in
-    let r = runs_room c.args.changes f in
-    (can_count c.args.changes f, omega arith)
+    let d = ready (goal.at.put_runs-next-requires c).In_ok-ready in
+    let h = d.0 in
+    let r = runs_room c.args.changes d.1 in
+    rw (runs_taken _ c.args.changes.list c.args.changes.count _ c.as_slice.ensures) (omega arith)
 
-pub put_wait-written-requires : goal.put_wait-written-requires
-put_wait-written-requires c =
-    let f = sym c.can_speak.ensures ∙ c.if-not-can_speak.false in
-    wait_behind c.args.changes f c.if-out-lt-SPEECH_ROOM.false c.put_runs-next.ensures
+pub put_wait-requires : goal.put_wait-requires
+put_wait-requires c =
+    let d = ready (goal.at.put_wait-requires c).In_ok-ready in
+    wait_behind c.args.changes d.1 d.0 (rw (runs_taken _ c.args.changes.list c.args.changes.count _ c.as_slice.ensures) at c.put_runs-next.ensures)
 
 pub returns : goal.returns
-unfolding runs_text
+unfolding runs_speech_of runs_speech_bytes speak_answer runs_text
 returns c =
-    runs_done c.args.changes _ _ _ _ c.if-out-lt-SPEECH_ROOM.false c.can_speak.ensures (c.if-not-can_speak.false) (put_then c.put_runs-next.ensures c.put_wait-written.ensures)
+    let d = ready (goal.at.returns c).In_ok-ready in
+    let h = d.0 in
+    let l = runs_text_le c.args.changes d.1 in
+    is_done (can_speak c.args.changes) (runs_text c.args.changes) c.args.out.now c.can_speak.result c.can_speak.ensures _ _ c.in_ok-ready.ensures
+    (put_then (rw (runs_taken _ c.args.changes.list c.args.changes.count _ c.as_slice.ensures) at c.put_runs-next.ensures) c.put_wait.ensures) (omega arith)
