@@ -17,7 +17,7 @@ from checks.contracts import functions, lent, module_path, parted
 from checks.exports import EXPORTS, LIBRARIES
 
 # under such a name a definition tells an answer, or a record that has one, as a Result
-TOLD = re.compile(r"(?:[a-z]+_)?told")
+TOLD = re.compile(r"(?:[a-z]+_)?told(?:_[a-z]+)?")
 TOKEN = re.compile(r"\(|\)|,|\.\w+|[^\s(),.]+|\.")
 
 
@@ -121,9 +121,11 @@ def contracts(top):
                 found.setdefault(short(f.name), []).append(f)
                 if f.name.endswith("::number"):
                     numbers |= {told[0] for told in [result(f)] if isinstance(told, list) and len(told) == 2 and isinstance(told[0], str)}
-    # and the numbers of an answer as `number_told`, which ground gives of any, has them
-    for file in sorted(top.glob("crates/*/specs/*.antt")):
-        numbers |= set(re.findall(r"^(\w+) = number_told \w+$", file.read_text(), re.M))
+    # and the numbers of an answer as `number_told`, which ground gives of any, has them: by definition, or by a law over what is told
+    for file in sorted(top.glob("crates/*/specs/**/*.antt")):
+        text = file.read_text()
+        numbers |= set(re.findall(r"^(\w+) = number_told \w+$", text, re.M))
+        numbers |= set(re.findall(r"^pub \w+ : .*number_told \w+ \(.*\) ≡ (\w+) \w+$", text, re.M))
     return found, numbers
 
 
