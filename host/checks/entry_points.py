@@ -2,7 +2,8 @@
 
 A public function (a `pub fn`, also one with extern "C" or in an impl block, of crates/*/src) needs an exception if it
 - has a `requires`: then some call has no promise at all;
-- has a result for which no `ensures` has an equation result ≡ .. that says it without result;
+- has a result for which no `ensures` has an equation result ≡ .. that says it without result, or result.now ≡ .. where it is a reference,
+  or NAME result ≡ .. of all that it holds, as NAME sees it;
 - takes a `&mut` for whose value afterwards no `ensures` has an equation NAME.new ≡ .. that says it without any .new;
 - has no result and no `&mut`: then there is nothing to promise, and a reader should be told what it is for.
 The main function of a program is no entry point.
@@ -24,8 +25,8 @@ def speaks_of(text, name):
 
 
 def says_result(clause):
-    """Whether a part is result ≡ .. with no result on the right."""
-    told = (re.match(r"result\s+≡\s(.*)", p, re.S) for p in parted(clause))
+    """Whether a part is result ≡ .. with no result on the right, or so of what a reference or a definition shows of it."""
+    told = (re.match(r"(?:\w+ )?result(?:\.now)?\s+≡\s(.*)", p, re.S) for p in parted(clause))
     return any(t and not speaks_of(t[1], "result") for t in told)
 
 

@@ -14,6 +14,8 @@ from checks.specs import code
 
 OWN_SAKE = ("Theorems", "Wrong", "Samples", "Examples")
 USE = re.compile(r"(?m)^[ \t]*((?:pub |ghost |unfoldable )*)use\s+([^\s{;]+?)(?:\.\{([^}]*)\}|\s+as\s+([^\s;]+))?[ \t]*;?[ \t]*$")
+# what a function's proof takes, by its path
+TACTIC = re.compile(r"#\[tactic\([^\]]*\]")
 LAW = re.compile(r"(?m)^( *)(pub )?([^\s(){}:]+)(?: \{[^}]*\})? :(?=\s)")
 FUNCTION = re.compile(r"(?m)^\s*fn (\w+)")
 TRAIT = re.compile(r"^(?:pub(?:\([a-z]+\))? )?trait .*?^}", re.M | re.S)
@@ -64,7 +66,7 @@ def laws(text, inside):
 def check(top):
     texts = {path: code(path) for end in ("antt", "rt") for part in ("proofs", "specs", "src") for path in sorted(top.glob(f"crates/*/{part}/**/*.{end}"))}
     bodies = {path: USE.sub("", text) for path, text in texts.items()}
-    said = {path: words(body) for path, body in bodies.items()}
+    said = {path: words(TACTIC.sub(lambda found: found[0].replace("::", " "), body)) for path, body in bodies.items()}
     cited = collections.Counter()
     for path, text in texts.items():
         cited.update(set(said[path]))

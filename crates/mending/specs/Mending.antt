@@ -7,8 +7,9 @@ use Rattle.mending.specs.Lines.{Fate as F}
 use Rattle.phases.specs.Sizes.{start_sized}
 use Rattle.receiver.specs.Starting.{times_within}
 use Rattle.recording.specs.declared.pairs.Settings.{Settings}
-use Rattle.recording.specs.Opening.{Opening, line_opening}
-use Rattle.recording.specs.Opening.{Opening as O}
+use Rattle.recording.specs.declared.opening.Opening.{Opening}
+use Rattle.recording.specs.Opening.{line_opening}
+use Rattle.recording.specs.declared.opening.Opening.TheVariants as O
 use Rattle.text.specs.Ascii.{ascii}
 use Rattle.text.specs.Output.{ended, number_text}
 use Rattle.text.specs.Text.{LINE-END, TAB}

@@ -6,8 +6,8 @@ use Rattle.ground.specs.Types.{Bytes}
 use Rattle.mending.specs.Lines.{Fate, Judged, Line, digit_place, line_text, lines_with, text_of}
 use Rattle.mending.specs.Lines.{Fate as F}
 use Rattle.mending.specs.Mending.{opening_of}
-use Rattle.recording.specs.Opening.{Opening}
-use Rattle.recording.specs.Opening.{Opening as O}
+use Rattle.recording.specs.declared.opening.Opening.{Opening}
+use Rattle.recording.specs.declared.opening.Opening.TheVariants as O
 use Rattle.text.specs.Ascii.{ascii}
 use Rattle.text.specs.Fields.{value_of}
 use Rattle.text.specs.Text.{LINE-END, TAB, lines_of}

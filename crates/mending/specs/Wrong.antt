@@ -1,5 +1,5 @@
 -- Wrong readings of 2026-11, each as a definition with a recording on which it differs.
-use Rattle.std.specs.Prelude.{◌≡◌, refl, Bool, true, false, ◌||◌, List, [], ◌∷◌, ◌++◌, ℕ, zero, suc, ◌-◌, ◌%◌, length, if◌then◌else◌, ◌==◌}
+use Rattle.std.specs.Prelude.{◌≡◌, refl, Bool, true, false, ◌||◌, List, [], ◌∷◌, ◌++◌, ℕ, zero, suc, ◌-◌, ◌%◌, length, if◌then◌else◌}
 use Rattle.ground.specs.Plain.{◌≤?◌}
 use Rattle.mending.specs.Following.{count_due, followed, followed_if, good_among, has_count, is_good}
 use Rattle.mending.specs.Lines.{Fate, Judged, Line, counts_of, judged, lines_with, record_of}
@@ -186,7 +186,7 @@ dropped_breaks = (refl, refl)
 
 -- Flagged lines not counted: they are lines of the port, and every flag would break its count. Here a good line becomes a broken one.
 abbrev count_plain : Record → List ℕ → List ℕ
-count_plain (Frame p h4 flag place next) counts = if flag == 0 then h4 % 16 ∷ counts else counts
+count_plain (Frame p h4 flag place next) counts = if flag then counts else h4 % 16 ∷ counts
 count_plain (Malformed next) counts = counts
 count_plain Long counts = counts
 count_plain Unfinished counts = counts

@@ -32,22 +32,23 @@ fn dropped(next: usize, end: usize) -> Read
 fn is_unended(found: Record) -> bool
     ensures { result ≡ is_unended found }
 {
-    match found {
-        Record::Frame(_, _, _, _, _) => false,
-        Record::Malformed(_) => false,
-        Record::Long => true,
-        Record::Unfinished => true,
-        Record::End => false,
-    }
+    matches!(found, Record::Long | Record::Unfinished)
 }
 
 // Before a payload stand the second digit of H4, a tab, the flag and a tab. back: how many bytes the line's end has.
+#[tactic(auto, unfolding(crate::specs::Laws::Reads::read_found))]
 fn read_as(found: Record, back: usize) -> Read
     requires { (4 ≤ place_of found) × (back ≤ next_of found) }
     ensures { result ≡ read_found back found }
 {
     match found {
-        Record::Frame(port, h4, _, place, next) => Read {
+        Record::Frame {
+            port,
+            h4,
+            place,
+            next,
+            ..
+        } => Read {
             next,
             end: next - back,
             digit: place - 4,
@@ -55,10 +56,8 @@ fn read_as(found: Record, back: usize) -> Read
             count: h4 % 16,
             kept: true,
         },
-        Record::Malformed(next) => dropped(next, next - back),
-        Record::Long => dropped(1, 0),
-        Record::Unfinished => dropped(1, 0),
-        Record::End => dropped(1, 0),
+        Record::Malformed { next } => dropped(next, next - back),
+        _ => dropped(1, 0),
     }
 }
 

@@ -4,7 +4,7 @@ ghost use Rattle.mending.specs.Laws.Starts.{no_start, start_of, start_with, time
 ghost use Rattle.mending.specs.Mending.{fitting};
 
 use packet::kinds;
-use recording::{FirstLine, Settings};
+use recording::{Opening, Settings};
 
 // answer: 0, 13 or 4. next: the place of the second line. ports, size: of the group. counted: its lines have an H4 count.
 #[derive(Clone, Copy)]
@@ -33,10 +33,8 @@ fn times_fit(settings: Settings) -> bool
     requires { settings.ports ≤ 64 }
     ensures { result ≡ times_both settings }
 {
-    let hold = settings.hold_off;
-    let restore = settings.restore;
     let n = settings.ports as usize;
-    receiver::times_within(&hold[..n]) & receiver::times_within(&restore[..n])
+    receiver::times_within(&settings.hold_off[..n]) & receiver::times_within(&settings.restore[..n])
 }
 
 fn is_fitting(settings: Settings) -> bool
@@ -68,18 +66,12 @@ fn opened_with(settings: Settings, next: usize) -> Start
     refused(4)
 }
 
+#[tactic(auto, unfolding(crate::specs::Laws::Starts::start_of))]
 pub(crate) fn opened(text: &[u8]) -> Start
     ensures { result ≡ start_of text.now }
 {
-    let first = recording::opening_at(text, 0, true);
-    let line = first.line;
-    match line {
-        FirstLine::Settings => {
-            let settings = first.settings;
-            opened_with(settings, first.next)
-        }
-        FirstLine::Malformed => refused(13),
-        FirstLine::Unfinished => refused(13),
-        FirstLine::End => refused(13),
+    match recording::opening_at(text, 0, true) {
+        Opening::Settings(settings, next) => opened_with(settings, next),
+        _ => refused(13),
     }
 }

@@ -2,9 +2,8 @@
 use Rattle.std.specs.Prelude.{Bool, List, [], ◌∷◌, ℕ, ◌+◌, length, if◌then◌else◌, Option, Some, None}
 use Rattle.ground.specs.Plain.{◌≤?◌}
 use Rattle.ground.specs.Types.{Bytes}
-use Rattle.recording.specs.declared.opening.First.{First}
-use Rattle.recording.specs.declared.opening.FirstLine.{FirstLine}
-use Rattle.recording.specs.declared.opening.FirstLine.TheVariants as F
+use Rattle.recording.specs.declared.opening.Opening.{Opening}
+use Rattle.recording.specs.declared.opening.Opening.TheVariants.{Settings, Malformed, Unfinished, End}
 use Rattle.recording.specs.declared.line.Found.{Found}
 use Rattle.recording.specs.declared.line.Found.TheVariants.{Nothing, Open, TooLong, Ends}
 use Rattle.recording.specs.declared.pairs.Awaited.{Awaited}
@@ -13,28 +12,11 @@ use Rattle.recording.specs.declared.pairs.Awaited.TheVariants as A
 use Rattle.recording.specs.declared.pairs.Pairs.{Pairs}
 use Rattle.recording.specs.declared.pairs.Settings as S
 use Rattle.recording.specs.Line.{MOST, first_line, found_of}
-use Rattle.recording.specs.Pairs.{first_pairs, pairs_from, plain_settings}
+use Rattle.recording.specs.Pairs.{first_pairs, pairs_from, settings_of}
 use Rattle.text.specs.Fields.{number_of}
 use Rattle.text.specs.Text.{fields_of}
 
--- what stands first: settings and the place of the next line, or none
-pub data Opening : Type 0 where
-  Settings : S.Settings → ℕ → Opening
-  Malformed : Opening
-  Unfinished : Opening
-  End : Opening
-
--- as it is handed over
-abbrev pub no_settings : FirstLine → First
-no_settings line = record { settings = plain_settings 0 0 0; next = 0; line = line }
-
-abbrev pub handed : Opening → First
-handed (Settings s next) = record { settings = s; next = next; line = F.Settings }
-handed Malformed = no_settings F.Malformed
-handed Unfinished = no_settings F.Unfinished
-handed End = no_settings F.End
-
--- the pairs are whole where a name might follow
+-- settings and the place of the next line; the pairs are whole where a name might follow
 abbrev pub opened_by : (awaited : Awaited) (s : S.Settings) (next : ℕ) → Opening
 opened_by Name s next = Settings s next
 opened_by Kind s next = Malformed
@@ -42,7 +24,7 @@ opened_by (Time t i) s next = Malformed
 opened_by A.Nothing s next = Malformed
 
 unfoldable pub opened : Pairs → ℕ → Opening
-opened p next = opened_by p.awaited p.settings next
+opened p next = opened_by p.awaited (settings_of p) next
 
 unfoldable pub settings_by : (ports size window : Option ℕ) (pairs : List (List ℕ)) (next : ℕ) → Opening
 settings_by (Some ports) (Some size) (Some window) pairs next = opened (pairs_from (first_pairs ports size window) pairs) next

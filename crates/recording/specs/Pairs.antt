@@ -1,6 +1,6 @@
 -- Behind the three numbers of a first line stand pairs, each a name and what it says (2026-05), in any order, each at most once: `kind` with the group's
 -- kind (2026-12, 2026-01), `hold-off` and `wait-to-restore` (2026-03) with a number for each port. The fields are taken one after the other.
-use Rattle.std.specs.Prelude.{Bool, true, false, not, ◌&&◌, ◌||◌, List, [], ◌∷◌, ℕ, ◌+◌, replicate, set, if◌then◌else◌, Option, Some, None}
+use Rattle.std.specs.Prelude.{◌&&◌, List, [], ◌∷◌, ℕ, ◌+◌, replicate, set, if◌then◌else◌, Option, Some, None, is_none, unwrap_or}
 use Rattle.ground.specs.Plain.{◌<?◌}
 use Rattle.ground.specs.Types.{Bytes}
 use Rattle.recording.specs.declared.pairs.Awaited.{Awaited}
@@ -13,25 +13,31 @@ use Rattle.packet.specs.Kinds.{fixed_kind, vc12_kind}
 use Rattle.text.specs.Ascii.{ascii}
 use Rattle.text.specs.Fields.{number_of, same_bytes}
 
--- a group with no pair: H4, and no time for any port
-abbrev pub plain_settings : (ports size window : ℕ) → Settings
-plain_settings ports size window = record { hold_off = replicate 64 0; restore = replicate 64 0; kind = 0; ports = ports; size = size; window = window }
-
 abbrev pub first_pairs : (ports size window : ℕ) → Pairs
-first_pairs ports size window = record { settings = plain_settings ports size window; awaited = Name; has_kind = false; has_hold_off = false; has_restore = false }
+first_pairs ports size window = record { ports = ports; size = size; window = window; kind = None; hold_off = None; restore = None; awaited = Name }
+
+abbrev pub no_times : List ℕ
+no_times = replicate 64 0
+
+-- a pair that is not there: H4, and no time for any port
+abbrev pub settings_of : Pairs → Settings
+settings_of p =
+    record {
+      hold_off = unwrap_or p.hold_off no_times;
+      restore = unwrap_or p.restore no_times;
+      kind = unwrap_or p.kind 0;
+      ports = p.ports;
+      size = p.size;
+      window = p.window;
+    }
 
 -- another field is awaited
 abbrev pub awaiting : Awaited → Pairs → Pairs
-awaiting a p = record { settings = p.settings; awaited = a; has_kind = p.has_kind; has_hold_off = p.has_hold_off; has_restore = p.has_restore }
+awaiting a p = record p { awaited = a }
 
 -- a field that may not stand here; what follows it is not looked at
 abbrev pub wrong_field : Pairs → Pairs
 wrong_field p = awaiting Nothing p
-
--- of the two times of a port, hold-off and not wait-to-restore
-abbrev pub is_hold : Timer → Bool
-is_hold HoldOff = true
-is_hold Restore = false
 
 -- a list has as many numbers as there are ports: the one of a port, or the next name
 abbrev pub time_from : (timer : Timer) (ports port : ℕ) → Awaited
@@ -39,51 +45,21 @@ time_from t ports i = if i <? ports then Time t i else Name
 
 -- a name
 
-abbrev pub kind_named : Pairs → Pairs
-kind_named p = record { settings = p.settings; awaited = Kind; has_kind = true; has_hold_off = p.has_hold_off; has_restore = p.has_restore }
-
 abbrev pub time_named : Pairs → Timer → Pairs
-time_named p t =
-    record {
-      settings = p.settings;
-      awaited = time_from t p.settings.ports 0;
-      has_kind = p.has_kind;
-      has_hold_off = p.has_hold_off || is_hold t;
-      has_restore = p.has_restore || not (is_hold t);
-    }
+time_named p HoldOff = record p { hold_off = Some no_times; awaited = time_from HoldOff p.ports 0 }
+time_named p Restore = record p { restore = Some no_times; awaited = time_from Restore p.ports 0 }
 
 unfoldable pub named : Pairs → Bytes → Pairs
 named p field =
-    if same_bytes field (ascii "kind") && not p.has_kind then kind_named p
-    else if same_bytes field (ascii "hold-off") && not p.has_hold_off then time_named p HoldOff
-    else if same_bytes field (ascii "wait-to-restore") && not p.has_restore then time_named p Restore
+    if same_bytes field (ascii "kind") && is_none p.kind then awaiting Kind p
+    else if same_bytes field (ascii "hold-off") && is_none p.hold_off then time_named p HoldOff
+    else if same_bytes field (ascii "wait-to-restore") && is_none p.restore then time_named p Restore
     else wrong_field p
 
 -- what it says
 
-abbrev pub settings_to : (s : Settings) (a : Awaited) (p : Pairs) → Pairs
-settings_to s a p = record { settings = s; awaited = a; has_kind = p.has_kind; has_hold_off = p.has_hold_off; has_restore = p.has_restore }
-
-abbrev pub with_kind : Settings → ℕ → Settings
-with_kind s kind = record { hold_off = s.hold_off; restore = s.restore; kind = kind; ports = s.ports; size = s.size; window = s.window }
-
--- the number of a port put into its list; of a group with more than 64 ports, which no receiver has, the numbers of the first 64 are kept
-abbrev pub count_put : (counts : List ℕ) (own : Bool) (port n : ℕ) → List ℕ
-count_put counts own i n = if own && i <? 64 then set counts i n else counts
-
-abbrev pub with_time : (s : Settings) (timer : Timer) (port n : ℕ) → Settings
-with_time s t i n =
-    record {
-      hold_off = count_put s.hold_off (is_hold t) i n;
-      restore = count_put s.restore (not (is_hold t)) i n;
-      kind = s.kind;
-      ports = s.ports;
-      size = s.size;
-      window = s.window;
-    }
-
 abbrev pub kind_to : Pairs → ℕ → Pairs
-kind_to p kind = settings_to (with_kind p.settings kind) Name p
+kind_to p kind = record p { kind = Some kind; awaited = Name }
 
 unfoldable pub kind_read : Pairs → Bytes → Pairs
 kind_read p field =
@@ -92,8 +68,17 @@ kind_read p field =
     else if same_bytes field (ascii "VC12") then kind_to p vc12_kind
     else wrong_field p
 
+-- the number of a port put into its list; of a group with more than 64 ports, which no receiver has, the numbers of the first 64 are kept
+abbrev pub count_put : (counts : Option (List ℕ)) (port n : ℕ) → Option (List ℕ)
+count_put (Some counts) i n = Some (if i <? 64 then set counts i n else counts)
+count_put None i n = None
+
+abbrev pub with_time : (p : Pairs) (timer : Timer) (port n : ℕ) → Pairs
+with_time p HoldOff i n = record p { hold_off = count_put p.hold_off i n }
+with_time p Restore i n = record p { restore = count_put p.restore i n }
+
 unfoldable pub time_read : (p : Pairs) (timer : Timer) (port : ℕ) (number : Option ℕ) → Pairs
-time_read p t i (Some n) = settings_to (with_time p.settings t i n) (time_from t p.settings.ports (i + 1)) p
+time_read p t i (Some n) = awaiting (time_from t p.ports (i + 1)) (with_time p t i n)
 time_read p t i None = wrong_field p
 
 -- one field

@@ -12,13 +12,14 @@ use Rattle.text.specs.Fields.{hex_of, is_hex, number_of, same_bytes}
 use Rattle.text.specs.Text.{fields_of}
 
 -- the flag is 0 or 1 and nothing else
-unfoldable pub flag_in : Bytes → ℕ
-flag_in field = if same_bytes field (ascii "0") then 0 else if same_bytes field (ascii "1") then 1 else 2
+unfoldable pub flag_in : Bytes → Option Bool
+flag_in field = if same_bytes field (ascii "0") then Some false else if same_bytes field (ascii "1") then Some true else None
 
 -- a port below the count, an H4 byte, a flag and the payload of P bytes
-unfoldable pub frame_by : (ports : ℕ) (port h4 : Option ℕ) (flag : ℕ) (payload : Bool) (place next : ℕ) → Record
-frame_by ports (Some port) (Some h4) flag payload place next =
-    if port <? ports && h4 <? 256 && flag <? 2 && payload then Frame port h4 flag place next else Malformed next
+unfoldable pub frame_by : (ports : ℕ) (port h4 : Option ℕ) (flag : Option Bool) (payload : Bool) (place next : ℕ) → Record
+frame_by ports (Some port) (Some h4) (Some flag) payload place next =
+    if port <? ports && h4 <? 256 && payload then Frame port h4 flag place next else Malformed next
+frame_by ports (Some port) (Some h4) None payload place next = Malformed next
 frame_by ports (Some port) None flag payload place next = Malformed next
 frame_by ports None h4 flag payload place next = Malformed next
 
@@ -60,4 +61,4 @@ is_frame End = false
 
 -- the payload of a frame lies in its line
 pub record Lies (size end : ℕ) (r : Record) : Type 0 where
-  pub within : (port h4 flag place next : ℕ) → r ≡ Frame port h4 flag place next → place + size + size ≤ end
+  pub within : (port h4 : ℕ) (flag : Bool) (place next : ℕ) → r ≡ Frame port h4 flag place next → place + size + size ≤ end

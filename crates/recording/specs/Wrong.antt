@@ -1,9 +1,10 @@
 -- Wrong readings of 2026-05, each as a definition with a run on which it breaks what the request says.
-use Rattle.std.specs.Prelude.{◌≡◌, refl, List, [], ◌∷◌, ◌++◌, ℕ, replicate, take, Option, Some}
+use Rattle.std.specs.Prelude.{◌≡◌, refl, List, [], ◌∷◌, ◌++◌, ℕ, replicate, take, Option, Some, None, true, false}
 use Rattle.recording.specs.declared.pairs.Settings.{Settings}
 use Rattle.recording.specs.declared.record.Record.TheVariants.{Frame, Malformed}
-use Rattle.recording.specs.Opening.{Opening, line_opening, opening_by}
-use Rattle.recording.specs.Opening.{Opening as O}
+use Rattle.recording.specs.declared.opening.Opening.{Opening}
+use Rattle.recording.specs.Opening.{line_opening, opening_by}
+use Rattle.recording.specs.declared.opening.Opening.TheVariants as O
 use Rattle.recording.specs.Record.{flag_in, line_record}
 use Rattle.text.specs.Ascii.{ascii}
 use Rattle.text.specs.Fields.{number_of}
@@ -14,12 +15,12 @@ use Rattle.recording.specs.Opened.{recording_open}
 wrong_flag : List ℕ → Option ℕ
 wrong_flag field = number_of 9 field
 
-flag_breaks : (wrong_flag (ascii "00") ≡ Some 0) × (flag_in (ascii "00") ≡ 2) × (flag_in (ascii "1") ≡ 1)
+flag_breaks : (wrong_flag (ascii "00") ≡ Some 0) × (flag_in (ascii "00") ≡ None) × (flag_in (ascii "1") ≡ Some true)
 unfolding recording_open wrong_flag
 flag_breaks = (refl, refl, refl)
 
 -- a line of one port and P 1, and lines that are none: a port too high, a payload of two bytes, a carriage return
-lines_read : (line_record 1 1 0 10 (ascii "0\tf0\t0\tAb") ≡ Frame 0 240 0 7 10) × (line_record 1 1 0 10 (ascii "1\tf0\t0\tAb") ≡ Malformed 10)
+lines_read : (line_record 1 1 0 10 (ascii "0\tf0\t0\tAb") ≡ Frame 0 240 false 7 10) × (line_record 1 1 0 10 (ascii "1\tf0\t0\tAb") ≡ Malformed 10)
     × (line_record 1 1 0 12 (ascii "0\tf0\t0\tAbAb") ≡ Malformed 12) × (line_record 1 1 0 11 (ascii "0\tf0\t0\tAb\r") ≡ Malformed 11)
 unfolding recording_open
 lines_read = (refl, refl, refl, refl)

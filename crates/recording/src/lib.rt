@@ -8,7 +8,7 @@ mod pairs;
 mod reader;
 mod record;
 
-pub use opening::{First, FirstLine, opening_at};
+pub use opening::{Opening, opening_at};
 pub use pairs::Settings;
-pub use reader::{Reader, moved, next, reader_on, record_at};
+pub use reader::{Reader, record_at};
 pub use record::{Record, last_record, record_in};

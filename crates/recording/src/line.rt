@@ -16,7 +16,8 @@ pub(crate) enum Found {
 
 const LINE_END: u8 = b'\n';
 
-const MOST: usize = 8192;
+// 'Lines hold at most 8,192 bytes.'
+pub(crate) const MOST: usize = 8192;
 
 // The line that begins at a place.
 pub(crate) fn find(text: &[u8], at: usize) -> Found

@@ -1,8 +1,7 @@
 // The pairs behind the three numbers of a first line (2026-05): each a name and what it says, in any order, each at most once.
-ghost use Rattle.std.specs.Prelude.{◌≡◌, ◌+◌, ◌≤◌, length};
-ghost use Rattle.std.proofs.Math.Seq.{slice};
-ghost use Rattle.recording.specs.Laws.Pairs.{fields_from};
-ghost use Rattle.recording.specs.Pairs.{awaiting, count_put, field_in, first_pairs, is_hold, kind_named, kind_read, kind_to, named, pairs_from, plain_settings, settings_to, time_from, time_named, time_read, with_time};
+ghost use Rattle.std.specs.Prelude.{◌≡◌};
+ghost use Rattle.recording.specs.Laws.Pairs.{fields_in, settings_told};
+ghost use Rattle.recording.specs.Pairs.{count_put, field_in, first_pairs, kind_read, named, pairs_from, time_from, time_named, time_read, with_time, wrong_field};
 
 use packet::kinds;
 
@@ -39,28 +38,34 @@ pub(crate) enum Awaited {
     Nothing,
 }
 
-// The settings as far as they are read.
+// The settings as far as they are read, each pair once it is.
 #[derive(Clone, Copy)]
 pub(crate) struct Pairs {
-    pub settings: Settings,
+    pub ports: u32,
+    pub size: u32,
+    pub window: u32,
+    pub kind: Option<u8>,
+    pub hold_off: Option<[u32; 64]>,
+    pub restore: Option<[u32; 64]>,
     pub awaited: Awaited,
-    pub has_kind: bool,
-    pub has_hold_off: bool,
-    pub has_restore: bool,
 }
 
-const TAB: u8 = b'\t';
-
-pub(crate) fn plain(ports: u32, size: u32, window: u32) -> Settings
-    ensures { result ≡ plain_settings ports size window }
-{
-    Settings {
-        hold_off: [0u32; 64],
-        restore: [0u32; 64],
-        kind: 0,
-        ports,
-        size,
-        window,
+impl Pairs {
+    // The settings, where no pair is left half.
+    pub(crate) fn settings(self) -> Option<Settings>
+        ensures { result ≡ settings_told self }
+    {
+        let Awaited::Name = self.awaited else {
+            return None;
+        };
+        Some(Settings {
+            hold_off: self.hold_off.unwrap_or([0; 64]),
+            restore: self.restore.unwrap_or([0; 64]),
+            kind: self.kind.unwrap_or(kinds::H4),
+            ports: self.ports,
+            size: self.size,
+            window: self.window,
+        })
     }
 }
 
@@ -68,205 +73,157 @@ pub(crate) fn plain(ports: u32, size: u32, window: u32) -> Settings
 pub(crate) fn no_pairs(ports: u32, size: u32, window: u32) -> Pairs
     ensures { result ≡ first_pairs ports size window }
 {
-    let settings = plain(ports, size, window);
     Pairs {
-        settings,
+        ports,
+        size,
+        window,
+        kind: None,
+        hold_off: None,
+        restore: None,
         awaited: Awaited::Name,
-        has_kind: false,
-        has_hold_off: false,
-        has_restore: false,
     }
 }
 
-fn with_settings(pairs: Pairs, settings: Settings, awaited: Awaited) -> Pairs
-    ensures { result ≡ settings_to settings awaited pairs }
+// A field that may not stand here.
+fn wrong_field(pairs: Pairs) -> Pairs
+    ensures { result ≡ wrong_field pairs }
 {
     Pairs {
-        settings,
-        awaited,
-        has_kind: pairs.has_kind,
-        has_hold_off: pairs.has_hold_off,
-        has_restore: pairs.has_restore,
-    }
-}
-
-fn awaits(pairs: Pairs, awaited: Awaited) -> Pairs
-    ensures { result ≡ awaiting awaited pairs }
-{
-    let settings = pairs.settings;
-    Pairs {
-        settings,
-        awaited,
-        has_kind: pairs.has_kind,
-        has_hold_off: pairs.has_hold_off,
-        has_restore: pairs.has_restore,
-    }
-}
-
-fn is_hold(timer: Timer) -> bool
-    ensures { result ≡ is_hold timer }
-{
-    match timer {
-        Timer::HoldOff => true,
-        Timer::Restore => false,
+        awaited: Awaited::Nothing,
+        ..pairs
     }
 }
 
 fn time_from(timer: Timer, ports: u32, i: u64) -> Awaited
     ensures { result ≡ time_from timer ports i }
 {
-    if i < ports as u64 {
+    if i < u64::from(ports) {
         return Awaited::Time(timer, i as u32);
     }
     Awaited::Name
 }
 
-fn kind_named(pairs: Pairs) -> Pairs
-    ensures { result ≡ kind_named pairs }
-{
-    let settings = pairs.settings;
-    Pairs {
-        settings,
-        awaited: Awaited::Kind,
-        has_kind: true,
-        has_hold_off: pairs.has_hold_off,
-        has_restore: pairs.has_restore,
-    }
-}
-
 fn time_named(pairs: Pairs, timer: Timer) -> Pairs
     ensures { result ≡ time_named pairs timer }
 {
-    let settings = pairs.settings;
-    let awaited = time_from(timer, settings.ports, 0);
-    let holds = is_hold(timer);
-    Pairs {
-        settings,
-        awaited,
-        has_kind: pairs.has_kind,
-        has_hold_off: pairs.has_hold_off | holds,
-        has_restore: pairs.has_restore | !holds,
+    let awaited = time_from(timer, pairs.ports, 0);
+    let zeros = Some([0; 64]);
+    match timer {
+        Timer::HoldOff => Pairs {
+            hold_off: zeros,
+            awaited,
+            ..pairs
+        },
+        Timer::Restore => Pairs {
+            restore: zeros,
+            awaited,
+            ..pairs
+        },
     }
 }
 
 // A name that has not been given yet.
-fn read_name(pairs: Pairs, text: &[u8], at: usize, limit: usize) -> Pairs
-    ensures { result ≡ named pairs (slice at limit text.now) }
+#[tactic(auto, unfolding(crate::specs::Pairs::named))]
+fn read_name(pairs: Pairs, field: &[u8]) -> Pairs
+    ensures { result ≡ named pairs field.now }
 {
-    if text::same(text, at, limit, b"kind") & !pairs.has_kind {
-        return kind_named(pairs);
+    if text::is_word(field, b"kind") & pairs.kind.is_none() {
+        return Pairs {
+            awaited: Awaited::Kind,
+            ..pairs
+        };
     }
-    if text::same(text, at, limit, b"hold-off") & !pairs.has_hold_off {
+    if text::is_word(field, b"hold-off") & pairs.hold_off.is_none() {
         return time_named(pairs, Timer::HoldOff);
     }
-    if text::same(text, at, limit, b"wait-to-restore") & !pairs.has_restore {
+    if text::is_word(field, b"wait-to-restore") & pairs.restore.is_none() {
         return time_named(pairs, Timer::Restore);
     }
-    awaits(pairs, Awaited::Nothing)
+    wrong_field(pairs)
 }
 
-fn kind_to(pairs: Pairs, kind: u8) -> Pairs
-    ensures { result ≡ kind_to pairs kind }
+#[tactic(auto, unfolding(crate::specs::Pairs::kind_read))]
+fn read_kind(pairs: Pairs, field: &[u8]) -> Pairs
+    ensures { result ≡ kind_read pairs field.now }
 {
-    let before = pairs.settings;
-    let hold_off = before.hold_off;
-    let restore = before.restore;
-    let settings = Settings {
-        hold_off,
-        restore,
-        kind,
-        ports: before.ports,
-        size: before.size,
-        window: before.window,
+    let kind = if text::is_word(field, b"H4") {
+        kinds::H4
+    } else if text::is_word(field, b"FIXED") {
+        kinds::FIXED
+    } else if text::is_word(field, b"VC12") {
+        kinds::VC12
+    } else {
+        return wrong_field(pairs);
     };
-    with_settings(pairs, settings, Awaited::Name)
+    Pairs {
+        kind: Some(kind),
+        awaited: Awaited::Name,
+        ..pairs
+    }
 }
 
-fn read_kind(pairs: Pairs, text: &[u8], at: usize, limit: usize) -> Pairs
-    ensures { result ≡ kind_read pairs (slice at limit text.now) }
+// The number of a port into a list, which has 64.
+fn put_count(counts: Option<[u32; 64]>, i: u32, n: u32) -> Option<[u32; 64]>
+    ensures { result ≡ count_put counts i n }
 {
-    if text::same(text, at, limit, b"H4") {
-        return kind_to(pairs, kinds::H4);
-    }
-    if text::same(text, at, limit, b"FIXED") {
-        return kind_to(pairs, kinds::FIXED);
-    }
-    if text::same(text, at, limit, b"VC12") {
-        return kind_to(pairs, kinds::VC12);
-    }
-    awaits(pairs, Awaited::Nothing)
-}
-
-// The number of a port into a list, which has 64, if it is that list's.
-fn put_count(counts: [u32; 64], own: bool, i: u32, n: u32) -> [u32; 64]
-    ensures { result ≡ count_put counts own i n }
-{
-    if own & (i < 64) {
-        let mut next = counts;
+    let mut next = counts?;
+    if i < 64 {
         next[i as usize] = n;
-        return next;
     }
-    counts
+    Some(next)
 }
 
-fn with_time(settings: Settings, timer: Timer, i: u32, n: u32) -> Settings
-    ensures { result ≡ with_time settings timer i n }
+fn with_time(pairs: Pairs, timer: Timer, i: u32, n: u32) -> Pairs
+    ensures { result ≡ with_time pairs timer i n }
 {
-    let holds = is_hold(timer);
-    let before = settings.hold_off;
-    let hold_off = put_count(before, holds, i, n);
-    let others = settings.restore;
-    let restore = put_count(others, !holds, i, n);
-    Settings {
-        hold_off,
-        restore,
-        kind: settings.kind,
-        ports: settings.ports,
-        size: settings.size,
-        window: settings.window,
+    match timer {
+        Timer::HoldOff => Pairs {
+            hold_off: put_count(pairs.hold_off, i, n),
+            ..pairs
+        },
+        Timer::Restore => Pairs {
+            restore: put_count(pairs.restore, i, n),
+            ..pairs
+        },
     }
 }
 
+#[tactic(auto, unfolding(crate::specs::Pairs::time_read))]
 fn read_time(pairs: Pairs, timer: Timer, i: u32, number: Option<u32>) -> Pairs
     ensures { result ≡ time_read pairs timer i number }
 {
     let Some(n) = number else {
-        return awaits(pairs, Awaited::Nothing);
+        return wrong_field(pairs);
     };
-    let before = pairs.settings;
-    let settings = with_time(before, timer, i, n);
-    let awaited = time_from(timer, before.ports, i as u64 + 1);
-    with_settings(pairs, settings, awaited)
+    Pairs {
+        awaited: time_from(timer, pairs.ports, u64::from(i) + 1),
+        ..with_time(pairs, timer, i, n)
+    }
 }
 
-// The field that lies from `at` to `limit`.
-fn read_field(pairs: Pairs, text: &[u8], at: usize, limit: usize) -> Pairs
-    ensures { result ≡ field_in pairs (slice at limit text.now) }
+#[tactic(auto, unfolding(crate::specs::Pairs::field_in))]
+fn read_field(pairs: Pairs, field: &[u8]) -> Pairs
+    ensures { result ≡ field_in pairs field.now }
 {
-    let awaited = pairs.awaited;
-    match awaited {
-        Awaited::Name => read_name(pairs, text, at, limit),
-        Awaited::Kind => read_kind(pairs, text, at, limit),
-        Awaited::Time(timer, i) => {
-            let number = text::read_number(text, at, limit, 9);
-            read_time(pairs, timer, i, number)
-        }
+    match pairs.awaited {
+        Awaited::Name => read_name(pairs, field),
+        Awaited::Kind => read_kind(pairs, field),
+        Awaited::Time(timer, i) => read_time(pairs, timer, i, text::read_number(field, 9)),
         Awaited::Nothing => pairs,
     }
 }
 
-// The fields from `start` to `end`, none if it lies behind.
-pub(crate) fn read_pairs(first: Pairs, text: &[u8], start: usize, end: usize) -> Pairs
-    requires { end ≤ length text.now }
-    ensures { result ≡ pairs_from first (fields_from start end text.now) }
+// The fields of the rest of a line, if there is one.
+pub(crate) fn read_pairs(first: Pairs, fields: Option<&[u8]>) -> Pairs
+    ensures { result ≡ pairs_from first (fields_in fields.entry) }
 {
+    let Some(mut rest) = fields else {
+        return first;
+    };
     let mut pairs = first;
-    let mut at = start;
-    while at <= end {
-        let stop = text::piece_end(text, at, end, TAB);
-        let next = read_field(pairs, text, at, stop);
-        pairs = next;
-        at = stop + 1;
+    while let Some((field, behind)) = text::parted(rest) {
+        pairs = read_field(pairs, field);
+        rest = behind;
     }
-    pairs
+    read_field(pairs, rest)
 }

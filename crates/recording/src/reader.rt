@@ -13,30 +13,32 @@ pub struct Reader<'a> {
     pub at: usize,
 }
 
-// A reader at the beginning of a text.
-pub fn reader_on<'a>(text: &'a [u8]) -> Reader<'a>
-    ensures { result ≡ reader_at text.entry 0 }
-{
-    Reader { text, at: 0 }
-}
+impl<'a> Reader<'a> {
+    // A reader at the beginning of a text.
+    pub fn on(text: &'a [u8]) -> Reader<'a>
+        ensures { result ≡ reader_at text.entry 0 }
+    {
+        Reader { text, at: 0 }
+    }
 
-// What stands where the reader is.
-pub fn next<'a>(r: Reader<'a>, ports: u32, size: u32) -> Record
-    ensures { result ≡ record_in ports size r.entry.at (drop r.entry.at r.entry.text.now) }
-{
-    record::record_in(r.text, r.at, ports, size)
-}
+    // The reader at another place of its text.
+    pub fn moved(self, at: usize) -> Reader<'a>
+        ensures { result ≡ reader_at self.entry.text at }
+    {
+        Reader { at, ..self }
+    }
 
-// The reader at another place of its text.
-pub fn moved<'a>(r: Reader<'a>, at: usize) -> Reader<'a>
-    ensures { result ≡ reader_at r.entry.text at }
-{
-    Reader { text: r.text, at }
+    // What stands where the reader is.
+    pub fn next(self, ports: u32, size: u32) -> Record
+        ensures { result ≡ record_in ports size self.entry.at (drop self.entry.at self.entry.text.now) }
+    {
+        record::record_in(self.text, self.at, ports, size)
+    }
 }
 
 // What a reader of this text finds at a place.
 pub fn record_at(text: &[u8], at: usize, ports: u32, size: u32) -> Record
     ensures { result ≡ record_in ports size at (drop at text.now) }
 {
-    next(moved(reader_on(text), at), ports, size)
+    Reader::on(text).moved(at).next(ports, size)
 }

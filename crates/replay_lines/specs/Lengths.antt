@@ -1,7 +1,8 @@
 -- What a recording's first line asks to be lent (2026-05), told before its replay begins: so a host other than the program can lend what any group asks for.
 use Rattle.std.specs.Prelude.{ℕ, Bool, true, ◌&&◌, List, if◌then◌else◌}
-use Rattle.recording.specs.Opening.{Opening, opening_in}
-use Rattle.recording.specs.Opening.{Opening as O}
+use Rattle.recording.specs.declared.opening.Opening.{Opening}
+use Rattle.recording.specs.Opening.{opening_in}
+use Rattle.recording.specs.declared.opening.Opening.TheVariants as O
 use Rattle.recording.specs.declared.pairs.Settings.{Settings as GroupSettings}
 use Rattle.replay_lines.specs.declared.lengths.Lengths.{Lengths}
 use Rattle.replay_lines.specs.Replay.{output_of}

@@ -2,8 +2,8 @@
 -- Behind mark and byte count a held or doubtful report names why, and the port.
 use Rattle.std.specs.Prelude.{ℕ, zero, suc, ◌+◌, ◌/◌, ◌%◌, ◌||◌, List, [], ◌∷◌, ◌++◌, length, take, slice_index, slice_index_or, if◌then◌else◌, ◌==◌}
 use Rattle.ground.specs.Types.{Bytes, Rows}
-use Rattle.recording.specs.Opening.{Opening}
-use Rattle.recording.specs.Opening.{Opening as O}
+use Rattle.recording.specs.declared.opening.Opening.{Opening}
+use Rattle.recording.specs.declared.opening.Opening.TheVariants as O
 use Rattle.recording.specs.declared.record.Record.{Record}
 use Rattle.recording.specs.declared.record.Record.TheVariants.{Frame, Malformed, Long, Unfinished, End}
 use Rattle.recording.specs.Opening.{line_opening}

@@ -1,8 +1,8 @@
 -- The whole output of a recording (2026-05), and a host's run over its parts.
 use Rattle.std.specs.Prelude.{ℕ, zero, suc, Bool, List, [], ◌∷◌, ◌++◌, length, take, drop, if◌then◌else◌}
 use Rattle.ground.specs.Types.{Bytes, Rows}
-use Rattle.recording.specs.Opening.{Opening}
-use Rattle.recording.specs.Opening.{Opening as O}
+use Rattle.recording.specs.declared.opening.Opening.{Opening}
+use Rattle.recording.specs.declared.opening.Opening.TheVariants as O
 use Rattle.recording.specs.declared.record.Record.{Record}
 use Rattle.recording.specs.declared.record.Record.TheVariants.{Frame, Malformed, Long, Unfinished, End}
 use Rattle.recording.specs.Opening.{line_opening}
@@ -64,7 +64,7 @@ module _ (out : List ℕ) where
   opening_text d O.End = []
 
   -- a frame handed to the receiver
-  abbrev pub framed : (d : Desk) (line : Bytes) (port h4 flag place : ℕ) → Desk
+  abbrev pub framed : (d : Desk) (line : Bytes) (port h4 : ℕ) (flag : Bool) (place : ℕ) → Desk
   framed d line port h4 flag place =
       record {
         replay = in_phase d.replay Reading (next_line d.replay.line) 0;

@@ -1,5 +1,5 @@
 -- One turn of a replay (2026-05): a line read, or a report fetched.
-use Rattle.std.specs.Prelude.{ℕ, ◌+◌, ◌-◌, Bool, true, false, ◌&&◌, List, [], ◌∷◌, ◌++◌, length, take, drop, replicate, slice_index, slice_index_or, if◌then◌else◌, ◌==◌}
+use Rattle.std.specs.Prelude.{ℕ, ◌+◌, ◌-◌, Bool, true, false, ◌&&◌, List, [], ◌∷◌, ◌++◌, length, take, drop, replicate, slice_index, slice_index_or, if◌then◌else◌}
 use Rattle.std.proofs.Math.Seq.{slice}
 use Rattle.ground.specs.Plain.{◌<?◌, ◌≤?◌}
 use Rattle.ground.specs.Types.{Bytes, Rows}
@@ -9,8 +9,8 @@ use Rattle.receiver.specs.Cause.{cause_out}
 use Rattle.receiver.specs.Fetch.{fetch_of}
 use Rattle.receiver.specs.Frame.{frame_of}
 use Rattle.receiver.specs.Starting.{start_as_rows, times_within}
-use Rattle.recording.specs.Opening.{Opening}
-use Rattle.recording.specs.Opening.{Opening as O}
+use Rattle.recording.specs.declared.opening.Opening.{Opening}
+use Rattle.recording.specs.declared.opening.Opening.TheVariants as O
 use Rattle.recording.specs.declared.record.Record.{Record}
 use Rattle.recording.specs.declared.record.Record.TheVariants.{Frame, Malformed, Long, Unfinished, End}
 use Rattle.recording.specs.declared.pairs.Settings.{Settings as GroupSettings}
@@ -167,14 +167,14 @@ unfoldable pub payload_at : (size place : ℕ) (text : Bytes) → Bytes
 payload_at size place text = bytes_in (slice place (place + size + size) text) (replicate size 0)
 
 -- the frame handed to the receiver, on the parts of rows and store that are its own
-module _ (r : Replay) (port h4 flag : ℕ) (payload : List ℕ) (rows : List (List ℕ)) (store : List ℕ) where
+module _ (r : Replay) (port h4 : ℕ) (flag : Bool) (payload : List ℕ) (rows : List (List ℕ)) (store : List ℕ) where
   unfoldable pub framed_rows : List (List ℕ)
   framed_rows =
-      (frame_of (take (rows_for r.ports) rows) port (flag == 1) h4 payload (take (store_of r.ports r.size r.window) store)).rows ++ drop (rows_for r.ports) rows
+      (frame_of (take (rows_for r.ports) rows) port flag h4 payload (take (store_of r.ports r.size r.window) store)).rows ++ drop (rows_for r.ports) rows
 
   unfoldable pub framed_store : Bytes
   framed_store =
-      (frame_of (take (rows_for r.ports) rows) port (flag == 1) h4 payload (take (store_of r.ports r.size r.window) store)).store
+      (frame_of (take (rows_for r.ports) rows) port flag h4 payload (take (store_of r.ports r.size r.window) store)).store
       ++ drop (store_of r.ports r.size r.window) store
 
 -- reports are fetched then, at most W of them

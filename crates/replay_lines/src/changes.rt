@@ -17,18 +17,13 @@ fn number_of(kind: u8, member: Member) -> u8
     member.state_number
 }
 
-fn wide(n: u8) -> u16
-    ensures { (result ≡ n) × (result ≤ 255) }
-{
-    n as u16
-}
-
+#[tactic(auto, unfolding(crate::specs::Output::state_at))]
 fn state_at(kind: u8, rows: &[[u8; 16]], port: u8) -> u16
     ensures { result ≡ state_at kind rows.now port }
 {
     let member = rows::member::get(rows, port);
     let number = number_of(kind, member);
-    wide(member.state) * 256 + wide(number)
+    u16::from(member.state) * 256 + u16::from(number)
 }
 
 // The states of ports 0 to 63.
@@ -36,10 +31,8 @@ pub(crate) fn states_in(kind: u8, rows: &[[u8; 16]]) -> [u16; 64]
     ensures { result ≡ states_in kind rows.now }
 {
     let mut states = [0u16; 64];
-    let mut i = 0;
-    while i < 64 {
-        states[i as usize] = state_at(kind, rows, i);
-        i += 1;
+    for port in 0..64 {
+        states[port as usize] = state_at(kind, rows, port);
     }
     states
 }
@@ -74,33 +67,19 @@ pub(crate) fn put_changes(
     ensures { Put (changes_text before after ports) start said.old result said.new }
 {
     let mut at = start;
-    let mut i = 0;
-    while i < ports {
-        let old = before[i as usize];
-        let new = after[i as usize];
-        at = put_change(i, old, new, said, at);
-        i += 1;
+    for port in 0..ports {
+        let place = port as usize;
+        at = put_change(port, before[place], after[place], said, at);
     }
     at
 }
 
-fn wider(n: u8) -> u64
-    ensures { (result ≡ n) × (result ≤ 255) }
-{
-    n as u64
-}
-
-fn count_of(a: u8, b: u8, c: u8, d: u8) -> u64
-    ensures { result ≡ a * 16777216 + b * 65536 + c * 256 + d }
-{
-    wider(a) * 16777216 + wider(b) * 65536 + wider(c) * 256 + wider(d)
-}
-
 // How many bytes a report says.
+#[tactic(auto, unfolding(crate::specs::Output::count_in))]
 fn count_in(given: [u8; 8]) -> u64
     ensures { result ≡ count_in given }
 {
-    count_of(given[4], given[5], given[6], given[7])
+    u64::from(u32::from_be_bytes([given[4], given[5], given[6], given[7]]))
 }
 
 // A report's line, and the states that it changed.

@@ -4,7 +4,7 @@ ghost use Rattle.replay_lines.specs.Laws.Starts.{Small};
 ghost use Rattle.replay_lines.specs.Lengths.{in_range, lengths_in, lengths_of, lengths_with, no_lengths};
 
 use crate::{lent, replay};
-use recording::{FirstLine, Settings};
+use recording::{Opening, Settings};
 
 // answer: 0, or 13 or 4 and no lengths. store: the bytes of the receiver's store. out: those of an epoch's output.
 #[derive(Clone, Copy)]
@@ -64,18 +64,12 @@ fn lengths_in(settings: Settings) -> Lengths
 }
 
 // Of the first line of a text, which may lack its end.
+#[tactic(auto, unfolding(crate::specs::Lengths::lengths_of))]
 pub fn replay_lengths(text: &[u8]) -> Lengths
     ensures { result ≡ lengths_of text.now }
 {
-    let first = recording::opening_at(text, 0, true);
-    let line = first.line;
-    match line {
-        FirstLine::Settings => {
-            let settings = first.settings;
-            lengths_in(settings)
-        }
-        FirstLine::Malformed => none(13),
-        FirstLine::Unfinished => none(13),
-        FirstLine::End => none(13),
+    match recording::opening_at(text, 0, true) {
+        Opening::Settings(settings, _) => lengths_in(settings),
+        _ => none(13),
     }
 }

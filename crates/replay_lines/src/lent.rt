@@ -1,41 +1,20 @@
 // The receiver on the parts of the lent rows and store that are its own.
 ghost use Rattle.std.specs.Prelude.{◌≡◌, ◌≤◌, ◌++◌, length, take, drop};
 ghost use Rattle.receiver.specs.Fetch.{fetch_of};
-ghost use Rattle.replay_lines.specs.Laws.Due.{due_at, due_of};
-ghost use Rattle.replay_lines.specs.Turn.{blamed_in, cleared_rows, cleared_store, started_rows, store_in, times_fit};
+ghost use Rattle.replay_lines.specs.Laws.Due.{due_at};
+ghost use Rattle.replay_lines.specs.Turn.{blamed_in, cleared_rows, started_rows, store_in, times_fit};
 
 use recording::Settings;
 use rows::Group;
 
-fn clear_rows(rows: &mut [[u8; 16]])
-    ensures { rows.new ≡ cleared_rows rows.old }
-{
-    let mut i = 0;
-    while i < rows.len() {
-        rows[i] = [0u8; 16];
-        i += 1;
-    }
-}
-
-pub(crate) fn clear_store(store: &mut [u8])
-    ensures { store.new ≡ cleared_store store.old }
-{
-    let mut i = 0;
-    while i < store.len() {
-        store[i] = 0;
-        i += 1;
-    }
-}
-
 // The times of the group's ports are in range.
+#[tactic(auto, unfolding(crate::specs::Turn::times_fit))]
 pub(crate) fn times_fit(settings: Settings) -> bool
     requires { settings.ports ≤ 64 }
     ensures { result ≡ times_fit settings }
 {
-    let hold = settings.hold_off;
-    let restore = settings.restore;
     let n = settings.ports as usize;
-    receiver::times_within(&hold[..n]) & receiver::times_within(&restore[..n])
+    receiver::times_within(&settings.hold_off[..n]) & receiver::times_within(&settings.restore[..n])
 }
 
 // All rows are cleared first.
@@ -43,9 +22,7 @@ pub(crate) fn start(settings: Settings, store: usize, rows: &mut [[u8; 16]], cou
     requires { (count ≤ length rows.old) × (settings.ports ≤ 64) × (store ≡ store_in settings) }
     ensures { rows.new ≡ started_rows settings (take count (cleared_rows rows.old)) ++ drop count (cleared_rows rows.old) }
 {
-    clear_rows(rows);
-    let hold = settings.hold_off;
-    let restore = settings.restore;
+    rows.fill([0; 16]);
     let n = settings.ports as usize;
     receiver::start_as(
         settings.kind,
@@ -53,8 +30,8 @@ pub(crate) fn start(settings: Settings, store: usize, rows: &mut [[u8; 16]], cou
         settings.size,
         settings.window,
         store,
-        &hold[..n],
-        &restore[..n],
+        &settings.hold_off[..n],
+        &settings.restore[..n],
         &mut rows[..count],
     );
 }
@@ -85,21 +62,16 @@ pub(crate) fn blamed(rows: &[[u8; 16]], count: usize) -> u8
     cause[1]
 }
 
-fn is_due_of(group: Group, state: &[[u8; 16]]) -> bool
-    ensures { result ≡ due_of group state.now }
-{
-    let ports = phases::ports_in(group);
-    if (0 < ports) & !(group.begun == 0) & !(group.gathered == 0) {
-        return phases::is_complete(group, state, ports);
-    }
-    false
-}
-
+#[tactic(auto, unfolding(receiver::specs::Fetch::due_in))]
 fn is_due_in(state: &[[u8; 16]]) -> bool
     ensures { result ≡ due_at state.now }
 {
     let group = rows::group::get(state);
-    is_due_of(group, state)
+    let ports = phases::ports_in(group);
+    if (0 < ports) & (group.begun != 0) & (group.gathered != 0) {
+        return phases::is_complete(group, state, ports);
+    }
+    false
 }
 
 // Whether a fetch would give a report.

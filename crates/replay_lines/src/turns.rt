@@ -11,7 +11,7 @@ ghost use Rattle.text.specs.Fields.{bytes_in};
 
 use crate::replay::{Phase, Replay};
 use crate::{changes, lent, output, replay};
-use recording::{FirstLine, Record, Settings};
+use recording::{Opening, Record, Settings};
 use rows::group;
 
 // What a turn has done. answer: 0, or 9 where what is lent is too short, and then nothing is done. used: how many bytes of the text are used
@@ -70,10 +70,7 @@ fn answered(replay: Replay, phase: Phase, number: u8, used: usize, said: &mut [u
             phase,
             line,
             left: 0,
-            kind: replay.kind,
-            ports: replay.ports,
-            size: replay.size,
-            window: replay.window,
+            ..replay
         },
         answer: 0,
         used,
@@ -166,22 +163,15 @@ fn open(
         × (rows.new ≡ open_rows (drop at text.now) last rows.old store (length said.old))
         × (said.new ≡ open_said replay (drop at text.now) last (length rows.old) store said.old) }
 {
-    if said.len() < REPLAY_ROOM {
+    if said.len() < REPLAY_ROOM || rows.len() < ROWS_MOST {
         return refused(replay, at);
     }
-    if rows.len() < ROWS_MOST {
-        return refused(replay, at);
-    }
-    let first = recording::opening_at(text, at, last);
-    let line = first.line;
-    match line {
-        FirstLine::Settings => {
-            let settings = first.settings;
-            open_with(replay, settings, at, first.next, rows, store, said)
+    match recording::opening_at(text, at, last) {
+        Opening::Settings(settings, next) => {
+            open_with(replay, settings, at, next, rows, store, said)
         }
-        FirstLine::Malformed => answered(replay, Phase::Ended, 13, at, said),
-        FirstLine::Unfinished => waiting(replay, at),
-        FirstLine::End => waiting(replay, at),
+        Opening::Malformed => answered(replay, Phase::Ended, 13, at, said),
+        Opening::Unfinished | Opening::End => waiting(replay, at),
     }
 }
 
@@ -189,12 +179,8 @@ fn open(
 fn store_by(phase: Phase, store: &mut [u8])
     ensures { store.new ≡ store_by phase store.old }
 {
-    match phase {
-        Phase::Settings => {}
-        Phase::Reading => lent::clear_store(store),
-        Phase::Fetching => {}
-        Phase::Skipping => {}
-        Phase::Ended => {}
+    if let Phase::Reading = phase {
+        store.fill(0);
     }
 }
 
@@ -214,9 +200,7 @@ fn open_all(
         × (said.new ≡ open_said replay (drop at text.now) last (length rows.old) (length store.old) said.old) }
 {
     let done = open(replay, text, at, last, rows, store.len(), said);
-    let after = done.replay;
-    let phase = after.phase;
-    store_by(phase, store);
+    store_by(done.replay.phase, store);
     done
 }
 
@@ -238,13 +222,7 @@ fn is_lent(replay: Replay, rows: usize, store: usize, out: usize, said: usize) -
 fn is_open(found: Record) -> bool
     ensures { result ≡ is_open found }
 {
-    match found {
-        Record::Frame(_, _, _, _, _) => false,
-        Record::Malformed(_) => false,
-        Record::Long => false,
-        Record::Unfinished => true,
-        Record::End => false,
-    }
+    matches!(found, Record::Unfinished)
 }
 
 // The record at a place of a text; the last line may lack its end.
@@ -265,7 +243,7 @@ fn read_payload(text: &[u8], place: usize, payload: &mut [u8])
 {
     let n = payload.len();
     if place <= text.len() {
-        text::read_bytes(text, place, place + n + n, payload);
+        text::read_bytes(text::field(text, place, place + n + n), payload);
     }
 }
 
@@ -288,7 +266,7 @@ fn hand(
     text: &[u8],
     port: u32,
     h4: u8,
-    flag: u8,
+    flag: bool,
     place: usize,
     payload: &mut [u8],
     rows: &mut [[u8; 16]],
@@ -301,14 +279,7 @@ fn hand(
     read_payload(text, place, payload);
     let n = group::rows_for(replay.ports);
     let m = replay::store_of(replay.ports, replay.size, replay.window);
-    receiver::frame(
-        &mut rows[..n],
-        port,
-        flag == 1,
-        h4,
-        payload,
-        &mut store[..m],
-    );
+    receiver::frame(&mut rows[..n], port, flag, h4, payload, &mut store[..m]);
 }
 
 // A frame handed to the receiver. Clearing room for the longest payload would take some 7 % of the time of a short line.
@@ -317,7 +288,7 @@ fn take_frame(
     text: &[u8],
     port: u32,
     h4: u8,
-    flag: u8,
+    flag: bool,
     place: usize,
     rows: &mut [[u8; 16]],
     store: &mut [u8],
@@ -365,10 +336,7 @@ fn framed(replay: Replay, next: usize) -> Replayed
             phase: Phase::Fetching,
             line,
             left: replay.window,
-            kind: replay.kind,
-            ports: replay.ports,
-            size: replay.size,
-            window: replay.window,
+            ..replay
         },
         answer: 0,
         used: next,
@@ -381,7 +349,7 @@ fn framed(replay: Replay, next: usize) -> Replayed
 fn end_behind(text: &[u8], at: usize) -> usize
     ensures { result ≡ at + length (drop at text.now) }
 {
-    if text.len() < at { at } else { text.len() }
+    text.len().max(at)
 }
 
 // A line.
@@ -403,16 +371,20 @@ fn read(
     if !is_lent(replay, rows.len(), store.len(), out, said.len()) {
         return refused(replay, at);
     }
-    let found = record_now(text, at, last, replay.ports, replay.size);
-    match found {
-        Record::Frame(port, h4, flag, place, next) => {
+    match record_now(text, at, last, replay.ports, replay.size) {
+        Record::Frame {
+            port,
+            h4,
+            flag,
+            place,
+            next,
+        } => {
             take_frame(replay, text, port, h4, flag, place, rows, store);
             framed(replay, next)
         }
-        Record::Malformed(next) => answered(replay, Phase::Reading, 13, next, said),
+        Record::Malformed { next } => answered(replay, Phase::Reading, 13, next, said),
         Record::Long => answered(replay, Phase::Skipping, 13, end_behind(text, at), said),
-        Record::Unfinished => waiting(replay, at),
-        Record::End => waiting(replay, at),
+        Record::Unfinished | Record::End => waiting(replay, at),
     }
 }
 
@@ -423,12 +395,8 @@ fn read_on(replay: Replay, at: usize) -> Replayed
     Replayed {
         replay: Replay {
             phase: Phase::Reading,
-            line: replay.line,
             left: 0,
-            kind: replay.kind,
-            ports: replay.ports,
-            size: replay.size,
-            window: replay.window,
+            ..replay
         },
         answer: 0,
         used: at,
@@ -444,12 +412,8 @@ fn reported(replay: Replay, at: usize, written: usize) -> Replayed
     Replayed {
         replay: Replay {
             phase: Phase::Fetching,
-            line: replay.line,
             left: replay.left - 1,
-            kind: replay.kind,
-            ports: replay.ports,
-            size: replay.size,
-            window: replay.window,
+            ..replay
         },
         answer: 0,
         used: at,
@@ -543,12 +507,8 @@ fn skip(replay: Replay, text: &[u8], at: usize, last: bool) -> Replayed
         return Replayed {
             replay: Replay {
                 phase: Phase::Reading,
-                line: replay.line,
                 left: 0,
-                kind: replay.kind,
-                ports: replay.ports,
-                size: replay.size,
-                window: replay.window,
+                ..replay
             },
             answer: 0,
             used: end + 1,
@@ -560,12 +520,8 @@ fn skip(replay: Replay, text: &[u8], at: usize, last: bool) -> Replayed
     Replayed {
         replay: Replay {
             phase,
-            line: replay.line,
             left: 0,
-            kind: replay.kind,
-            ports: replay.ports,
-            size: replay.size,
-            window: replay.window,
+            ..replay
         },
         answer: 0,
         used: end,
@@ -615,8 +571,7 @@ pub fn turn(
         × (out.new ≡ turn_out replay rows.old store.old out.old (length said.old))
         × (said.new ≡ turn_said replay (drop at text.now) last rows.old store.old out.old said.old) }
 {
-    let phase = replay.phase;
-    match phase {
+    match replay.phase {
         Phase::Settings => open_all(replay, text, at, last, rows, store, said),
         Phase::Reading => read(replay, text, at, last, rows, store, out.len(), said),
         Phase::Fetching => report(replay, at, rows, store, out, said),

@@ -5,5 +5,3 @@ pub mod Gathers
 pub mod Keeping
 pub mod Replying
 pub mod Lengths
-pub mod Parting
-pub mod Reading

@@ -1,7 +1,7 @@
 // What a line means (01, 'Session').
-ghost use Rattle.std.specs.Prelude.{◌≡◌, ◌∷◌, ◌+◌, ◌≤◌, ◌<◌, length};
+ghost use Rattle.std.specs.Prelude.{◌≡◌};
 ghost use Rattle.std.proofs.Math.Seq.{slice};
-ghost use Rattle.session_lines.specs.Line.{line_of, meaning_of, number_line, report_read, word_line};
+ghost use Rattle.session_lines.specs.Line.{hex_of, line_of, meaning_of, number_line, number_of, report_line, report_read, word_line};
 ghost use Rattle.text.specs.Text.{fields_of};
 
 #[derive(Clone, Copy)]
@@ -15,114 +15,95 @@ pub enum Line {
     Malformed,
 }
 
-const TAB: u8 = b'\t';
-
-// A line of one field, which lies from `at` to `end`.
-fn word_line(text: &[u8], at: usize, end: usize) -> Line
-    ensures { result ≡ word_line (slice at end text.now) }
+// A line of one field.
+#[tactic(auto, unfolding(crate::specs::Line::word_line))]
+fn word_line(word: &[u8]) -> Line
+    ensures { result ≡ word_line word.now }
 {
-    if text::same(text, at, end, b"lapse") {
+    if text::is_word(word, b"lapse") {
         return Line::Lapse;
     }
-    if text::same(text, at, end, b"board") {
+    if text::is_word(word, b"board") {
         return Line::Board;
     }
     Line::Malformed
 }
 
-// A line of a word, which lies from `at` to `end`, and a number.
-fn number_line(text: &[u8], at: usize, end: usize, number: Option<u32>) -> Line
-    ensures { result ≡ number_line (slice at end text.now) number }
+// A line of a word and a number.
+#[tactic(auto, unfolding(crate::specs::Line::number_line))]
+fn number_line(word: &[u8], number: Option<u32>) -> Line
+    ensures { result ≡ number_line word.now number }
 {
     let Some(n) = number else {
         return Line::Malformed;
     };
-    if text::same(text, at, end, b"size") {
+    if text::is_word(word, b"size") {
         return Line::Size(n);
     }
-    if text::same(text, at, end, b"add") {
+    if text::is_word(word, b"add") {
         return Line::Add(n);
     }
-    if text::same(text, at, end, b"remove") {
+    if text::is_word(word, b"remove") {
         return Line::Remove(n);
     }
     Line::Malformed
 }
 
+#[tactic(auto, unfolding(crate::specs::Line::report_read))]
 fn report_of(epoch: Option<u32>, mst: Option<u32>, ack: Option<u32>) -> Line
     ensures { result ≡ report_read epoch mst ack }
 {
-    let Some(e) = epoch else {
+    let (Some(epoch), Some(mst), Some(ack)) = (epoch, mst, ack) else {
         return Line::Malformed;
     };
-    let Some(m) = mst else {
-        return Line::Malformed;
-    };
-    let Some(a) = ack else {
-        return Line::Malformed;
-    };
-    if (e < 256) & (m < 256) & (a < 2) {
-        return Line::Report(e as u8, m as u8, a as u8);
+    if epoch < 256 && mst < 256 && ack < 2 {
+        return Line::Report(epoch as u8, mst as u8, ack as u8);
     }
     Line::Malformed
 }
 
-// A line of a word and more than one field behind it. The word lies from `at` to `first`, the next field up to `second`.
-fn report_line(text: &[u8], at: usize, first: usize, second: usize, end: usize) -> Line
-    requires { (first < second) × (second < end) × (end ≤ length text.now) }
-    ensures { result ≡ meaning_of (slice at first text.now ∷ slice (first + 1) second text.now ∷ fields_of (slice (second + 1) end text.now)) }
+// A line of a word and three fields.
+#[tactic(auto, unfolding(crate::specs::Line::report_line))]
+fn report_line(word: &[u8], epoch: &[u8], mst: &[u8], ack: &[u8]) -> Line
+    ensures { result ≡ report_line word.now (number_of epoch.now) (hex_of mst.now) (number_of ack.now) }
 {
-    let third = text::piece_end(text, second + 1, end, TAB);
-    if end <= third {
+    if !text::is_word(word, b"report") {
         return Line::Malformed;
     }
-    if text::piece_end(text, third + 1, end, TAB) < end {
-        return Line::Malformed;
-    }
-    if !text::same(text, at, first, b"report") {
-        return Line::Malformed;
-    }
-    let epoch = text::read_number(text, first + 1, second, 3);
-    let mst = text::read_hex(text, second + 1, third, 2);
-    let ack = text::read_number(text, third + 1, end, 3);
-    report_of(epoch, mst, ack)
-}
-
-// A line of a word, which lies from `at` to `first`, and more.
-fn rest_line(text: &[u8], at: usize, first: usize, end: usize) -> Line
-    requires { (first < end) × (end ≤ length text.now) }
-    ensures { result ≡ meaning_of (slice at first text.now ∷ fields_of (slice (first + 1) end text.now)) }
-{
-    let second = text::piece_end(text, first + 1, end, TAB);
-    if end <= second {
-        let number = text::read_number(text, first + 1, end, 3);
-        return number_line(text, at, first, number);
-    }
-    report_line(text, at, first, second, end)
+    report_of(
+        text::read_number(epoch, 3),
+        text::read_hex(mst, 2),
+        text::read_number(ack, 3),
+    )
 }
 
 // What a line of at most 80 bytes means.
-fn short_line(text: &[u8], at: usize, end: usize) -> Line
-    requires { (at ≤ end) × (end ≤ length text.now) }
-    ensures { result ≡ meaning_of (fields_of (slice at end text.now)) }
+fn short_line(line: &[u8]) -> Line
+    ensures { result ≡ meaning_of (fields_of line.now) }
 {
-    let first = text::piece_end(text, at, end, TAB);
-    if end <= first {
-        return word_line(text, at, end);
+    let Some((word, rest)) = text::parted(line) else {
+        return word_line(line);
+    };
+    let Some((first, rest)) = text::parted(rest) else {
+        return number_line(word, text::read_number(rest, 3));
+    };
+    let Some((second, third)) = text::parted(rest) else {
+        return Line::Malformed;
+    };
+    if let Some(_) = text::parted(third) {
+        return Line::Malformed;
     }
-    rest_line(text, at, first, end)
+    report_line(word, first, second, third)
 }
 
 // What the line from `at` up to a limit means.
+#[tactic(auto, unfolding(crate::specs::Line::line_of))]
 pub fn read_line(text: &[u8], at: usize, limit: usize) -> Line
     ensures { result ≡ line_of (slice at limit text.now) }
 {
-    let end = text::end_of(text, limit);
-    if end < at {
+    let line = text::field(text, at, limit);
+    if 80 < line.len() {
         return Line::Malformed;
     }
-    if end - at > 80 {
-        return Line::Malformed;
-    }
-    short_line(text, at, end)
+    short_line(line)
 }

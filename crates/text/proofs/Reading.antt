@@ -1,24 +1,15 @@
 -- What the readers of fields find.
-use Rattle.std.specs.Prelude.{Some, None}
-use mathlib.Core.Path.{◌≡◌, refl, sym, ap, ◌∙◌}
-use mathlib.Core.Bool.{Bool, true, false, cond, ◌&&◌, and_assoc, and-true}
-use lib.Pointwise.{pointwise}
-use Rattle.std.specs.List.{position}
-use Rattle.std.proofs.Common.{unwrap_or, Some, None, ltb-false}
+use Rattle.std.proofs.Common.{◌≡◌, refl, sym, ap, ◌∙◌, Bool, true, false, cond, ◌&&◌, List, [], ◌∷◌, ◌++◌, ℕ, zero, suc, ◌+◌, ◌*◌, ◌^◌, ◌≤◌, ◌<◌, Option, Some, None, unwrap_or, eqb, ltb, length, take, drop, get_or, arith, add-one, ltb-false, ltb-true, pow-suc, take-suc}
+use Rattle.std.specs.List.{position, position_or_len}
+use mathlib.Core.Bool.{and_assoc, and-true}
 use Rattle.std.proofs.lemmas.List.Recursion.{is_position_or_len}
-use Rattle.text.specs.Laws.Parted.{index_le}
-use mathlib.Core.List.{List, [], ◌∷◌, ◌++◌}
-use Prim.Native.Nat.{ℕ, zero, suc, ◌+◌, ◌*◌, ◌^◌, ◌≤◌, ◌<◌}
-use native.Mathlib.Nat.{mul-le-mul_right, pow-le-pow_right, pow-suc}
-use native.Mathlib.Numerals.{add-one}
-use native.Mathlib.Omega.{arith}
-use lib.Dec.{eqb, ltb}
-use lib.ListN.{length, take, get_or}
-use lib.Seq.{take-suc}
-use borrow.Author.Tests.{ltb-true}
+use lib.Pointwise.{pointwise}
+use native.Mathlib.Nat.{mul-le-mul_right, pow-le-pow_right}
 use Rattle.ground.specs.Finding.{index_after, index_of}
 use Rattle.ground.specs.Truth.{and_left, and_right}
 use Rattle.text.specs.Fields.{are_digits, digit_of, same_bytes, value_of}
+use Rattle.text.specs.Laws.Parted.{index_le, parted_more, parted_none}
+use Rattle.text.specs.Text.{TAB, fields_of, first_part, parted}
 
 -- texts compared, as the code does it
 pub same_pointwise : (l m : List ℕ) → pointwise eqb l m ≡ same_bytes l m
@@ -82,3 +73,30 @@ module _ (base i v d n most : ℕ) (h : v < base ^ i) (k : d < base) (j : i < n)
 
 pub power_le : (base n most : ℕ) → 0 < base → n ≤ most → base ^ n ≤ base ^ most
 power_le base n most h k = pow-le-pow_right h k
+
+-- the first field of a line
+tab_at : (l : List ℕ) → position_or_len (λ b. eqb b TAB) l ≡ index_of TAB l
+unfolding index_of
+tab_at l = sym (is_position_or_len (index_of TAB) (λ b. eqb b TAB) refl (index_more TAB) l)
+
+pub field_found : (l : List ℕ) (i : ℕ) → position (λ b. eqb b TAB) l ≡ Some i
+    → (i < length l) × (first_part l ≡ Some (take i l, drop (i + 1) l)) × (fields_of l ≡ take i l ∷ fields_of (drop (i + 1) l))
+unfolding fields_of first_part
+field_found l i e = go (ltb (index_of TAB l) (length l)) refl (rw (tab_at l) at e)
+  where
+    go : (t : Bool) → ltb (index_of TAB l) (length l) ≡ t → cond t (Some (index_of TAB l)) None ≡ Some i
+        → (i < length l) × (cond {A = Option (List ℕ × List ℕ)} t (Some (take (index_of TAB l) l, drop (index_of TAB l + 1) l)) None ≡ Some (take i l, drop (i + 1) l)) × (parted TAB ([] ∷ []) l ≡ take i l ∷ parted TAB ([] ∷ []) (drop (i + 1) l))
+    go true t k =
+        let s : index_of TAB l ≡ i = cc in
+        let h = ltb-true (index_of TAB l) (length l) t in
+        rw (← s) (h, refl, rw add-one (parted_more TAB ([] ∷ []) l h))
+    go false t k = absurd (cc)
+
+pub field_alone : (l : List ℕ) → position (λ b. eqb b TAB) l ≡ None → (first_part l ≡ None) × (fields_of l ≡ l ∷ [])
+unfolding fields_of first_part
+field_alone l e = go (ltb (index_of TAB l) (length l)) refl (rw (tab_at l) at e) (index_le TAB l)
+  where
+    go : (t : Bool) → ltb (index_of TAB l) (length l) ≡ t → cond t (Some (index_of TAB l)) None ≡ None → index_of TAB l ≤ length l
+        → (cond {A = Option (List ℕ × List ℕ)} t (Some (take (index_of TAB l) l, drop (index_of TAB l + 1) l)) None ≡ None) × (parted TAB ([] ∷ []) l ≡ l ∷ [])
+    go true t k h = absurd (cc)
+    go false t k h = let n = ltb-false (index_of TAB l) (length l) t in (refl, parted_none TAB l (omega arith))

@@ -1,8 +1,9 @@
-// The fields of a line, each read in a lent text from a place up to a limit, which may lie past the text's end.
-ghost use Rattle.std.specs.Prelude.{◌≡◌, true, ◌+◌, ◌^◌, ◌≤◌, ◌<◌, ◌==◌, length, take, Some, None, if◌then◌else◌, position};
+// Lines of a lent text, parted into fields, and what a field says.
+ghost use Rattle.std.specs.Prelude.{◌≡◌, true, ◌+◌, ◌^◌, ◌≤◌, ◌<◌, ◌==◌, length, take, Some, None, if◌then◌else◌, position, MatchOption, [], ◌∷◌};
 ghost use Rattle.std.proofs.Math.Seq.{slice};
 ghost use Rattle.ground.specs.Plain.{◌<?◌};
 ghost use Rattle.ground.specs.Finding.{index_of};
+ghost use Rattle.text.specs.Text.{fields_of, first_part, lent_parts};
 ghost use Rattle.text.specs.Fields.{are_digits, digit_of, hex_of, number_of, same_bytes, value_of};
 
 // The limit, or the text's end if that comes first.
@@ -12,8 +13,8 @@ pub fn end_of(text: &[u8], limit: usize) -> usize
     limit.min(text.len())
 }
 
-// The field's bytes; none where its place lies behind its limit.
-pub(crate) fn field(text: &[u8], at: usize, limit: usize) -> &[u8]
+// The bytes from a place up to a limit, which may lie past the text's end; none where the limit lies before the place.
+pub fn field(text: &[u8], at: usize, limit: usize) -> &[u8]
     ensures { result.now ≡ slice at limit text.now }
 {
     let end = end_of(text, limit);
@@ -23,6 +24,7 @@ pub(crate) fn field(text: &[u8], at: usize, limit: usize) -> &[u8]
     &text[at..end]
 }
 
+// The place of the first mark.
 fn first(bytes: &[u8], mark: u8) -> Option<usize>
     ensures { result ≡ position (λ byte. byte == mark) bytes.now }
 {
@@ -35,6 +37,16 @@ pub fn piece_end(text: &[u8], at: usize, limit: usize, mark: u8) -> usize
 {
     let rest = field(text, at, limit);
     at + first(rest, mark).unwrap_or(rest.len())
+}
+
+// The first field of a line and what stands behind its tab, if there is one.
+pub fn parted(line: &[u8]) -> Option<(&[u8], &[u8])>
+    ensures parts { lent_parts result ≡ first_part line.now }
+    ensures fields { MatchOption result (fields_of line.now ≡ line.now ∷ [])
+        (λ (field, rest). (fields_of line.now ≡ field.now ∷ fields_of rest.now) × (length field.now + 1 + length rest.now ≡ length line.now)) }
+{
+    let tab = first(line, b'\t')?;
+    Some((&line[..tab], &line[tab + 1..]))
 }
 
 // Whether a byte is a digit below the base. Digits of a payload come by chance, and a branch on them would be guessed wrong every third time: no
@@ -92,31 +104,36 @@ fn read_digits(digits: &[u8], base: u8) -> Option<u32>
 
 // A number of one to `most` decimal digits, and never more than nine.
 #[tactic(auto, unfolding(crate::specs::Fields::number_of))]
-pub fn read_number(text: &[u8], at: usize, limit: usize, most: usize) -> Option<u32>
-    ensures { result ≡ number_of most (slice at limit text.now) }
+pub fn read_number(field: &[u8], most: usize) -> Option<u32>
+    ensures { result ≡ number_of most field.now }
 {
-    let digits = field(text, at, limit);
-    if digits.is_empty() || most < digits.len() || 9 < digits.len() {
+    if field.is_empty() || most < field.len() || 9 < field.len() {
         return None;
     }
-    read_digits(digits, 10)
+    read_digits(field, 10)
 }
 
 // A number of that many hex digits, one to eight.
 #[tactic(auto, unfolding(crate::specs::Fields::hex_of))]
-pub fn read_hex(text: &[u8], at: usize, limit: usize, digits: usize) -> Option<u32>
-    ensures { result ≡ hex_of digits (slice at limit text.now) }
+pub fn read_hex(field: &[u8], digits: usize) -> Option<u32>
+    ensures { result ≡ hex_of digits field.now }
 {
-    let found = field(text, at, limit);
-    if found.is_empty() || 8 < found.len() || found.len() != digits {
+    if field.is_empty() || 8 < field.len() || field.len() != digits {
         return None;
     }
-    read_digits(found, 16)
+    read_digits(field, 16)
 }
 
-// Whether the field is the given word.
+// Whether a field is the given word.
+pub fn is_word(field: &[u8], word: &[u8]) -> bool
+    ensures { result ≡ same_bytes field.now word.now }
+{
+    field == word
+}
+
+// Whether the field from a place up to a limit is the given word.
 pub fn same(text: &[u8], at: usize, limit: usize, word: &[u8]) -> bool
     ensures { result ≡ same_bytes (slice at limit text.now) word.now }
 {
-    field(text, at, limit) == word
+    is_word(field(text, at, limit), word)
 }

@@ -1,16 +1,14 @@
 // Fields of hex digits, two for each byte.
 ghost use Rattle.std.specs.Prelude.{◌≡◌, true, ◌+◌, ◌*◌, ◌<◌, length};
-ghost use Rattle.std.proofs.Math.Seq.{slice};
 ghost use Rattle.text.specs.Fields.{are_digits, bytes_in, bytes_of, digit_of, is_hex};
 
 use crate::fields;
 
 // Whether the field is that many hex digits.
 #[tactic(auto, unfolding(crate::specs::Fields::is_hex))]
-pub fn is_hex(text: &[u8], at: usize, limit: usize, digits: usize) -> bool
-    ensures { result ≡ is_hex digits (slice at limit text.now) }
+pub fn is_hex(field: &[u8], digits: usize) -> bool
+    ensures { result ≡ is_hex digits field.now }
 {
-    let field = fields::field(text, at, limit);
     field.len() == digits && fields::are_digits(field, 16)
 }
 
@@ -33,12 +31,12 @@ fn fill(digits: &[u8], out: &mut [u8])
 
 // The bytes that a field of hex digits stands for, two digits for each byte of the lent slice; where it is no such field nothing is written.
 #[tactic(auto, unfolding(crate::specs::Fields::bytes_in, crate::specs::Fields::is_hex))]
-pub fn read_bytes(text: &[u8], at: usize, limit: usize, out: &mut [u8]) -> bool
-    ensures { (result ≡ is_hex (2 * length out.old) (slice at limit text.now)) × (out.new ≡ bytes_in (slice at limit text.now) out.old) }
+pub fn read_bytes(field: &[u8], out: &mut [u8]) -> bool
+    ensures { (result ≡ is_hex (2 * length out.old) field.now) × (out.new ≡ bytes_in field.now out.old) }
 {
-    let is = is_hex(text, at, limit, 2 * out.len());
+    let is = is_hex(field, 2 * out.len());
     if is {
-        fill(fields::field(text, at, limit), out);
+        fill(field, out);
     }
     is
 }

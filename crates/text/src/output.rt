@@ -1,6 +1,6 @@
 // Texts, numbers and words put one behind the other into a lent buffer. Each gives the place where the next one goes; where one does not
 // fit nothing is written and that place is its own.
-ghost use Rattle.std.specs.Prelude.{◌≡◌, ◌+◌, ◌%◌, drop, slice_index};
+ghost use Rattle.std.specs.Prelude.{◌≡◌, drop, slice_index};
 ghost use Rattle.text.specs.Output.{decimal_text, ended, number_text, put_bytes, put_next, word_text};
 ghost use Rattle.text.specs.Text.{TAB};
 

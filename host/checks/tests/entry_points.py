@@ -10,6 +10,8 @@ TEXTS = [
     ("braces in literals", "pub const OPEN: u8 = b'{';\npub const SHUT: &[u8] = b\"}}\";", "", ""),
     ("promises with names", "pub fn f(x: u8) -> u8\n    ensures small { result < 9 }\n    ensures said { result ≡ x }\n{\n    x\n}", "", ""),
     ("a part of the result", "pub fn f(x: u8) -> Pair\n    ensures { result.low ≡ x }\n{\n    x\n}", "", "one::f\tno ensures is an equation for its result"),
+    ("what the result refers to", "pub fn f(x: &[u8]) -> &[u8]\n    ensures { result.now ≡ x.now }\n{\n    x\n}", "", ""),
+    ("the result as a definition sees it", "pub fn f(x: u8) -> Pair\n    ensures { seen result ≡ x }\n{\n    x\n}", "", ""),
     ("an array of arrays as the result", "pub fn f(x: [u8; 2]) -> [[u8; 16]; 2]\n    ensures { result ≡ x }\n{\n    x\n}", "", ""),
     ("two promises, the second on the result",
      "pub fn f(s: &mut [u8]) -> u8\n    ensures { s.new ≡ s.old }\n    ensures { result ≡ 1 }\n{\n    1\n}", "", ""),

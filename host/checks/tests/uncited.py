@@ -8,6 +8,7 @@ CASES = [
     ("a law that a theorem names", {LAWS: LAW, THEOREM: CITES}, ""),
     ("a law that nothing names", {LAWS: LAW}, f"{LAWS}:1\tnothing names the law\tlaw"),
     ("a law that only a comment names", {LAWS: LAW + "\n-- by law\n"}, "nothing names the law\tlaw"),
+    ("a law that a function's proof takes", {LAWS: LAW, CODE: "#[tactic(auto, using(crate::specs::Laws::law))]\npub fn f() {}\n"}, ""),
     ("a law that a page names", {LAWS: LAW, "docs/RULES.md": "Proved: `law`.\n"}, ""),
     ("a law that its file names at the front of a line", {LAWS: LAW + "\npub two : 1 ≡ 1\ntwo =\n    law\n    1\n", THEOREM: "use Rattle.one.specs.Laws.{two}\n\npub t : 1 ≡ 1\nt = two\n"}, ""),
     ("a law of a module that nothing names", {LAWS: "module _ (n : ℕ) where\n  law : n ≡ n\n  law = refl\n"}, f"{LAWS}:2\tnothing names the law\tlaw"),

@@ -1,6 +1,6 @@
 -- Examples of request 2026-05, a recording run again, worked out apart: one port, P 1, 72 frames of IDLE packets from MFI1 0 and MFI2 0 on, to the first report. And three wrong
 -- readings, which this run breaks.
-use Rattle.std.specs.Prelude.{◌≡◌, refl, List, [], ◌∷◌, ◌++◌, ℕ, drop, replicate, take, if◌then◌else◌}
+use Rattle.std.specs.Prelude.{true, ◌≡◌, refl, List, [], ◌∷◌, ◌++◌, ℕ, drop, replicate, take, if◌then◌else◌}
 use Rattle.recording.specs.declared.record.Record.{Record}
 use Rattle.recording.specs.declared.record.Record.TheVariants as R
 use Rattle.replay_lines.specs.declared.replay.Phase.{Phase}
@@ -40,7 +40,7 @@ forgetful P.Ended d l = d
 -- a malformed line handed to port 0 as a flagged frame
 abbrev flagged_record : (d : Desk) (l : List ℕ) (read : Record) → Desk
 flagged_record d l (R.Frame port h4 flag place next) = desk_after out d l
-flagged_record d l (R.Malformed next) = reported out d.replay.window (framed out d l 0 0 1 0)
+flagged_record d l (R.Malformed next) = reported out d.replay.window (framed out d l 0 0 true 0)
 flagged_record d l R.Long = d
 flagged_record d l R.Unfinished = d
 flagged_record d l R.End = d

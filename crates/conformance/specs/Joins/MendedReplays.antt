@@ -19,8 +19,9 @@ use Rattle.recording.specs.Record.{is_frame, line_record}
 use Rattle.recording.specs.declared.pairs.Settings.{Settings as GroupSettings}
 use Rattle.recording.specs.declared.record.Record.{Record}
 use Rattle.recording.specs.declared.record.Record.TheVariants.{Frame, Malformed, Long, Unfinished, End}
-use Rattle.recording.specs.Opening.{Opening, line_opening}
-use Rattle.recording.specs.Opening.{Opening as O}
+use Rattle.recording.specs.declared.opening.Opening.{Opening}
+use Rattle.recording.specs.Opening.{line_opening}
+use Rattle.recording.specs.declared.opening.Opening.TheVariants as O
 use Rattle.replay_lines.specs.declared.replay.Phase.{Phase}
 use Rattle.replay_lines.specs.declared.replay.Phase.TheVariants.{Settings, Reading, Fetching, Skipping, Ended}
 use Rattle.replay_lines.specs.Replay.{beginning}

@@ -9,8 +9,8 @@ use Rattle.mending.specs.Told.{lengths_of, mended_left, notes_left}
 use Rattle.packet.specs.Kinds.{frames, payload_right, tags}
 use Rattle.phases.specs.Sizes.{known_kind, sized, start_sized}
 use Rattle.receiver.specs.Starting.{times_within}
-use Rattle.recording.specs.Opening.{Opening}
-use Rattle.recording.specs.Opening.{Opening as O}
+use Rattle.recording.specs.declared.opening.Opening.{Opening}
+use Rattle.recording.specs.declared.opening.Opening.TheVariants as O
 
 -- the first line can be read
 abbrev reads : Opening → Bool

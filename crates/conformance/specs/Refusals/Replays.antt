@@ -11,8 +11,8 @@ use Rattle.conformance.specs.Refusals.Receivers.{start_ranged, times_in_range}
 use Rattle.packet.specs.Kinds.{frames, payload_right, tags}
 use Rattle.phases.specs.Sizes.{known_kind, sized, start_sized}
 use Rattle.receiver.specs.Starting.{times_within}
-use Rattle.recording.specs.Opening.{Opening}
-use Rattle.recording.specs.Opening.{Opening as O}
+use Rattle.recording.specs.declared.opening.Opening.{Opening}
+use Rattle.recording.specs.declared.opening.Opening.TheVariants as O
 use Rattle.recording.specs.declared.pairs.Settings.{Settings as GroupSettings}
 use Rattle.recording.specs.declared.record.Record.{Record}
 use Rattle.recording.specs.declared.record.Record.TheVariants as R

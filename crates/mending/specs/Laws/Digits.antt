@@ -46,12 +46,15 @@ digits_no_tab base (b ∷ l) h t =
     let d = ltb-true (digit_of b) base (and_left (ltb (digit_of b) base) (are_digits base l) t) in
     (digit_no_tab b (omega arith), digits_no_tab base l h (and_right (ltb (digit_of b) base) (are_digits base l) t))
 
-flag_no_tab : (f flag : ℕ) → flag_in (f ∷ []) ≡ flag → flag < 2 → eqb f TAB ≡ false
+flag_no_tab : (f : ℕ) (flag : Bool) → flag_in (f ∷ []) ≡ Some flag → eqb f TAB ≡ false
 unfolding flag_in
-flag_no_tab f flag e h = go (eqb f TAB) refl
+flag_no_tab f flag e = go (eqb f TAB) refl
   where
     go : (t : Bool) → eqb f TAB ≡ t → t ≡ false
-    go true k = let s : flag_in (f ∷ []) ≡ 2 = ap (λ (b : ℕ). flag_in (b ∷ [])) (eqb-true f TAB k) in absurd (omega arith)
+    go true k =
+        let s : flag_in (f ∷ []) ≡ None = ap (λ (b : ℕ). flag_in (b ∷ [])) (eqb-true f TAB k) in
+        let z : ◌≡◌ {A = ℕ} 0 1 = cc in
+        absurd (omega arith)
     go false k = refl
 
 number_digits : (f : List ℕ) (n : ℕ) → number_of 9 f ≡ Some n → are_digits 10 f ≡ true
@@ -74,14 +77,14 @@ hex_of_lem x y h k =
     let e : (0 * 16 + digit_of x) * 16 + digit_of y ≡ digit_of x * 16 + digit_of y = omega arith in
     rw (lt-ltb (digit_of x) 16 h, lt-ltb (digit_of y) 16 k) (ap Some e)
 
-module _ (ports size port h4 flag : ℕ) (line : List ℕ) (l : Layout ports size port h4 flag line) where
+module _ (ports size port h4 : ℕ) (flag : Bool) (line : List ℕ) (l : Layout ports size port h4 flag line) where
   layout_fields : fields_of line ≡ l.front ∷ (l.high ∷ l.low ∷ []) ∷ (l.flagged ∷ []) ∷ l.payload ∷ []
   layout_fields =
       let three : List ℕ = l.payload in
       let two : List ℕ = l.flagged ∷ TAB ∷ three in
       let one : List ℕ = l.high ∷ l.low ∷ TAB ∷ two in
       let e3 = field_last l.payload (digits_no_tab 16 l.payload (omega arith) (payload_digits (size + size) l.payload l.payload_is)) in
-      let e2 = field_first (l.flagged ∷ []) three (flag_no_tab l.flagged flag l.flag_is l.flag_below, tt) in
+      let e2 = field_first (l.flagged ∷ []) three (flag_no_tab l.flagged flag l.flag_is, tt) in
       let e1 = field_first (l.high ∷ l.low ∷ []) two (digit_no_tab l.high l.high_digit, (digit_no_tab l.low l.low_digit, tt)) in
       let e0 = field_first l.front one (digits_no_tab 10 l.front (omega arith) (number_digits l.front port l.port_is)) in
       ap fields_of l.line_is
@@ -97,7 +100,7 @@ module _ (ports size port h4 flag : ℕ) (line : List ℕ) (l : Layout ports siz
       let d = l.payload_length in
       let q : 0 + length line - length l.payload ≡ place = omega arith in
       let h : hex_of 2 (l.high ∷ l.low ∷ []) ≡ Some h4 = hex_of_lem l.high l.low x y ∙ ap Some (sym z) in
-      rw (le-leb (length line) MOST l.most, layout_fields, l.port_is, h, l.flag_is, l.payload_is, q, lt-ltb port ports l.below, lt-ltb h4 256 (omega arith), lt-ltb flag 2 l.flag_below)
+      rw (le-leb (length line) MOST l.most, layout_fields, l.port_is, h, l.flag_is, l.payload_is, q, lt-ltb port ports l.below, lt-ltb h4 256 (omega arith))
 
   -- its second digit
   digit_at : length line - (size + size + 4) ≡ length l.front + 2
@@ -133,7 +136,6 @@ module _ (ports size port h4 flag : ℕ) (line : List ℕ) (l : Layout ports siz
         low_digit = h;
         h4_is = refl;
         flag_is = l.flag_is;
-        flag_below = l.flag_below;
         payload_is = l.payload_is;
         payload_length = l.payload_length;
         whole = omega arith;
@@ -164,7 +166,7 @@ digit_no_end b h = go (eqb b LINE-END) refl
 
 -- A frame's line
 
-module _ (ports size : ℕ) (l : Line) (port h4 flag place next : ℕ) (e : record_of ports size l ≡ Frame port h4 flag place next) where
+module _ (ports size : ℕ) (l : Line) (port h4 : ℕ) (flag : Bool) (place next : ℕ) (e : record_of ports size l ≡ Frame port h4 flag place next) where
   layout : Layout ports size port h4 flag l.bytes
   unfolding record_of
   layout = (frame_layout ports size 0 0 port h4 flag place next l.bytes e).layout

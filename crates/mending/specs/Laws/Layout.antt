@@ -37,39 +37,34 @@ fields_joined (b ∷ line) = go (eqb b TAB) refl (parted TAB ([] ∷ []) line) (
     go false e (p ∷ ps) h = record { some = omega arith; is = joined_ahead b p ps ∙ ap (λ (l : List ℕ). b ∷ l) h.is }
 
 -- what a frame says of the fields that it was read from
-record Said (ports : ℕ) (a b : Option ℕ) (flag : ℕ) (payload : Bool) (place n p h f q m : ℕ) : Type 0 where
+record Said (ports : ℕ) (a b : Option ℕ) (flag : Option Bool) (payload : Bool) (place n p h : ℕ) (f : Bool) (q m : ℕ) : Type 0 where
   port_is : a ≡ Some p
   h4_is : b ≡ Some h
-  flag_is : flag ≡ f
+  flag_is : flag ≡ Some f
   place_is : place ≡ q
   next_is : n ≡ m
   below : p < ports
-  flag_below : f < 2
   payload_is : payload ≡ true
 
-frame_said : (ports : ℕ) (a b : Option ℕ) (flag : ℕ) (payload : Bool) (place n p h f q m : ℕ) → frame_by ports a b flag payload place n ≡ Frame p h f q m → Said ports a b flag payload place n p h f q m
+frame_said : (ports : ℕ) (a b : Option ℕ) (flag : Option Bool) (payload : Bool) (place n p h : ℕ) (f : Bool) (q m : ℕ) → frame_by ports a b flag payload place n ≡ Frame p h f q m → Said ports a b flag payload place n p h f q m
 unfolding frame_by
-frame_said ports (Some x) (Some y) flag payload place n p h f q m e = go (ltb x ports && ltb y 256 && ltb flag 2 && payload) refl e
+frame_said ports (Some x) (Some y) (Some flag) payload place n p h f q m e = go (ltb x ports && ltb y 256 && payload) refl e
   where
-    go : (t : Bool) → (ltb x ports && ltb y 256 && ltb flag 2 && payload) ≡ t → cond t (Frame x y flag place n) (Malformed n) ≡ Frame p h f q m → Said ports (Some x) (Some y) flag payload place n p h f q m
+    go : (t : Bool) → (ltb x ports && ltb y 256 && payload) ≡ t → cond t (Frame x y flag place n) (Malformed n) ≡ Frame p h f q m → Said ports (Some x) (Some y) (Some flag) payload place n p h f q m
     go true t e =
         let xp : x ≡ p = cc in
-        let ff : flag ≡ f = cc in
-        let t3 = and_left (ltb x ports && ltb y 256 && ltb flag 2) payload t in
-        let t2 = and_left (ltb x ports && ltb y 256) (ltb flag 2) t3 in
-        let bx = ltb-true x ports (and_left (ltb x ports) (ltb y 256) t2) in
-        let bf = ltb-true flag 2 (and_right (ltb x ports && ltb y 256) (ltb flag 2) t3) in
+        let bx = ltb-true x ports (and_left (ltb x ports) (ltb y 256) (and_left (ltb x ports && ltb y 256) payload t)) in
         record {
           port_is = ap Some xp;
           h4_is = (cc);
-          flag_is = ff;
+          flag_is = (cc);
           place_is = (cc);
           next_is = (cc);
           below = omega arith;
-          flag_below = omega arith;
-          payload_is = and_right (ltb x ports && ltb y 256 && ltb flag 2) payload t;
+          payload_is = and_right (ltb x ports && ltb y 256) payload t;
         }
     go false t e = let z : ◌≡◌ {A = ℕ} 0 1 = cc in absurd (omega arith)
+frame_said ports (Some x) (Some y) None payload place n p h f q m e = let z : ◌≡◌ {A = ℕ} 0 1 = cc in absurd (omega arith)
 frame_said ports (Some x) None flag payload place n p h f q m e = let z : ◌≡◌ {A = ℕ} 0 1 = cc in absurd (omega arith)
 frame_said ports None b flag payload place n p h f q m e = let z : ◌≡◌ {A = ℕ} 0 1 = cc in absurd (omega arith)
 
@@ -113,21 +108,21 @@ one_byte [] b t = absurd (false≢true t)
 one_byte (a ∷ []) b t = record { byte = a; is = refl }
 one_byte (a ∷ c ∷ f) b t = absurd (false≢true (and_right (eqb a b) false t))
 
-flag_one : (f : List ℕ) → flag_in f < 2 → One f
+flag_one : (f : List ℕ) (flag : Bool) → flag_in f ≡ Some flag → One f
 unfolding flag_in
-flag_one f h = go (same_bytes f (ascii "0")) (same_bytes f (ascii "1")) refl refl h
+flag_one f flag e = go (same_bytes f (ascii "0")) (same_bytes f (ascii "1")) refl refl e
   where
-    go : (a b : Bool) → same_bytes f (ascii "0") ≡ a → same_bytes f (ascii "1") ≡ b → cond {A = ℕ} a 0 (cond b 1 2) < 2 → One f
+    go : (a b : Bool) → same_bytes f (ascii "0") ≡ a → same_bytes f (ascii "1") ≡ b → cond a (Some false) (cond b (Some true) None) ≡ Some flag → One f
     go true b s t k = one_byte f 48 s
     go false true s t k = one_byte f 49 t
-    go false false s t k = absurd (omega arith)
+    go false false s t k = let z : ◌≡◌ {A = ℕ} 0 1 = cc in absurd (omega arith)
 
 pub hex_length : (digits : ℕ) (field : List ℕ) → is_hex digits field ≡ true → length field ≡ digits
 unfolding is_hex
 hex_length digits field t = eqb-true (length field) digits (and_left (eqb (length field) digits) (are_digits 16 field) t)
 
 -- a frame's line
-pub record Layout (ports size port h4 flag : ℕ) (line : List ℕ) : Type 0 where
+pub record Layout (ports size port h4 : ℕ) (flag : Bool) (line : List ℕ) : Type 0 where
   pub front : List ℕ
   pub high : ℕ
   pub low : ℕ
@@ -139,26 +134,25 @@ pub record Layout (ports size port h4 flag : ℕ) (line : List ℕ) : Type 0 whe
   pub high_digit : digit_of high < 16
   pub low_digit : digit_of low < 16
   pub h4_is : h4 ≡ digit_of high * 16 + digit_of low
-  pub flag_is : flag_in (flagged ∷ []) ≡ flag
-  pub flag_below : flag < 2
+  pub flag_is : flag_in (flagged ∷ []) ≡ Some flag
   pub payload_is : is_hex (size + size) payload ≡ true
   pub payload_length : length payload ≡ size + size
   pub whole : length line ≡ length front + 6 + (size + size)
   pub most : length line ≤ MOST
 
-pub record Framed (ports size end next port h4 flag place n : ℕ) (line : List ℕ) : Type 0 where
+pub record Framed (ports size end next port h4 : ℕ) (flag : Bool) (place n : ℕ) (line : List ℕ) : Type 0 where
   pub layout : Layout ports size port h4 flag line
   pub place_is : place + (size + size) ≡ end
   pub next_is : n ≡ next
 
 -- A line of four fields that reads as a frame: the second is two hexadecimal digits and the third one, so that the line is known byte by byte but for the port's field and the payload, and the payload's place follows from the lengths.
-four_fields : (ports size end next port h4 flag place n : ℕ) (line a b c d : List ℕ) → joined (a ∷ b ∷ c ∷ d ∷ []) ≡ line → length line ≤ end → length line ≤ MOST
+four_fields : (ports size end next port h4 : ℕ) (flag : Bool) (place n : ℕ) (line a b c d : List ℕ) → joined (a ∷ b ∷ c ∷ d ∷ []) ≡ line → length line ≤ end → length line ≤ MOST
     → frame_by ports (number_of 9 a) (hex_of 2 b) (flag_in c) (is_hex (size + size) d) (end - length d) next ≡ Frame port h4 flag place n
     → Framed ports size end next port h4 flag place n line
 four_fields ports size end next port h4 flag place n line a b c d j k m e =
     let s = frame_said ports (number_of 9 a) (hex_of 2 b) (flag_in c) (is_hex (size + size) d) (end - length d) next port h4 flag place n e in
     let two = hex_two b h4 s.h4_is in
-    let one = flag_one c (let x = s.flag_is in let y = s.flag_below in omega arith) in
+    let one = flag_one c flag s.flag_is in
     let dl = hex_length (size + size) d s.payload_is in
     let is : line ≡ a ++ (TAB ∷ two.high ∷ two.low ∷ TAB ∷ one.byte ∷ TAB ∷ d) =
     sym j ∙ ap (λ (x : List ℕ). a ++ (TAB ∷ (x ++ (TAB ∷ (c ++ (TAB ∷ d)))))) two.is ∙ ap (λ (x : List ℕ). a ++ (TAB ∷ two.high ∷ two.low ∷ TAB ∷ (x ++ (TAB ∷ d)))) one.is in
@@ -179,7 +173,6 @@ four_fields ports size end next port h4 flag place n line a b c d j k m e =
         low_digit = two.low_digit;
         h4_is = two.value;
         flag_is = ap flag_in (sym one.is) ∙ s.flag_is;
-        flag_below = s.flag_below;
         payload_is = s.payload_is;
         payload_length = dl;
         whole = omega arith;
@@ -189,7 +182,7 @@ four_fields ports size end next port h4 flag place n line a b c d j k m e =
       next_is = sym s.next_is;
     }
 
-fields_framed : (ports size end next port h4 flag place n : ℕ) (line : List ℕ) (fs : List (List ℕ)) → joined fs ≡ line → length line ≤ end → length line ≤ MOST
+fields_framed : (ports size end next port h4 : ℕ) (flag : Bool) (place n : ℕ) (line : List ℕ) (fs : List (List ℕ)) → joined fs ≡ line → length line ≤ end → length line ≤ MOST
     → record_by ports size end next fs ≡ Frame port h4 flag place n → Framed ports size end next port h4 flag place n line
 fields_framed ports size end next port h4 flag place n line [] j k m e = let z : ◌≡◌ {A = ℕ} 0 1 = cc in absurd (omega arith)
 fields_framed ports size end next port h4 flag place n line (a ∷ []) j k m e = let z : ◌≡◌ {A = ℕ} 0 1 = cc in absurd (omega arith)
@@ -198,7 +191,7 @@ fields_framed ports size end next port h4 flag place n line (a ∷ b ∷ c ∷ [
 fields_framed ports size end next port h4 flag place n line (a ∷ b ∷ c ∷ d ∷ []) j k m e = four_fields ports size end next port h4 flag place n line a b c d j k m e
 fields_framed ports size end next port h4 flag place n line (a ∷ b ∷ c ∷ d ∷ f ∷ rest) j k m e = let z : ◌≡◌ {A = ℕ} 0 1 = cc in absurd (omega arith)
 
-pub frame_layout : (ports size at next port h4 flag place n : ℕ) (line : List ℕ) → line_record ports size at next line ≡ Frame port h4 flag place n
+pub frame_layout : (ports size at next port h4 : ℕ) (flag : Bool) (place n : ℕ) (line : List ℕ) → line_record ports size at next line ≡ Frame port h4 flag place n
     → Framed ports size (at + length line) next port h4 flag place n line
 unfolding line_record
 frame_layout ports size at next port h4 flag place n line e = go (leb (length line) MOST) refl e
@@ -216,13 +209,14 @@ placed_at at n Long = Long
 placed_at at n Unfinished = Unfinished
 placed_at at n End = End
 
-frame_placed : (ports : ℕ) (a b : Option ℕ) (flag : ℕ) (payload : Bool) (at place n : ℕ) → frame_by ports a b flag payload (at + place) n ≡ placed_at at n (frame_by ports a b flag payload place 0)
+frame_placed : (ports : ℕ) (a b : Option ℕ) (flag : Option Bool) (payload : Bool) (at place n : ℕ) → frame_by ports a b flag payload (at + place) n ≡ placed_at at n (frame_by ports a b flag payload place 0)
 unfolding frame_by
-frame_placed ports (Some x) (Some y) flag payload at place n = go (ltb x ports && ltb y 256 && ltb flag 2 && payload)
+frame_placed ports (Some x) (Some y) (Some flag) payload at place n = go (ltb x ports && ltb y 256 && payload)
   where
     go : (t : Bool) → cond t (Frame x y flag (at + place) n) (Malformed n) ≡ placed_at at n (cond t (Frame x y flag place 0) (Malformed 0))
     go true = refl
     go false = refl
+frame_placed ports (Some x) (Some y) None payload at place n = refl
 frame_placed ports (Some x) None flag payload at place n = refl
 frame_placed ports None b flag payload at place n = refl
 

@@ -23,7 +23,7 @@ use Rattle.text.specs.Text.{LINE-END}
 -- A line is a frame or no frame
 
 pub data Read (ports size : ℕ) (l : Line) : Type 0 where
-  frame : (port h4 flag place next : ℕ) → record_of ports size l ≡ Frame port h4 flag place next → Read ports size l
+  frame : (port h4 : ℕ) (flag : Bool) (place next : ℕ) → record_of ports size l ≡ Frame port h4 flag place next → Read ports size l
   other : is_frame (record_of ports size l) ≡ false → Read ports size l
 
 pub read_of : (ports size : ℕ) (l : Line) → Read ports size l
@@ -59,7 +59,7 @@ same_self (b ∷ x) = rw (eq-eqb b b refl) (same_self x)
 kept_note : (size n : ℕ) (l : Line) → altered_note size n l l ≡ []
 kept_note size n l = rw (same_self l.bytes)
 
-altered_note_lem : (ports size : ℕ) (l : Line) (port h4 flag place next : ℕ) → record_of ports size l ≡ Frame port h4 flag place next → (new : ℕ) → new < 16 → (h4 % 16 ≡ new → ⊥) → (n : ℕ)
+altered_note_lem : (ports size : ℕ) (l : Line) (port h4 : ℕ) (flag : Bool) (place next : ℕ) → record_of ports size l ≡ Frame port h4 flag place next → (new : ℕ) → new < 16 → (h4 % 16 ≡ new → ⊥) → (n : ℕ)
     → altered_note size n l (with_digit size l (capital new)) ≡ note_by size n l (F.Restored (digit_in size l) (capital new))
 unfolding digit_place
 altered_note_lem ports size l port h4 flag place next e new b d n =
@@ -119,7 +119,7 @@ module _ (ports size : ℕ) where
   pub record Came (left : ℕ → List ℕ) (l : Line) (port : ℕ) : Type 0 where
     pub line : Line
     pub h4 : ℕ
-    pub flag : ℕ
+    pub flag : Bool
     pub place : ℕ
     pub next : ℕ
     pub out : out_by size l (fate_by size left l (record_of ports size l)) ≡ line ∷ []
@@ -132,7 +132,7 @@ module _ (ports size : ℕ) where
     pub note : (n : ℕ) → note_by size n l (fate_by size left l (record_of ports size l)) ≡ altered_note size n l line
 
   -- A line of a port with its next count due: it comes out as it is where it has that count, else with that one digit put, and then its note is the one of what was altered.
-  pub came : (left : ℕ → List ℕ) (l : Line) (port h4 flag place next : ℕ) → record_of ports size l ≡ Frame port h4 flag place next → get_or (left port) 0 0 < 16 → Came left l port
+  pub came : (left : ℕ → List ℕ) (l : Line) (port h4 : ℕ) (flag : Bool) (place next : ℕ) → record_of ports size l ≡ Frame port h4 flag place next → get_or (left port) 0 0 < 16 → Came left l port
   came left l port h4 flag place next e b = go (eqb (h4 % 16) (get_or (left port) 0 0)) refl
     where
       fated : out_by size l (fate_by size left l (record_of ports size l)) ≡ out_by size l (fate_to size l (h4 % 16) (get_or (left port) 0 0))
@@ -184,7 +184,7 @@ module _ (ports size : ℕ) where
   out_of left ls = mended_lines size (judged_by ports size left ls)
 
   -- the count that is left for a frame's line
-  pub next_count : (left : ℕ → List ℕ) (l : Line) (ls : List Line) → Fits left (l ∷ ls) → (port h4 flag place next : ℕ) → record_of ports size l ≡ Frame port h4 flag place next
+  pub next_count : (left : ℕ → List ℕ) (l : Line) (ls : List Line) → Fits left (l ∷ ls) → (port h4 : ℕ) (flag : Bool) (place next : ℕ) → record_of ports size l ≡ Frame port h4 flag place next
       → (length (left port) ≡ suc (length (counts_of ports size port ls))) × (get_or (left port) 0 0 < 16)
   next_count left l ls h port h4 flag place next e =
       let k : length (left port) ≡ suc (length (counts_of ports size port ls)) =

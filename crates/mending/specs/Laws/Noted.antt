@@ -51,7 +51,7 @@ with_length size l d =
     let c = length-append l.bytes l.end in
     omega arith
 
-module _ (ports size : ℕ) (mended : List ℕ) (l : Line) (p h4 flag place next : ℕ) (e : record_of ports size l ≡ Frame p h4 flag place next) where
+module _ (ports size : ℕ) (mended : List ℕ) (l : Line) (p h4 : ℕ) (flag : Bool) (place next : ℕ) (e : record_of ports size l ≡ Frame p h4 flag place next) where
   -- what lies behind a line is not looked at
   frame_kept : (n : ℕ) (pre rest : List ℕ) → mended ≡ pre ++ (line_text l ++ rest) → note_frame ports size mended n l (get_or mended (length pre + digit_place size l) 0) ≡ []
   frame_kept n pre rest m =
@@ -80,7 +80,7 @@ Rest ports size mended ls =
     → notes_swept ports size mended n (length pre) ls ≡ notes_from size n (judged_by ports size lf ls)
 
 module _ (ports size : ℕ) (mended : List ℕ) (l : Line) (ls : List Line) (rest : Rest ports size mended ls) (n : ℕ) (pre : List ℕ) (lf : ℕ → List ℕ) (c : (q : ℕ) → Counts (lf q)) where
-  frame_beside : (p h4 flag place next : ℕ) → record_of ports size l ≡ Frame p h4 flag place next → (t : Bool) → eqb (h4 % 16) (get_or (lf p) 0 0) ≡ t
+  frame_beside : (p h4 : ℕ) (flag : Bool) (place next : ℕ) → record_of ports size l ≡ Frame p h4 flag place next → (t : Bool) → eqb (h4 % 16) (get_or (lf p) 0 0) ≡ t
       → mended ≡ pre ++ text_of (out_by size l (cond t F.Kept (F.Restored (digit_in size l) (capital (get_or (lf p) 0 0)))) ++ mended_lines size (judged_by ports size (left_by lf (Frame p h4 flag place next)) ls))
       → note_frame ports size mended n l (get_or mended (length pre + digit_place size l) 0) ++ notes_swept ports size mended (suc n) (length pre + length (line_text l)) ls
       ≡ note_by size n l (cond t F.Kept (F.Restored (digit_in size l) (capital (get_or (lf p) 0 0)))) ++ notes_from size (suc n) (judged_by ports size (left_by lf (Frame p h4 flag place next)) ls)

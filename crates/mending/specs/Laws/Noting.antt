@@ -1,5 +1,5 @@
 -- The second sweep over lent slices: a note by what is read at a place, and a buffer whose front is what is written.
-use Rattle.std.specs.Prelude.{◌≡◌, true, false, cond, ℕ, suc, ◌+◌, ◌-◌, ◌≤◌, ◌<◌, eqb, drop}
+use Rattle.std.specs.Prelude.{Bool, ◌≡◌, true, false, cond, ℕ, suc, ◌+◌, ◌-◌, ◌≤◌, ◌<◌, eqb, drop}
 use Rattle.std.proofs.Math.Path.{refl}
 use Rattle.std.proofs.Common.{sym, ap, ◌∙◌, drop_of_length-le, length-append, get_or-drop, length-take-le, take_all, take_at}
 use mathlib.Core.List.{List, [], ◌∷◌, ◌++◌, append_assoc, append-nil}
@@ -50,7 +50,7 @@ module _ (ports size : ℕ) (mended : List ℕ) (at : ℕ) (text : List ℕ) (mo
   abbrev l : Line
   l = line_at at text
 
-  note_frame_lem : (p h4 flag place next : ℕ) → record_of ports size l ≡ Frame p h4 flag place next
+  note_frame_lem : (p h4 : ℕ) (flag : Bool) (place next : ℕ) → record_of ports size l ≡ Frame p h4 flag place next
       → note_read n text at mended to (read_by size at l (Frame p h4 flag place next)) ≡ note_swept ports size mended n to l (Frame p h4 flag place next)
   unfolding note_read record_of digit_place
   note_frame_lem p h4 flag place next e =

@@ -8,8 +8,9 @@ use Rattle.mending.specs.Laws.Texts.{Ended, lines_text, with_ended}
 use Rattle.mending.specs.Lines.{Line, judged, judged_by, line_text, lines_with, text_of}
 pub use Rattle.mending.specs.Mending.{Opened}
 use Rattle.mending.specs.Mending.{answer_by, fitting, mended_by, mended_in, mended_of, notes_by, notes_from, notes_in, notes_of, opening_of, read_answer}
-use Rattle.recording.specs.Opening.{Opening, line_opening}
-use Rattle.recording.specs.Opening.{Opening as O}
+use Rattle.recording.specs.declared.opening.Opening.{Opening}
+use Rattle.recording.specs.Opening.{line_opening}
+use Rattle.recording.specs.declared.opening.Opening.TheVariants as O
 use Rattle.text.specs.Text.{LINE-END}
 
 answer_fits : (b : Bool) → cond {A = ℕ} b 0 4 ≡ 0 → b ≡ true

@@ -300,7 +300,7 @@ dropped_bounds at text h =
     let w = length-append (line_at at text).bytes (line_at at text).end in
     record { ahead = omega arith; within = omega arith; starts = omega arith; ends = omega arith; port = omega arith; digit = λ (z : false ≡ true). absurd (false≢true z) }
 
-frame_bounds : (ports size at : ℕ) (text : List ℕ) (port h4 flag place next : ℕ) → at < length text → ports ≤ 64 → line_record ports size 0 0 (line_at at text).bytes ≡ Frame port h4 flag place next
+frame_bounds : (ports size at : ℕ) (text : List ℕ) (port h4 : ℕ) (flag : Bool) (place next : ℕ) → at < length text → ports ≤ 64 → line_record ports size 0 0 (line_at at text).bytes ≡ Frame port h4 flag place next
     → Bounds at (length text) (read_by size at (line_at at text) (Frame port h4 flag place next))
 unfolding digit_place
 frame_bounds ports size at text port h4 flag place next h m e =

@@ -21,8 +21,9 @@ use Rattle.receiver.specs.Starting.{times_within}
 use Rattle.recording.specs.Theorems.Lines.{line_opens, opens_to}
 use Rattle.recording.specs.declared.pairs.Settings.{Settings}
 use Rattle.recording.specs.Line.{MOST, first_line, found_of, has_end}
-use Rattle.recording.specs.Opening.{Opening, line_opening, opening_in}
-use Rattle.recording.specs.Opening.{Opening as O}
+use Rattle.recording.specs.declared.opening.Opening.{Opening}
+use Rattle.recording.specs.Opening.{line_opening, opening_in}
+use Rattle.recording.specs.declared.opening.Opening.TheVariants as O
 use Rattle.text.specs.Text.{LINE-END, lines_of}
 
 abbrev pub no_start : ℕ → Start

@@ -44,7 +44,7 @@ module _ (ports size port : ℕ) where
       go true e r = ap (counts_of ports size port) (mine_by l ls true e) ∙ ap (count_by port (record_of ports size l)) r
       go false e r = ap (counts_of ports size port) (mine_by l ls false e) ∙ (r ∙ sym (counts_by_lem (record_of ports size l) (counts_of ports size port ls) false e))
 
-  left_by_lem : (left : ℕ → List ℕ) (p h4 flag place next : ℕ) (b : Bool) → eqb p port ≡ b → left_by left (Frame p h4 flag place next) port ≡ cond b (drop 1 (left port)) (left port)
+  left_by_lem : (left : ℕ → List ℕ) (p h4 : ℕ) (flag : Bool) (place next : ℕ) (b : Bool) → eqb p port ≡ b → left_by left (Frame p h4 flag place next) port ≡ cond b (drop 1 (left port)) (left port)
   left_by_lem left p h4 flag place next b e = ap (λ (t : Bool). cond t (drop 1 (left port)) (left port)) e
 
   own_out : (ls : List Line) (left one : ℕ → List ℕ) → Fits ports size left ls → one port ≡ left port → mine (out_of ports size left ls) ≡ out_of ports size one (mine ls)

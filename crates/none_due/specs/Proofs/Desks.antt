@@ -111,20 +111,20 @@ module _ (out : List ℕ) where
         window = rw (fetched_own d g) ((fetch_sizes (own_rows d) g.kept (own_store d) out eight).window ∙ g.window);
       }
 
-  framed_goes : (d : Desk) → Going d → (line : List ℕ) (port h4 flag place : ℕ) → Going (framed out d line port h4 flag place)
+  framed_goes : (d : Desk) → Going d → (line : List ℕ) (port h4 : ℕ) (flag : Bool) (place : ℕ) → Going (framed out d line port h4 flag place)
   unfolding framed_rows
   framed_goes d g line port h4 flag place =
       let n = rows_for d.replay.ports in
       let p = payload_at d.replay.size place line in
-      let x = (frame_of (own_rows d) port (eqb flag 1) h4 p (own_store d)).rows in
-      let l = length_frame_rows (own_rows d) port (eqb flag 1) h4 p (own_store d) in
+      let x = (frame_of (own_rows d) port flag h4 p (own_store d)).rows in
+      let l = length_frame_rows (own_rows d) port flag h4 p (own_store d) in
       let e : length x ≡ n = l ∙ length-take-le n d.rows g.enough in
       let own : take n (x ++ drop n d.rows) ≡ x = ap (λ (m : ℕ). take m (x ++ drop n d.rows)) (sym e) ∙ take-append_seam x (drop n d.rows) in
       let long = length_part n d.rows x g.enough l in
       record {
         enough = rw long g.enough;
-        kept = rw own (call_kept (record { rows = own_rows d; store = own_store d }) (Frame port (eqb flag 1) h4 p) g.kept);
-        window = rw own ((frame_sizes (own_rows d) g.kept port (eqb flag 1) h4 p (own_store d)).window ∙ g.window);
+        kept = rw own (call_kept (record { rows = own_rows d; store = own_store d }) (Frame port flag h4 p) g.kept);
+        window = rw own ((frame_sizes (own_rows d) g.kept port flag h4 p (own_store d)).window ∙ g.window);
       }
 
   -- where none is due a fetch changes nothing
@@ -191,7 +191,7 @@ module _ (out : List ℕ) where
       go false e = refl
 
   -- a frame's line and its fetches
-  frame_ready : (d : Desk) → Ready out d → (line : List ℕ) (port h4 flag place : ℕ) → Ready out (reported out d.replay.window (framed out d line port h4 flag place))
+  frame_ready : (d : Desk) → Ready out d → (line : List ℕ) (port h4 : ℕ) (flag : Bool) (place : ℕ) → Ready out (reported out d.replay.window (framed out d line port h4 flag place))
   frame_ready d r line port h4 flag place =
       let f = framed out d line port h4 flag place in
       let g = framed_goes d (going d r) line port h4 flag place in

@@ -19,8 +19,9 @@ use Rattle.receiver.specs.Starting.{group_with, sized_answer, sized_fits, start_
 use Rattle.recording.specs.Theorems.Lines.{is_settled, opening_settled}
 use Rattle.recording.specs.declared.pairs.Settings.{Settings}
 use Rattle.recording.specs.Laws.Times.{Timed, TimedIn, opening_timed}
-use Rattle.recording.specs.Opening.{Opening, line_opening}
-use Rattle.recording.specs.Opening.{Opening as O}
+use Rattle.recording.specs.declared.opening.Opening.{Opening}
+use Rattle.recording.specs.Opening.{line_opening}
+use Rattle.recording.specs.declared.opening.Opening.TheVariants as O
 use Rattle.replay_lines.specs.declared.replay.Phase.{Phase}
 use Rattle.replay_lines.specs.declared.replay.Phase.TheVariants as P
 use Rattle.replay_lines.specs.Laws.Due.{due_at, none_due_lem}

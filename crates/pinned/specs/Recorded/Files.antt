@@ -2,7 +2,7 @@
 use Rattle.std.specs.Prelude.{◌≡◌, true, false, List, [], ◌∷◌, ◌++◌, ℕ, replicate}
 use Rattle.std.proofs.Common.{arith}
 use Rattle.pinned.specs.Filled.{nines}
-use Rattle.recording.specs.Pairs.{plain_settings}
+use Rattle.recording.specs.Pairs.{first_pairs, settings_of}
 use Rattle.replay_lines.specs.Deeds.{Deed, begins_with, joined, run, with_end}
 use Rattle.replay_lines.specs.Deeds.Deed.{Call, Close, Read}
 use Rattle.replay_lines.specs.Printing.{all_lines}
@@ -20,8 +20,8 @@ stores : Pinned
 unfolding all_open
 stores =
     pins "'a store above 65,536 bytes in the program': 1 x 2,048 x (31+1) is 65,536, with P 32 it is 67,584 (request 2026-05)"
-    (row "31 bytes a frame are taken" (startable (plain_settings 1 31 2048) STORE) true same
-    ∷ row "32 are not" (startable (plain_settings 1 32 2048) STORE) false same
+    (row "31 bytes a frame are taken" (startable (settings_of (first_pairs 1 31 2048)) STORE) true same
+    ∷ row "32 are not" (startable (settings_of (first_pairs 1 32 2048)) STORE) false same
     ∷ [])
 
 ends : Pinned

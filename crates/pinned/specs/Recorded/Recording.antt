@@ -4,12 +4,12 @@ use Rattle.std.proofs.Common.{arith, le-leb, le-ltb, lt-ltb, ne_eqb}
 use Rattle.std.proofs.lemmas.Bool.{lt-leb}
 use Rattle.ground.specs.Plain.{◌<?◌}
 use Rattle.ground.specs.Finding.{index_of}
-use Rattle.recording.specs.declared.opening.FirstLine.TheVariants as F
 use Rattle.recording.specs.declared.pairs.Settings.{Settings}
 use Rattle.recording.specs.declared.record.Record.TheVariants.{End, Frame, Long, Malformed, Unfinished}
-use Rattle.recording.specs.Opening.{Opening, handed, line_opening, opening_by, opening_in}
-use Rattle.recording.specs.Opening.{Opening as O}
-use Rattle.recording.specs.Pairs.{first_pairs, pairs_from}
+use Rattle.recording.specs.declared.opening.Opening.{Opening}
+use Rattle.recording.specs.Opening.{line_opening, opening_by, opening_in}
+use Rattle.recording.specs.declared.opening.Opening.TheVariants as O
+use Rattle.recording.specs.Pairs.{first_pairs, pairs_from, settings_of}
 use Rattle.recording.specs.Record.{last_record, line_record, record_by, record_in}
 use Rattle.text.specs.Ascii.{ascii}
 use Rattle.text.specs.Text.{LINE-END, fields_of}
@@ -20,12 +20,12 @@ a_frame : Pinned
 unfolding all_open
 a_frame =
     pins "A frame's line, here of eleven bytes with its payload of four digits at 107, with its end and without (request 2026-05)"
-    (row "with its end" (record_in 3 2 100 (ascii "2\tf0\t1\tAb0C\nx")) (Frame 2 240 1 107 112) same
+    (row "with its end" (record_in 3 2 100 (ascii "2\tf0\t1\tAb0C\nx")) (Frame 2 240 true 107 112) same
     ∷ row "without it the line is not finished" (record_in 3 2 100 (ascii "2\tf0\t1\tAb0C")) Unfinished same
-    ∷ row "as the last line it is one" (last_record 3 2 100 (ascii "2\tf0\t1\tAb0C")) (Frame 2 240 1 107 111) same
+    ∷ row "as the last line it is one" (last_record 3 2 100 (ascii "2\tf0\t1\tAb0C")) (Frame 2 240 true 107 111) same
     ∷ row "no line" (record_in 3 2 100 []) End same
     ∷ row "no last line" (last_record 3 2 100 []) End same
-    ∷ row "numbers of nine digits" (record_in 3 2 100 (ascii "000000002\t0F\t0\tffff\n")) (Frame 2 15 0 115 120) same
+    ∷ row "numbers of nine digits" (record_in 3 2 100 (ascii "000000002\t0F\t0\tffff\n")) (Frame 2 15 false 115 120) same
     ∷ [])
 
 no_frames : Pinned
@@ -50,8 +50,8 @@ in_a_row : Pinned
 unfolding all_open
 in_a_row =
     pins "A line is read with more than a line behind it, and the next from the next place on (request 2026-05)"
-    (row "the first" (record_in 3 2 5 (ascii "0\t1a\t0\t0000\n1\t2b\t1\tffff\n")) (Frame 0 26 0 12 17) same
-    ∷ row "the second" (record_in 3 2 17 (ascii "1\t2b\t1\tffff\n")) (Frame 1 43 1 24 29) same
+    (row "the first" (record_in 3 2 5 (ascii "0\t1a\t0\t0000\n1\t2b\t1\tffff\n")) (Frame 0 26 false 12 17) same
+    ∷ row "the second" (record_in 3 2 17 (ascii "1\t2b\t1\tffff\n")) (Frame 1 43 true 24 29) same
     ∷ [])
 
 -- the first line
@@ -160,17 +160,8 @@ last_port : Pinned
 unfolding all_open
 last_port =
     pins "The number of the last of 64 ports is kept (request 2026-05)"
-    (row "its hold-off" (pairs_from (first_pairs 64 1 16) (ascii "hold-off" ∷ replicate 64 (ascii "7"))).settings.hold_off (replicate 64 7) same
-    ∷ row "its wait-to-restore" (pairs_from (first_pairs 64 1 16) (ascii "wait-to-restore" ∷ replicate 64 (ascii "7"))).settings.restore (replicate 64 7) same
-    ∷ [])
-
-handed_over : Pinned
-handed_over =
-    pins "The first line as it is handed over, with the place of the next line (request 2026-05)"
-    (row "settings" (handed (O.Settings (settings 0 [] [] 3 2 32) 7)) (record { settings = settings 0 [] [] 3 2 32; next = 7; line = F.Settings }) same
-    ∷ row "a malformed line" (handed O.Malformed) (record { settings = settings 0 [] [] 0 0 0; next = 0; line = F.Malformed }) same
-    ∷ row "an unfinished one" (handed O.Unfinished) (record { settings = settings 0 [] [] 0 0 0; next = 0; line = F.Unfinished }) same
-    ∷ row "the end" (handed O.End) (record { settings = settings 0 [] [] 0 0 0; next = 0; line = F.End }) same
+    (row "its hold-off" (settings_of (pairs_from (first_pairs 64 1 16) (ascii "hold-off" ∷ replicate 64 (ascii "7")))).hold_off (replicate 64 7) same
+    ∷ row "its wait-to-restore" (settings_of (pairs_from (first_pairs 64 1 16) (ascii "wait-to-restore" ∷ replicate 64 (ascii "7")))).restore (replicate 64 7) same
     ∷ [])
 
 -- 'Lines hold at most 8,192 bytes.' The first line too, whether it has ended or not.

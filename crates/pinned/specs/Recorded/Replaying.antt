@@ -135,7 +135,7 @@ beyond : Pinned
 unfolding all_open
 beyond =
     pins "Of more rows than the group's 11 a frame and a fetch leave the last ones as they are (request 2026-05)"
-    (row "after a frame" (drop 11 (framed_rows (at Reading 0) 1 0xF0 0 (0xAB ∷ []) (rows 13) (nines 64))) (rows 2) same
+    (row "after a frame" (drop 11 (framed_rows (at Reading 0) 1 0xF0 false (0xAB ∷ []) (rows 13) (nines 64))) (rows 2) same
     ∷ row "after a fetch" (drop 11 (fetch_rows_by (at Fetching 1) (rows 13) (nines 64) (nines 32))) (rows 2) same
     ∷ [])
 

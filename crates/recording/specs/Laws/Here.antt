@@ -1,13 +1,13 @@
 -- A line that has digits, tabs and its end where a frame's line has them is that frame.
 -- Its fields hold no tab and no line end, being digits; so the first line end is the one at the end, the tabs are the only ones, and parting the line gives these fields.
-use Rattle.std.specs.Prelude.{◌≡◌, Bool, true, false, cond, ◌&&◌, List, [], ◌∷◌, ◌++◌, ℕ, suc, ◌+◌, ◌-◌, ◌≤◌, ◌<◌, eqb, leb, ltb, Option, Some, None}
+use Rattle.std.specs.Prelude.{◌≡◌, Bool, true, false, cond, ◌&&◌, List, [], ◌∷◌, ◌++◌, ℕ, suc, ◌+◌, ◌-◌, ◌≤◌, ◌<◌, eqb, leb, ltb, Option, Some, None, is_some}
 use Rattle.std.proofs.Math.Path.{refl, sym}
 use Rattle.std.proofs.Common.{ap, ◌∙◌, drop-drop, length-take-le}
 use Rattle.std.proofs.lemmas.Bool.{false≢true}
 use native.Mathlib.Omega.{arith}
 use lib.ListN.{drop, get_or, length, take, take-append-drop}
 use Rattle.std.proofs.Math.Seq.{slice, length-slice}
-use borrow.Author.Tests.{eq-eqb, eqb-true, ltb-true}
+use borrow.Author.Tests.{eq-eqb, eqb-true}
 use Rattle.ground.specs.Finding.{index_after, index_of}
 use Rattle.ground.specs.Truth.{and_left, and_right}
 use Rattle.recording.specs.Record.{flag_in, frame_by, is_frame, record_in}
@@ -62,14 +62,14 @@ one_byte [] b t = absurd (false≢true t)
 one_byte (a ∷ []) b t = ap (λ (n : ℕ). n ∷ []) (eqb-true a b (and_left (eqb a b) true t))
 one_byte (a ∷ c ∷ f) b t = absurd (false≢true (and_right (eqb a b) false t))
 
-flag_without : (m : ℕ) → eqb 48 m ≡ false → eqb 49 m ≡ false → (f : List ℕ) → flag_in f < 2 → Without m f
+flag_without : (m : ℕ) → eqb 48 m ≡ false → eqb 49 m ≡ false → (f : List ℕ) → is_some (flag_in f) ≡ true → Without m f
 unfolding flag_in
 flag_without m y z f h = go (same_bytes f (ascii "0")) (same_bytes f (ascii "1")) refl refl h
   where
-    go : (a b : Bool) → same_bytes f (ascii "0") ≡ a → same_bytes f (ascii "1") ≡ b → cond {A = ℕ} a 0 (cond b 1 2) < 2 → Without m f
+    go : (a b : Bool) → same_bytes f (ascii "0") ≡ a → same_bytes f (ascii "1") ≡ b → is_some (cond a (Some false) (cond b (Some true) None)) ≡ true → Without m f
     go true b s t k = rw (one_byte f 48 s) (y, tt)
     go false true s t k = rw (one_byte f 49 t) (z, tt)
-    go false false s t k = absurd (omega arith)
+    go false false s t k = absurd (false≢true k)
 
 index_without : (m : ℕ) (x y : List ℕ) → Without m x → index_of m (x ++ (m ∷ y)) ≡ length x
 unfolding index_of index_after
@@ -101,42 +101,33 @@ joins : (m : ℕ) (l : List ℕ) (a q e : ℕ) → a ≤ q → q < e → e ≤ l
 joins m l a q e h k j z f g = rw (part_at l a q e h k j) (without_append m (slice a q l) (get_or l q 0 ∷ slice (q + 1) e l) f (z, g))
 
 -- what a frame says of its fields
-abbrev is_value : Option ℕ → Bool
-is_value (Some n) = true
-is_value None = false
-
-record Told (port h4 : Option ℕ) (flag : ℕ) (payload : Bool) : Type 0 where
-  port_there : is_value port ≡ true
-  h4_there : is_value h4 ≡ true
-  flag_there : flag < 2
+record Told (port h4 : Option ℕ) (flag : Option Bool) (payload : Bool) : Type 0 where
+  port_there : is_some port ≡ true
+  h4_there : is_some h4 ≡ true
+  flag_there : is_some flag ≡ true
   payload_there : payload ≡ true
 
-frame_told : (ports : ℕ) (port h4 : Option ℕ) (flag : ℕ) (payload : Bool) (place next : ℕ) → is_frame (frame_by ports port h4 flag payload place next) ≡ true → Told port h4 flag payload
+frame_told : (ports : ℕ) (port h4 : Option ℕ) (flag : Option Bool) (payload : Bool) (place next : ℕ) → is_frame (frame_by ports port h4 flag payload place next) ≡ true → Told port h4 flag payload
 unfolding frame_by
-frame_told ports (Some x) (Some y) flag payload place next t = go (ltb x ports && ltb y 256 && ltb flag 2 && payload) refl t
+frame_told ports (Some x) (Some y) (Some flag) payload place next t = go (ltb x ports && ltb y 256 && payload) refl t
   where
-    go : (b : Bool) → (ltb x ports && ltb y 256 && ltb flag 2 && payload) ≡ b → is_frame (cond b (Frame x y flag place next) (Malformed next)) ≡ true → Told (Some x) (Some y) flag payload
-    go true e u =
-        record {
-          port_there = refl;
-          h4_there = refl;
-          flag_there = ltb-true flag 2 (and_right (ltb x ports && ltb y 256) (ltb flag 2) (and_left (ltb x ports && ltb y 256 && ltb flag 2) payload e));
-          payload_there = and_right (ltb x ports && ltb y 256 && ltb flag 2) payload e;
-        }
+    go : (b : Bool) → (ltb x ports && ltb y 256 && payload) ≡ b → is_frame (cond b (Frame x y flag place next) (Malformed next)) ≡ true → Told (Some x) (Some y) (Some flag) payload
+    go true e u = record { port_there = refl; h4_there = refl; flag_there = refl; payload_there = and_right (ltb x ports && ltb y 256) payload e }
     go false e u = absurd (false≢true u)
+frame_told ports (Some x) (Some y) None payload place next t = absurd (false≢true t)
 frame_told ports (Some x) None flag payload place next t = absurd (false≢true t)
 frame_told ports None h4 flag payload place next t = absurd (false≢true t)
 
-value_if : (b : Bool) (n : ℕ) → is_value (cond b (Some n) None) ≡ true → b ≡ true
+value_if : (b : Bool) (n : ℕ) → is_some (cond b (Some n) None) ≡ true → b ≡ true
 value_if true n t = refl
 value_if false n t = t
 
-number_digits : (f : List ℕ) → is_value (number_of 9 f) ≡ true → are_digits 10 f ≡ true
+number_digits : (f : List ℕ) → is_some (number_of 9 f) ≡ true → are_digits 10 f ≡ true
 unfolding number_of
 number_digits f t =
     and_right (ltb 0 (length f) && leb (length f) 9 && leb (length f) 9) (are_digits 10 f) (value_if (ltb 0 (length f) && leb (length f) 9 && leb (length f) 9 && are_digits 10 f) (value_of 10 0 f) t)
 
-hex_digits : (f : List ℕ) → is_value (hex_of 2 f) ≡ true → are_digits 16 f ≡ true
+hex_digits : (f : List ℕ) → is_some (hex_of 2 f) ≡ true → are_digits 16 f ≡ true
 unfolding hex_of
 hex_digits f t =
     and_right (ltb 0 (length f) && eqb (length f) 2 && leb (length f) 8) (are_digits 16 f) (value_if (ltb 0 (length f) && eqb (length f) 2 && leb (length f) 8 && are_digits 16 f) (value_of 16 0 f) t)

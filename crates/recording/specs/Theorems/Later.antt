@@ -11,25 +11,25 @@ use Rattle.std.proofs.Math.Seq.{slice, take-nil}
 use Rattle.ground.specs.Finding.{index_of}
 use Rattle.recording.specs.declared.record.Record.{Record}
 use Rattle.recording.specs.declared.record.Record.TheVariants.{Frame, Malformed, Long, Unfinished, End}
-use Rattle.recording.specs.declared.opening.First.{First}
-use Rattle.recording.specs.declared.opening.FirstLine.TheVariants as F
-use Rattle.recording.specs.Theorems.Lines.{handed_end, handed_malformed, handed_set, handed_unfinished, line_opens, opens_to, weight, weight_fields}
+use Rattle.recording.specs.Theorems.Lines.{line_opens, opens_to, weight, weight_fields}
 use Rattle.recording.specs.Later.{later, opens_later}
 use Rattle.recording.specs.Line.{MOST, first_line, found_of}
-use Rattle.recording.specs.Opening.{Opening}
-use Rattle.recording.specs.Opening.{Opening as O}
-use Rattle.recording.specs.Opening.{handed, line_opening, opening_in}
+use Rattle.recording.specs.declared.opening.Opening.{Opening}
+use Rattle.recording.specs.declared.pairs.Settings.{Settings}
+use Rattle.recording.specs.declared.opening.Opening.TheVariants as O
+use Rattle.recording.specs.Opening.{line_opening, opening_in}
 use Rattle.recording.specs.Record.{flag_in, frame_by, last_record, line_record, record_by, record_in}
 use Rattle.text.specs.Fields.{hex_of, is_hex, number_of}
 use Rattle.text.specs.Text.{LINE-END, fields_of}
 
-frame_later : (ports : ℕ) (p h : Option ℕ) (flag : ℕ) (payload : Bool) (at place n : ℕ) → frame_by ports p h flag payload (at + place) (at + n) ≡ later at (frame_by ports p h flag payload place n)
+frame_later : (ports : ℕ) (p h : Option ℕ) (flag : Option Bool) (payload : Bool) (at place n : ℕ) → frame_by ports p h flag payload (at + place) (at + n) ≡ later at (frame_by ports p h flag payload place n)
 unfolding frame_by
-frame_later ports (Some x) (Some y) flag payload at place n = go (ltb x ports && ltb y 256 && ltb flag 2 && payload)
+frame_later ports (Some x) (Some y) (Some flag) payload at place n = go (ltb x ports && ltb y 256 && payload)
   where
     go : (b : Bool) → cond b (Frame x y flag (at + place) (at + n)) (Malformed (at + n)) ≡ later at (cond b (Frame x y flag place n) (Malformed n))
     go true = refl
     go false = refl
+frame_later ports (Some x) (Some y) None payload at place n = refl
 frame_later ports (Some x) None flag payload at place n = refl
 frame_later ports None h flag payload at place n = refl
 
@@ -108,7 +108,7 @@ slice_later at place end l = sym (drop-drop place at (take (at + end) l)) ∙ ap
 
 -- and back: what was found from a place on lies so much sooner in the rest
 module _ (at : ℕ) where
-  pub frame_sooner : (x : Record) (port h4 flag place next : ℕ) → later at x ≡ Frame port h4 flag place next
+  pub frame_sooner : (x : Record) (port h4 : ℕ) (flag : Bool) (place next : ℕ) → later at x ≡ Frame port h4 flag place next
       → (place ≡ at + (place - at)) × (next ≡ at + (next - at)) × (x ≡ Frame port h4 flag (place - at) (next - at))
   frame_sooner (Frame p h f a b) port h4 flag place next e =
       let ep : p ≡ port = cc in
@@ -155,47 +155,32 @@ module _ (at : ℕ) where
   end_sooner Unfinished e = let z : ◌≡◌ {A = ℕ} 0 1 = cc in absurd (omega arith)
   end_sooner End e = refl
 
--- what is handed over of a first line from a place on tells what the rest says
-module _ (at : ℕ) (last : Bool) (rest : List ℕ) (f : First) (e : f ≡ handed (opening_in at last rest)) where
-  found : f ≡ handed (opens_later at (opening_in 0 last rest))
-  found = e ∙ ap handed (opening_later at last rest)
+-- and of a first line
+module _ (at : ℕ) where
+  pub settings_sooner : (x : Opening) (s : Settings) (next : ℕ) → opens_later at x ≡ O.Settings s next → (next ≡ at + (next - at)) × (x ≡ O.Settings s (next - at))
+  settings_sooner (O.Settings r n) s next e =
+      let es : r ≡ s = cc in
+      let eb : at + n ≡ next = cc in
+      let db : next - at ≡ n = omega arith in
+      (omega arith, rw (db, es) refl)
+  settings_sooner O.Malformed s next e = let z : ◌≡◌ {A = ℕ} 0 1 = cc in absurd (omega arith)
+  settings_sooner O.Unfinished s next e = let z : ◌≡◌ {A = ℕ} 0 1 = cc in absurd (omega arith)
+  settings_sooner O.End s next e = let z : ◌≡◌ {A = ℕ} 0 1 = cc in absurd (omega arith)
 
-  pub first_set : f.line ≡ F.Settings → (f.next ≡ at + (f.next - at)) × (opening_in 0 last rest ≡ O.Settings f.settings (f.next - at))
-  first_set k = go (opening_in 0 last rest) (handed_set (opens_later at (opening_in 0 last rest)) f found k)
-    where
-      go : (x : Opening) → opens_later at x ≡ O.Settings f.settings f.next → (f.next ≡ at + (f.next - at)) × (x ≡ O.Settings f.settings (f.next - at))
-      go (O.Settings s next) k =
-          let es : s ≡ f.settings = cc in
-          let eb : at + next ≡ f.next = cc in
-          let db : f.next - at ≡ next = omega arith in
-          (omega arith, rw (db, es) refl)
-      go O.Malformed k = let z : ◌≡◌ {A = ℕ} 0 1 = cc in absurd (omega arith)
-      go O.Unfinished k = let z : ◌≡◌ {A = ℕ} 0 1 = cc in absurd (omega arith)
-      go O.End k = let z : ◌≡◌ {A = ℕ} 0 1 = cc in absurd (omega arith)
+  pub malformed_opens : (x : Opening) → opens_later at x ≡ O.Malformed → x ≡ O.Malformed
+  malformed_opens (O.Settings r n) e = let z : ◌≡◌ {A = ℕ} 0 1 = cc in absurd (omega arith)
+  malformed_opens O.Malformed e = refl
+  malformed_opens O.Unfinished e = let z : ◌≡◌ {A = ℕ} 0 1 = cc in absurd (omega arith)
+  malformed_opens O.End e = let z : ◌≡◌ {A = ℕ} 0 1 = cc in absurd (omega arith)
 
-  pub first_malformed : f.line ≡ F.Malformed → opening_in 0 last rest ≡ O.Malformed
-  first_malformed k = go (opening_in 0 last rest) (handed_malformed (opens_later at (opening_in 0 last rest)) f found k)
-    where
-      go : (x : Opening) → opens_later at x ≡ O.Malformed → x ≡ O.Malformed
-      go (O.Settings s next) k = let z : ◌≡◌ {A = ℕ} 0 1 = cc in absurd (omega arith)
-      go O.Malformed k = refl
-      go O.Unfinished k = let z : ◌≡◌ {A = ℕ} 0 1 = cc in absurd (omega arith)
-      go O.End k = let z : ◌≡◌ {A = ℕ} 0 1 = cc in absurd (omega arith)
+  pub unfinished_opens : (x : Opening) → opens_later at x ≡ O.Unfinished → x ≡ O.Unfinished
+  unfinished_opens (O.Settings r n) e = let z : ◌≡◌ {A = ℕ} 0 1 = cc in absurd (omega arith)
+  unfinished_opens O.Malformed e = let z : ◌≡◌ {A = ℕ} 0 1 = cc in absurd (omega arith)
+  unfinished_opens O.Unfinished e = refl
+  unfinished_opens O.End e = let z : ◌≡◌ {A = ℕ} 0 1 = cc in absurd (omega arith)
 
-  pub first_unfinished : f.line ≡ F.Unfinished → opening_in 0 last rest ≡ O.Unfinished
-  first_unfinished k = go (opening_in 0 last rest) (handed_unfinished (opens_later at (opening_in 0 last rest)) f found k)
-    where
-      go : (x : Opening) → opens_later at x ≡ O.Unfinished → x ≡ O.Unfinished
-      go (O.Settings s next) k = let z : ◌≡◌ {A = ℕ} 0 1 = cc in absurd (omega arith)
-      go O.Malformed k = let z : ◌≡◌ {A = ℕ} 0 1 = cc in absurd (omega arith)
-      go O.Unfinished k = refl
-      go O.End k = let z : ◌≡◌ {A = ℕ} 0 1 = cc in absurd (omega arith)
-
-  pub first_end : f.line ≡ F.End → opening_in 0 last rest ≡ O.End
-  first_end k = go (opening_in 0 last rest) (handed_end (opens_later at (opening_in 0 last rest)) f found k)
-    where
-      go : (x : Opening) → opens_later at x ≡ O.End → x ≡ O.End
-      go (O.Settings s next) k = let z : ◌≡◌ {A = ℕ} 0 1 = cc in absurd (omega arith)
-      go O.Malformed k = let z : ◌≡◌ {A = ℕ} 0 1 = cc in absurd (omega arith)
-      go O.Unfinished k = let z : ◌≡◌ {A = ℕ} 0 1 = cc in absurd (omega arith)
-      go O.End k = refl
+  pub end_opens : (x : Opening) → opens_later at x ≡ O.End → x ≡ O.End
+  end_opens (O.Settings r n) e = let z : ◌≡◌ {A = ℕ} 0 1 = cc in absurd (omega arith)
+  end_opens O.Malformed e = let z : ◌≡◌ {A = ℕ} 0 1 = cc in absurd (omega arith)
+  end_opens O.Unfinished e = let z : ◌≡◌ {A = ℕ} 0 1 = cc in absurd (omega arith)
+  end_opens O.End e = refl

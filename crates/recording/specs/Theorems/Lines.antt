@@ -6,13 +6,11 @@ use Rattle.ground.specs.Truth.{and_left, and_right}
 use Rattle.text.specs.Fields.{are_digits, hex_of, is_hex, number_of}
 use Rattle.text.specs.Text.{TAB, ahead, fields_of, parted}
 use Rattle.recording.specs.Line.{MOST}
-use Rattle.recording.specs.Opening.{Opening}
-use Rattle.recording.specs.Opening.{Opening as O}
-use Rattle.recording.specs.Opening.{handed, line_opening, opened, opened_by, opening_by, settings_by}
-use Rattle.recording.specs.Pairs.{first_pairs, pairs_from}
+use Rattle.recording.specs.declared.opening.Opening.{Opening}
+use Rattle.recording.specs.declared.opening.Opening.TheVariants as O
+use Rattle.recording.specs.Opening.{line_opening, opened, opened_by, opening_by, settings_by}
+use Rattle.recording.specs.Pairs.{first_pairs, pairs_from, settings_of}
 use Rattle.recording.specs.Record.{Lies, flag_in, frame_by, line_record, record_by}
-use Rattle.recording.specs.declared.opening.First.{First}
-use Rattle.recording.specs.declared.opening.FirstLine.TheVariants as F
 use Rattle.recording.specs.declared.pairs.Awaited.{Awaited}
 use Rattle.recording.specs.declared.pairs.Awaited.TheVariants as A
 use Rattle.recording.specs.declared.pairs.Pairs.{Pairs}
@@ -27,13 +25,14 @@ going_to n Long = Long
 going_to n Unfinished = Unfinished
 going_to n End = End
 
-frame_going : (ports : ℕ) (p h : Option ℕ) (flag : ℕ) (payload : Bool) (place n m : ℕ) → frame_by ports p h flag payload place n ≡ going_to n (frame_by ports p h flag payload place m)
+frame_going : (ports : ℕ) (p h : Option ℕ) (flag : Option Bool) (payload : Bool) (place n m : ℕ) → frame_by ports p h flag payload place n ≡ going_to n (frame_by ports p h flag payload place m)
 unfolding frame_by
-frame_going ports (Some x) (Some y) flag payload place n m = go (ltb x ports && ltb y 256 && ltb flag 2 && payload)
+frame_going ports (Some x) (Some y) (Some flag) payload place n m = go (ltb x ports && ltb y 256 && payload)
   where
     go : (b : Bool) → cond b (Frame x y flag place n) (Malformed n) ≡ going_to n (cond b (Frame x y flag place m) (Malformed m))
     go true = refl
     go false = refl
+frame_going ports (Some x) (Some y) None payload place n m = refl
 frame_going ports (Some x) None flag payload place n m = refl
 frame_going ports None h flag payload place n m = refl
 
@@ -64,7 +63,7 @@ opened_opens : (p : Pairs) (n m : ℕ) → opened p n ≡ opens_to n (opened p m
 unfolding opened
 opened_opens p n m = go p.awaited
   where
-    go : (a : Awaited) → opened_by a p.settings n ≡ opens_to n (opened_by a p.settings m)
+    go : (a : Awaited) → opened_by a (settings_of p) n ≡ opens_to n (opened_by a (settings_of p) m)
     go A.Name = refl
     go A.Kind = refl
     go (A.Time t i) = refl
@@ -102,7 +101,7 @@ opened_settled : (p : Pairs) (n : ℕ) → is_settled (opened p n) ≡ true
 unfolding opened
 opened_settled p n = go p.awaited
   where
-    go : (a : Awaited) → is_settled (opened_by a p.settings n) ≡ true
+    go : (a : Awaited) → is_settled (opened_by a (settings_of p) n) ≡ true
     go A.Name = refl
     go A.Kind = refl
     go (A.Time t i) = refl
@@ -129,56 +128,19 @@ opening_settled n line = go (leb (length line) MOST)
     go true = fields_settled n (fields_of line)
     go false = refl
 
--- what is handed over of a first line tells which one it was
-module _ (x : Opening) (f : First) (e : f ≡ handed x) where
-  pub handed_set : f.line ≡ F.Settings → x ≡ O.Settings f.settings f.next
-  handed_set k = rw e (go x (rw e at k))
-    where
-      go : (x : Opening) → (handed x).line ≡ F.Settings → x ≡ O.Settings (handed x).settings (handed x).next
-      go (O.Settings s next) m = refl
-      go O.Malformed m = let z : ◌≡◌ {A = ℕ} 0 1 = cc in absurd (omega arith)
-      go O.Unfinished m = let z : ◌≡◌ {A = ℕ} 0 1 = cc in absurd (omega arith)
-      go O.End m = let z : ◌≡◌ {A = ℕ} 0 1 = cc in absurd (omega arith)
-
-  pub handed_malformed : f.line ≡ F.Malformed → x ≡ O.Malformed
-  handed_malformed k = go x (rw e at k)
-    where
-      go : (x : Opening) → (handed x).line ≡ F.Malformed → x ≡ O.Malformed
-      go (O.Settings s next) m = let z : ◌≡◌ {A = ℕ} 0 1 = cc in absurd (omega arith)
-      go O.Malformed m = refl
-      go O.Unfinished m = let z : ◌≡◌ {A = ℕ} 0 1 = cc in absurd (omega arith)
-      go O.End m = let z : ◌≡◌ {A = ℕ} 0 1 = cc in absurd (omega arith)
-
-  pub handed_unfinished : f.line ≡ F.Unfinished → x ≡ O.Unfinished
-  handed_unfinished k = go x (rw e at k)
-    where
-      go : (x : Opening) → (handed x).line ≡ F.Unfinished → x ≡ O.Unfinished
-      go (O.Settings s next) m = let z : ◌≡◌ {A = ℕ} 0 1 = cc in absurd (omega arith)
-      go O.Malformed m = let z : ◌≡◌ {A = ℕ} 0 1 = cc in absurd (omega arith)
-      go O.Unfinished m = refl
-      go O.End m = let z : ◌≡◌ {A = ℕ} 0 1 = cc in absurd (omega arith)
-
-  pub handed_end : f.line ≡ F.End → x ≡ O.End
-  handed_end k = go x (rw e at k)
-    where
-      go : (x : Opening) → (handed x).line ≡ F.End → x ≡ O.End
-      go (O.Settings s next) m = let z : ◌≡◌ {A = ℕ} 0 1 = cc in absurd (omega arith)
-      go O.Malformed m = let z : ◌≡◌ {A = ℕ} 0 1 = cc in absurd (omega arith)
-      go O.Unfinished m = let z : ◌≡◌ {A = ℕ} 0 1 = cc in absurd (omega arith)
-      go O.End m = refl
-
 -- a line is a frame or malformed, and names the next one
 pub data IsLine : Record → Type 0 where
-  frame : {port h4 flag place next : ℕ} → IsLine (Frame port h4 flag place next)
+  frame : {port h4 : ℕ} {flag : Bool} {place next : ℕ} → IsLine (Frame port h4 flag place next)
   malformed : {next : ℕ} → IsLine (Malformed next)
 
-frame_line_lem : (ports : ℕ) (p h : Option ℕ) (flag : ℕ) (payload : Bool) (place n : ℕ) → IsLine (frame_by ports p h flag payload place n)
+frame_line_lem : (ports : ℕ) (p h : Option ℕ) (flag : Option Bool) (payload : Bool) (place n : ℕ) → IsLine (frame_by ports p h flag payload place n)
 unfolding frame_by
-frame_line_lem ports (Some x) (Some y) flag payload place n = go (ltb x ports && ltb y 256 && ltb flag 2 && payload)
+frame_line_lem ports (Some x) (Some y) (Some flag) payload place n = go (ltb x ports && ltb y 256 && payload)
   where
     go : (b : Bool) → IsLine (cond b (Frame x y flag place n) (Malformed n))
     go true = frame
     go false = malformed
+frame_line_lem ports (Some x) (Some y) None payload place n = malformed
 frame_line_lem ports (Some x) None flag payload place n = malformed
 frame_line_lem ports None h flag payload place n = malformed
 
@@ -220,13 +182,14 @@ weight_fields (b ∷ line) = go (eqb b TAB) (weight_fields line)
 lies_none : (size end n : ℕ) → Lies size end (Malformed n)
 lies_none size end n = record { within = λ port h4 flag place next e. let z : ◌≡◌ {A = ℕ} 0 1 = cc in absurd (omega arith) }
 
-frame_lies : (ports : ℕ) (p h : Option ℕ) (flag : ℕ) (payload : Bool) (place n size end : ℕ) → (payload ≡ true → place + size + size ≤ end) → Lies size end (frame_by ports p h flag payload place n)
+frame_lies : (ports : ℕ) (p h : Option ℕ) (flag : Option Bool) (payload : Bool) (place n size end : ℕ) → (payload ≡ true → place + size + size ≤ end) → Lies size end (frame_by ports p h flag payload place n)
 unfolding frame_by
-frame_lies ports (Some x) (Some y) flag payload place n size end h = go (ltb x ports && ltb y 256 && ltb flag 2 && payload) refl
+frame_lies ports (Some x) (Some y) (Some flag) payload place n size end h = go (ltb x ports && ltb y 256 && payload) refl
   where
-    go : (b : Bool) → (ltb x ports && ltb y 256 && ltb flag 2 && payload) ≡ b → Lies size end (cond b (Frame x y flag place n) (Malformed n))
-    go true t = record { within = λ port h4 f q next e. let z : place ≡ q = cc in rw (← z) (h (and_right (ltb x ports && ltb y 256 && ltb flag 2) payload t)) }
+    go : (b : Bool) → (ltb x ports && ltb y 256 && payload) ≡ b → Lies size end (cond b (Frame x y flag place n) (Malformed n))
+    go true t = record { within = λ port h4 f q next e. let z : place ≡ q = cc in rw (← z) (h (and_right (ltb x ports && ltb y 256) payload t)) }
     go false t = lies_none size end n
+frame_lies ports (Some x) (Some y) None payload place n size end h = lies_none size end n
 frame_lies ports (Some x) None flag payload place n size end h = lies_none size end n
 frame_lies ports None hh flag payload place n size end h = lies_none size end n
 

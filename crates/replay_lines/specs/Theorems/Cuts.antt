@@ -15,8 +15,8 @@ use Rattle.packet.specs.Kinds.{frames}
 use Rattle.receiver.specs.Fetch.{fetch_of}
 use Rattle.receiver.specs.Frame.{frame_of}
 use Rattle.receiver.specs.Laws.Sizes.{start_sizes_of}
-use Rattle.recording.specs.Opening.{Opening}
-use Rattle.recording.specs.Opening.{Opening as O}
+use Rattle.recording.specs.declared.opening.Opening.{Opening}
+use Rattle.recording.specs.declared.opening.Opening.TheVariants as O
 use Rattle.recording.specs.Theorems.Lines.{IsLine, going_to, is_line, is_settled, line_going, line_lies, line_opens, opening_settled, opens_to}
 use Rattle.recording.specs.Theorems.Lines.IsLine.{frame, malformed}
 use Rattle.recording.specs.declared.pairs.Settings.{Settings as GroupSettings}
@@ -223,18 +223,18 @@ module _ (out : List ℕ) (line kind ports size window : ℕ) (rows : List (List
           })
 
 -- a frame keeps the lengths of rows and store
-module _ (r : Replay) (port h4 flag : ℕ) (payload : List ℕ) (rows : List (List ℕ)) (store : List ℕ) where
+module _ (r : Replay) (port h4 : ℕ) (flag : Bool) (payload : List ℕ) (rows : List (List ℕ)) (store : List ℕ) where
   framed_rows_lem : rows_for r.ports ≤ length rows → length (T.framed_rows r port h4 flag payload rows store) ≡ length rows
   unfolding T.framed_rows
   framed_rows_lem h =
-      length_part (rows_for r.ports) rows (frame_of (take (rows_for r.ports) rows) port (flag == 1) h4 payload (take (store_of r.ports r.size r.window) store)).rows h
-      (length_frame_rows (take (rows_for r.ports) rows) port (flag == 1) h4 payload (take (store_of r.ports r.size r.window) store))
+      length_part (rows_for r.ports) rows (frame_of (take (rows_for r.ports) rows) port flag h4 payload (take (store_of r.ports r.size r.window) store)).rows h
+      (length_frame_rows (take (rows_for r.ports) rows) port flag h4 payload (take (store_of r.ports r.size r.window) store))
 
   framed_store_lem : store_of r.ports r.size r.window ≤ length store → length (T.framed_store r port h4 flag payload rows store) ≡ length store
   unfolding T.framed_store
   framed_store_lem h =
-      length_part (store_of r.ports r.size r.window) store (frame_of (take (rows_for r.ports) rows) port (flag == 1) h4 payload (take (store_of r.ports r.size r.window) store)).store h
-      (length_frame_store (take (rows_for r.ports) rows) port (flag == 1) h4 payload (take (store_of r.ports r.size r.window) store))
+      length_part (store_of r.ports r.size r.window) store (frame_of (take (rows_for r.ports) rows) port flag h4 payload (take (store_of r.ports r.size r.window) store)).store h
+      (length_frame_store (take (rows_for r.ports) rows) port flag h4 payload (take (store_of r.ports r.size r.window) store))
 
 long_line : (ports size : ℕ) (l : List ℕ) → MOST < length l → line_record ports size 0 0 l ≡ Malformed 0
 unfolding line_record
@@ -291,7 +291,7 @@ module _ (out : List ℕ) (line left kind ports size window : ℕ) (rows : List 
   module _ (last : Bool) (f : Fit out reading) (n : ℕ) (l : List ℕ) (now : T.now_in reading.replay text last ≡ line_record ports size 0 n l)
       (lines : (more : List ℕ) → (last ≡ true → more ≡ []) → lines_of (text ++ more) ≡ l ∷ lines_of (drop n text ++ more))
       (parts : (p e : ℕ) → e ≤ length l → slice p e text ≡ slice p e l) where
-    frame_keeps : (port h4 flag place next : ℕ) → line_record ports size 0 n l ≡ Frame port h4 flag place next → Keeps out last reading (called last reading)
+    frame_keeps : (port h4 : ℕ) (flag : Bool) (place next : ℕ) → line_record ports size 0 n l ≡ Frame port h4 flag place next → Keeps out last reading (called last reading)
     unfolding called T.turn_of T.turn_rows T.turn_store T.turn_out T.turn_said T.read_turn T.read_rows T.read_store T.read_said T.framed_turn said_to desk_after
     frame_keeps port h4 flag place next e =
         let t = lent_is reading.replay (length rows) (length store) (length lent) (length buffer) f.lent in

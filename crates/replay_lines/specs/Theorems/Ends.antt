@@ -7,8 +7,8 @@ use lib.ListN.{length-drop}
 use borrow.Author.Tests.{eqb-false, ltb-true}
 use Rattle.ground.specs.Finding.{index_of}
 use Rattle.ground.specs.Truth.{or_right}
-use Rattle.recording.specs.Opening.{Opening}
-use Rattle.recording.specs.Opening.{Opening as O}
+use Rattle.recording.specs.declared.opening.Opening.{Opening}
+use Rattle.recording.specs.declared.opening.Opening.TheVariants as O
 use Rattle.recording.specs.Theorems.Lines.{IsLine, going_to, is_line, line_going}
 use Rattle.recording.specs.Theorems.Lines.IsLine.{frame, malformed}
 use Rattle.recording.specs.declared.pairs.Settings.{Settings as GroupSettings}

@@ -6,8 +6,9 @@ use Rattle.ground.specs.Finding.{index_of}
 use Rattle.ground.specs.Plain.{◌≤?◌}
 use Rattle.ground.specs.Truth.{and_left}
 use Rattle.recording.specs.Line.{MOST, found_of}
-use Rattle.recording.specs.Opening.{Opening, opening_in}
-use Rattle.recording.specs.Opening.{Opening as O}
+use Rattle.recording.specs.declared.opening.Opening.{Opening}
+use Rattle.recording.specs.Opening.{opening_in}
+use Rattle.recording.specs.declared.opening.Opening.TheVariants as O
 use Rattle.recording.specs.declared.pairs.Settings.{Settings}
 use Rattle.replay_lines.specs.declared.replay.Replay.{Replay}
 use Rattle.replay_lines.specs.Laws.Lent.{lent_is}

@@ -1,6 +1,6 @@
 -- What one line does to the output of a recording (2026-05).
 use Rattle.std.specs.Prelude.{◌≡◌, ℕ, false, List, [], ◌∷◌, ◌++◌, length, refl}
-use Rattle.recording.specs.Opening.{Opening as O}
+use Rattle.recording.specs.declared.opening.Opening.TheVariants as O
 use Rattle.recording.specs.declared.record.Record.TheVariants.{Malformed}
 use Rattle.recording.specs.declared.pairs.Settings.{Settings as GroupSettings}
 use Rattle.recording.specs.Opening.{line_opening}

@@ -2,8 +2,8 @@
 use Rattle.std.specs.Prelude.{◌≡◌, ℕ, Bool, true, false, List, [], ◌∷◌, length}
 use Rattle.std.proofs.Math.Path.{refl, sym}
 use Rattle.std.proofs.Common.{◌∙◌}
-use Rattle.recording.specs.Opening.{Opening}
-use Rattle.recording.specs.Opening.{Opening as O}
+use Rattle.recording.specs.declared.opening.Opening.{Opening}
+use Rattle.recording.specs.declared.opening.Opening.TheVariants as O
 use Rattle.recording.specs.declared.pairs.Settings.{Settings as GroupSettings}
 use Rattle.recording.specs.Opening.{line_opening}
 use Rattle.replay_lines.specs.Replay.{beginning}

@@ -1,8 +1,8 @@
 -- A text parted at its marks, piece by piece.
-use Rattle.std.specs.Prelude.{◌≡◌, refl, Bool, true, false, List, [], ◌∷◌, ℕ, suc, ◌≤◌, ◌<◌, eqb, length, take, drop}
+use Rattle.std.specs.Prelude.{◌≡◌, refl, Bool, true, false, cond, List, [], ◌∷◌, ℕ, suc, ◌≤◌, ◌<◌, eqb, length, take, drop}
 use Rattle.std.proofs.Common.{le_of_suc-le-suc, not-suc-le-zero, arith}
 use Rattle.ground.specs.Finding.{index_of, index_after}
-use Rattle.text.specs.Text.{parted}
+use Rattle.text.specs.Text.{TAB, ahead, fields_of, parted}
 
 pub index_le : (m : ℕ) (l : List ℕ) → index_of m l ≤ length l
 unfolding index_of index_after
@@ -34,3 +34,14 @@ parted_none m (b ∷ l) h = go (eqb b m) refl (parted_none m l)
     go : (t : Bool) → eqb b m ≡ t → (index_of m l ≡ length l → parted m ([] ∷ []) l ≡ l ∷ []) → parted m ([] ∷ []) (b ∷ l) ≡ (b ∷ l) ∷ []
     go true e rest = let k = rw e at h in absurd (omega arith)
     go false e rest = let k = rw e at h in rw (e, rest (omega arith))
+
+-- a line has a field
+pub fields_some : (l : List ℕ) → (a : List ℕ) × (b : List (List ℕ)) × (fields_of l ≡ a ∷ b)
+unfolding fields_of
+fields_some [] = ([], [], refl)
+fields_some (x ∷ l) = go (eqb x TAB) (fields_some l)
+  where
+    go : (t : Bool) → (a : List ℕ) × (b : List (List ℕ)) × (parted TAB ([] ∷ []) l ≡ a ∷ b)
+        → (a : List ℕ) × (b : List (List ℕ)) × (cond t ([] ∷ parted TAB ([] ∷ []) l) (ahead x (parted TAB ([] ∷ []) l)) ≡ a ∷ b)
+    go true f = ([], parted TAB ([] ∷ []) l, refl)
+    go false (a, b, e) = (x ∷ a, b, rw e refl)

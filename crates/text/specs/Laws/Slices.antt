@@ -1,6 +1,6 @@
 -- Parts of a text up to a limit, which may lie past its end, and the fields of a part, one by one.
-use Rattle.std.specs.Prelude.{◌≡◌, refl, List, [], ◌∷◌, length, take, get_or}
-use Rattle.std.proofs.Common.{sym, ap, ◌∙◌, add-one, length-take, drop_of_length-le, drop-cons, get_or-take, length-take-le, take-take}
+use Rattle.std.specs.Prelude.{◌≡◌, List, [], ◌∷◌, length, take, get_or}
+use Rattle.std.proofs.Common.{sym, ◌∙◌, add-one, length-take, drop-cons, get_or-take, length-take-le, take-take}
 use Prim.Native.Nat.{ℕ, zero, suc, ◌+◌, ◌≤◌, ◌<◌}
 use native.Mathlib.Omega.{arith}
 use Rattle.std.proofs.Math.Seq.{slice, drop-drop, length-slice, take-nil}
@@ -11,21 +11,7 @@ use Rattle.text.specs.Text.{TAB, fields_of}
 pub end_within : (l : List ℕ) (limit : ℕ) → limit < length l → limit ≡ length (take limit l)
 end_within l limit h = sym (length-take-le limit l (omega arith))
 
-take_end : (limit : ℕ) (l : List ℕ) → take (length (take limit l)) l ≡ take limit l
-take_end zero l = refl
-take_end (suc n) [] = refl
-take_end (suc n) (x ∷ l) = ap (λ (r : List ℕ). x ∷ r) (take_end n l)
-
 module _ (l : List ℕ) (limit end : ℕ) (e : end ≡ length (take limit l)) where
-  pub end_le : end ≤ length l
-  end_le = let m = length-take limit l in omega arith
-
-  pub slice_end : (at : ℕ) → slice at end l ≡ slice at limit l
-  slice_end at = rw (e, take_end limit l)
-
-  pub slice_none : (at : ℕ) → end ≤ at → slice at limit l ≡ []
-  slice_none at h = drop_of_length-le (take limit l) {i = at} (omega arith)
-
   pub slice_more : (at : ℕ) → at < end → slice at limit l ≡ get_or l at 0 ∷ slice (at + 1) limit l
   slice_more at h =
       let k : at < length (take limit l) = omega arith in
@@ -45,9 +31,6 @@ take_slice (suc at) i (suc end) (x ∷ l) h =
     rw e (take_slice at i end l (omega arith))
 
 module _ (l : List ℕ) (at end first : ℕ) (h : at ≤ end) (k : end ≤ length l) (e : first ≡ at + index_of TAB (slice at end l)) where
-  pub first_le : first ≤ end
-  first_le = let n = length-slice at end l k in let m = index_le TAB (slice at end l) in omega arith
-
   pub fields_last : end ≤ first → fields_of (slice at end l) ≡ slice at end l ∷ []
   unfolding fields_of
   fields_last b =

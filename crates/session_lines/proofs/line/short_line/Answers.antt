@@ -1,9 +1,9 @@
-use mathlib.Core.Path.{◌∙◌}
-use Rattle.session_lines.proofs.Parting.{one, some}
+-- A line of more fields than a report has.
+use Rattle.std.proofs.Common.{refl}
+use Rattle.text.specs.Laws.Parted.{fields_some}
 use Rattle.session_lines.proofs.line.short_line.Goals as goal
 
-pub returns-then-end-first : goal.returns-then-end-first
-returns-then-end-first c = c.word_line.ensures ∙ one c.args.text.now c.args.at c.args.end c.piece_end-first.result c.requires.0 c.requires.1 c.piece_end-first.ensures c.if-end-first.true
-
-pub returns : goal.returns
-returns c = c.rest_line.ensures ∙ some c.args.text.now c.args.at c.args.end c.piece_end-first.result c.requires.0 c.requires.1 c.piece_end-first.ensures c.if-end-first.false
+pub returns-in-Some-parted-3 : goal.returns-in-Some-parted-3
+returns-in-Some-parted-3 c =
+    let f = fields_some c.in-Some-parted-3.field-0.1.now in
+    rw (c.in-Some.ensures.fields.0, c.in-Some-parted.ensures.fields.0, c.in-Some-parted-2.ensures.fields.0, c.in-Some-parted-3.ensures.fields.0, f.2) refl
