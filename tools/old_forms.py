@@ -167,7 +167,7 @@ def point_4(files, all_functions):
             yield "the bytes of a number by hand", f.path, at, f.name
         if re.search(r"\bone_if\(", f.body):
             yield "a flag turned into a number by hand", f.path, at, f.name
-        for m in re.finditer(r"\{\n((?:\s+[^\n{}]*,\n)+)\s*\}", f.body):
+        for m in re.finditer(r"\{\n((?:[ ]+[^\s{}][^\n{}]*,\n)+)[ ]*\}", f.body):
             same = collections.Counter(o for n, o, p in re.findall(r"(?m)^\s+(\w+): (\w+)\.(\w+),$", m[1]) if n == p)
             if same and max(same.values()) >= 2:
                 yield "a struct's fields copied one by one", f.path, at + f.body.count("\n", 0, m.start()), f.name

@@ -13,7 +13,7 @@ PATH = re.compile(r"(?<![\w/.-])(?:crates|docs|host|include|debian)/[\w./-]*\w|\
 def files(top):
     """The files of the folder, but what is built, what git and rt keep, and patches that are not part of the tree."""
     found = (p.relative_to(top) for p in top.rglob("*") if p.is_file())
-    return sorted(p.as_posix() for p in found if p.parts[0] not in ("target", ".git", "wip") and not (p.parts[0] == "crates" and p.parts[2:3] == ("out",)))
+    return sorted(p.as_posix() for p in found if p.suffix != ".patch" and p.parts[0] not in ("target", ".git", "wip") and not (p.parts[0] == "crates" and p.parts[2:3] == ("out",)))
 
 
 def text_of(path):
