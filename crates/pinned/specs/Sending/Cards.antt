@@ -13,7 +13,7 @@ use Rattle.cards.specs.Views.{Asked, Made, asked_by, bits_of, reply_to, run}
 use Rattle.cards.specs.Views.Asked.{Board, Do, Outgoing, Owned, Packet, Payload, Ranks}
 use Rattle.cards.specs.Views.Reply.{Answered, Owns, Ranked, Showed, Wrote}
 use Rattle.pinned.specs.Filled.{nines}
-use Rattle.orders.specs.Orders.{finish_of, first_answers, first_ordered, turns_of}
+use Rattle.orders.specs.Orders.{answers_of, first_answers, first_ordered, ordered_of}
 use Rattle.orders.specs.Shown.{add, claim, release, remove}
 use Rattle.orders.specs.Singles.{answers_to, commands_of, single_numbers}
 use Rattle.sender.specs.declared.board.Row.{Row}
@@ -235,15 +235,15 @@ orders =
     ∷ row "64 are taken" (answer_number (first_ordered fresh (replicate 65 (claim 0 0)) 64 64).answer) 0 same
     ∷ row "65 answers lent stay" (first_answers fresh (claim 0 0 ∷ []) 65 (7 ∷ [])) (7 ∷ []) same
     ∷ row "group 1 in an order" (first_ordered fresh (claim 1 1 ∷ []) 1 1).card.owners (0 ∷ 2 ∷ replicate 62 0) same
-    ∷ row "three turns of three" (turns_of 3 3) 3 same
-    ∷ row "none of three where two are lent" (turns_of 3 2) 0 same
-    ∷ row "the answer after all turns" (finish_of fresh 3 3).answer A.Done same
-    ∷ row "the answer where two are lent" (finish_of fresh 3 2).answer A.Length same
+    ∷ row "three turns of three" (answers_of fresh (claim 0 0 ∷ claim 1 1 ∷ claim 0 2 ∷ []) (9 ∷ 9 ∷ 9 ∷ [])) (0 ∷ 0 ∷ 0 ∷ []) same
+    ∷ row "none of three where two are lent" (answers_of fresh (claim 0 0 ∷ claim 1 1 ∷ claim 0 2 ∷ []) (9 ∷ 9 ∷ [])) (9 ∷ 9 ∷ []) same
+    ∷ row "the answer after all turns" (ordered_of fresh (claim 0 0 ∷ claim 1 1 ∷ claim 0 2 ∷ []) 3).answer A.Done same
+    ∷ row "the answer where two are lent" (ordered_of fresh (claim 0 0 ∷ claim 1 1 ∷ claim 0 2 ∷ []) 2).answer A.Length same
     ∷ row "each answered as if alone" (single_numbers fresh (claim 0 0 ∷ add 0 0 ∷ release 0 0 ∷ remove 1 0 ∷ [])) (0 ∷ 0 ∷ 15 ∷ 14 ∷ []) same
     ∷ row "group 1's commands among three" (commands_of 1 (claim 0 0 ∷ claim 1 1 ∷ claim 0 2 ∷ [])) (claim 1 1 ∷ []) same
     ∷ row "group 1's commands among three, their answers" (answers_to 1 (claim 0 0 ∷ claim 1 1 ∷ claim 0 2 ∷ []) (4 ∷ 5 ∷ 6 ∷ [])) (5 ∷ []) same
-    ∷ row "none of two where three are lent" (turns_of 2 3) 0 same
-    ∷ row "the answer there" (finish_of fresh 2 3).answer A.Length same
+    ∷ row "none of two where three are lent" (answers_of fresh (claim 0 0 ∷ claim 1 1 ∷ []) (9 ∷ 9 ∷ 9 ∷ [])) (9 ∷ 9 ∷ 9 ∷ []) same
+    ∷ row "the answer there" (ordered_of fresh (claim 0 0 ∷ claim 1 1 ∷ []) 3).answer A.Length same
     ∷ row "a slot that changes hands in one order" (single_numbers fresh (claim 0 2 ∷ add 0 2 ∷ remove 0 2 ∷ release 0 2 ∷ claim 1 2 ∷ [])) (0 ∷ 0 ∷ 0 ∷ 0 ∷ 0 ∷ []) same
     ∷ row "group 1's commands among two" (commands_of 1 (claim 0 1 ∷ claim 1 0 ∷ [])) (claim 1 0 ∷ []) same
     ∷ row "group 1's commands among two, their answers" (answers_to 1 (claim 0 1 ∷ claim 1 0 ∷ []) (4 ∷ 5 ∷ [])) (5 ∷ []) same
