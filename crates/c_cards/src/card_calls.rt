@@ -1,5 +1,5 @@
 // Two circuits on one card for C. The whole state is a lent buffer: the owner row, then a sender's state for each group. A call reads and writes the owner row and its group's own part.
-ghost use Rattle.std.specs.Prelude.{◌≡◌, true, ◌<◌, length};
+ghost use Rattle.std.specs.Prelude.{◌≡◌, true, ◌<◌, length, if◌then◌else◌, ◌==◌};
 ghost use Rattle.ground.specs.Refusals.{number_told};
 ghost use Rattle.cards.specs.Answers.{refusal_number};
 ghost use Rattle.cards.specs.Calls.Call.{Claim, Release, AddSlot, RemoveSlot, Report, Lapse, StartEpoch};
@@ -60,6 +60,8 @@ pub(crate) fn part_in(state: &[u8], group: u32) -> Sender
 }
 
 // The card as one group may know it: its own sender stands in the other's place too, so that the other's part is not read.
+// Inlined, as the other three: a card handed on lies on the stack twice, and a call would take 8,538 bytes of it.
+#[inline(always)]
 pub(crate) fn own_card(state: &[u8], group: u32) -> Card
     requires { length state.now ≡ card_bytes }
     ensures { result ≡ alone group (card_of state.now) }
@@ -73,6 +75,7 @@ pub(crate) fn own_card(state: &[u8], group: u32) -> Card
     }
 }
 
+#[inline(always)]
 fn put_part(sender: Sender, group: u32, state: &mut [u8])
     requires { length state.old ≡ card_bytes }
     ensures { state.new ≡ fill_at (part_at group) state_bytes (byte_at sender) state.old }
@@ -84,25 +87,36 @@ fn put_part(sender: Sender, group: u32, state: &mut [u8])
     keeping::put_sender(sender, &mut state[SECOND_PART..CARD_BYTES]);
 }
 
+// Behind a reference, so that no call lays a second card on the stack.
+fn sender_in(card: &Card, group: u32) -> Sender
+    ensures { result ≡ (if group == 0 then card.now.first else card.now.second) }
+{
+    if group == 0 { card.first } else { card.second }
+}
+
+#[inline(always)]
 pub(crate) fn put_own(card: Card, group: u32, state: &mut [u8])
     requires { length state.old ≡ card_bytes }
     ensures { state.new ≡ put_own group card state.old }
 {
-    let owners = card.owners;
-    let sender = cards::sender_of(card, group);
-    keeping::put_bytes(&owners, 0, state);
+    let sender = sender_in(&card, group);
+    keeping::put_bytes(&card.owners, 0, state);
     put_part(sender, group, state);
 }
 
 // What a call leaves: the owner row and the group's part, and under a refusal the bytes as they were.
+#[inline(always)]
 pub(crate) fn keep(answer: Result<Card, cards::Refusal>, group: u32, state: &mut [u8]) -> u8
     requires { length state.old ≡ card_bytes }
     ensures { (result ≡ number_told refusal_number answer) × (state.new ≡ told_card group answer state.old) }
 {
-    if let Ok(card) = answer {
-        put_own(card, group, state);
+    match answer {
+        Ok(card) => {
+            put_own(card, group, state);
+            0
+        }
+        Err(refusal) => refusal.number(),
     }
-    ground::number_told(answer)
 }
 
 fn put_whole(card: Card, state: &mut [u8])
