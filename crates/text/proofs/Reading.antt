@@ -1,6 +1,7 @@
 -- What the readers of fields find.
-use Rattle.std.proofs.Common.{◌≡◌, refl, sym, ap, ◌∙◌, Bool, true, false, cond, ◌&&◌, List, [], ◌∷◌, ◌++◌, ℕ, zero, suc, ◌+◌, ◌*◌, ◌^◌, ◌≤◌, ◌<◌, Option, Some, None, unwrap_or, eqb, ltb, length, take, drop, get_or, arith, add-one, ltb-false, ltb-true, pow-suc, take-suc}
+use Rattle.std.proofs.Common.{◌≡◌, refl, sym, ap, ◌∙◌, Bool, true, false, cond, ◌&&◌, List, [], ◌∷◌, ◌++◌, ℕ, zero, suc, ◌+◌, ◌*◌, ◌^◌, ◌≤◌, ◌<◌, Option, Some, None, unwrap_or, eqb, ltb, length, take, drop, get_or, arith, add-one, drop_of_length-le, eq-eqb, ne_eqb, ltb-false, ltb-true, pow-suc, take-suc}
 use Rattle.std.specs.List.{position, position_or_len}
+use Rattle.std.proofs.Math.Seq.{slice}
 use mathlib.Core.Bool.{and_assoc, and-true}
 use Rattle.std.proofs.lemmas.List.Recursion.{is_position_or_len}
 use lib.Pointwise.{pointwise}
@@ -9,6 +10,7 @@ use Rattle.ground.specs.Finding.{index_after, index_of}
 use Rattle.ground.specs.Truth.{and_left, and_right}
 use Rattle.text.specs.Fields.{are_digits, digit_of, same_bytes, value_of}
 use Rattle.text.specs.Laws.Parted.{index_le, parted_more, parted_none}
+use Rattle.text.specs.Laws.Slices.{slice_more}
 use Rattle.text.specs.Text.{TAB, fields_of, first_part, parted}
 
 -- texts compared, as the code does it
@@ -32,6 +34,20 @@ index_position m l =
     either : (t : Bool) → ltb (index_of m l) (length l) ≡ t → index_of m l ≤ length l → unwrap_or (cond t (Some (index_of m l)) None) (length l) ≡ index_of m l
     either true e h = refl
     either false e h = let k = ltb-false (index_of m l) (length l) e in omega arith
+
+-- the first mark of a part, a byte further on
+module _ (l : List ℕ) (limit end : ℕ) (e : end ≡ length (take limit l)) (m i : ℕ) where
+  pub mark_here : i < end → get_or l i 0 ≡ m → index_of m (slice i limit l) ≡ 0
+  unfolding index_of index_after
+  mark_here h s = rw (slice_more l limit end e i h, eq-eqb (get_or l i 0) m s) refl
+
+  pub mark_on : i < end → (get_or l i 0 ≡ m → ⊥) → index_of m (slice i limit l) ≡ suc (index_of m (slice (i + 1) limit l))
+  unfolding index_of index_after
+  mark_on h d = rw (slice_more l limit end e i h, ne_eqb (get_or l i 0) m d) refl
+
+  pub mark_none : end ≤ i → index_of m (slice i limit l) ≡ 0
+  unfolding index_of
+  mark_none h = rw (drop_of_length-le (take limit l) {i = i} (omega arith)) refl
 
 -- digits, one more
 digits_snoc : (base : ℕ) (l : List ℕ) (b : ℕ) → are_digits base (l ++ (b ∷ [])) ≡ (are_digits base l && ltb (digit_of b) base)
