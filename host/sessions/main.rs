@@ -13,8 +13,15 @@ mod random;
 
 use count::Count;
 use random::Random;
-use std::io::Write;
+use std::io::{Read, Write};
+use std::os::fd::FromRawFd;
 use std::process::{Command, Stdio};
+
+/// What a program reads at once.
+const PART: usize = 4096;
+
+/// What a pipe of one page still takes, when the program starts.
+const ROOM: usize = 100;
 
 fn program(words: &[String], input: &[u8]) -> Vec<u8> {
     let mut child = Command::new(&words[0]).args(&words[1..]).stdin(Stdio::piped()).stdout(Stdio::piped()).spawn().expect("the session program starts");
@@ -24,6 +31,53 @@ fn program(words: &[String], input: &[u8]) -> Vec<u8> {
     let output = child.wait_with_output().expect("it ends");
     let _ = writer.join();
     output.stdout
+}
+
+extern "C" {
+    fn pipe(ends: *mut i32) -> i32;
+    fn fcntl(file: i32, command: i32, ...) -> i32;
+}
+
+/// What the program writes to a pipe that takes so many bytes more and then refuses: a longer answer fails as a whole, and a shorter one
+/// behind it may go in. The input is a file, so that the program reads it in whole parts.
+fn into_a_narrow_pipe(words: &[String], input: &[u8]) -> Vec<u8> {
+    const SET_FLAGS: i32 = 4;
+    const NONBLOCK: i32 = 0o4000;
+    const SET_SIZE: i32 = 1031;
+    let file = "target/host/narrow.in";
+    std::fs::write(file, input).expect("the input is written");
+    let mut ends = [0; 2];
+    // the two numbers are written, and each end is owned once
+    let (mut from, mut to) = unsafe {
+        assert_eq!(pipe(ends.as_mut_ptr()), 0, "a pipe");
+        assert_eq!(fcntl(ends[1], SET_SIZE, 4096), 4096, "of one page");
+        assert_eq!(fcntl(ends[1], SET_FLAGS, NONBLOCK), 0, "that refuses what it has no room for");
+        (std::fs::File::from_raw_fd(ends[0]), std::fs::File::from_raw_fd(ends[1]))
+    };
+    to.write_all(&vec![0; 4096 - ROOM]).expect("it is filled");
+    let from_file = std::fs::File::open(file).expect("the input is read");
+    let status = Command::new(&words[0]).args(&words[1..]).stdin(from_file).stdout(to).status();
+    status.expect("the session program starts");
+    let mut said = Vec::new();
+    from.read_to_end(&mut said).expect("what it wrote is read");
+    said.split_off(4096 - ROOM)
+}
+
+/// What is to go into such a pipe: of the first part each answer for which there is room, the last line's too, which the part may cut.
+fn narrowed(by_reference: &dyn Fn(&[u8]) -> String, input: &[u8]) -> Vec<u8> {
+    let part = &input[..PART.min(input.len())];
+    let mut wanted = Vec::new();
+    let mut before = 0;
+    let ends = (1..=part.len()).filter(|n| part[n - 1] == b'\n' || *n == part.len());
+    for end in ends {
+        let said = by_reference(&part[..end]).into_bytes();
+        let answer = &said[before..];
+        if wanted.len() + answer.len() <= ROOM {
+            wanted.extend(answer);
+        }
+        before = said.len();
+    }
+    wanted
 }
 
 /// The sessions of the file: a comment names one, lines after '< ' go in and lines after '> ' come out.
@@ -128,6 +182,14 @@ fn main() {
         }
     }
     count.note(&format!("200 made-up sessions, {} lines of output", lines), differing == 0);
+
+    let table = b"size\t64\nadd\t1\nboard\nepoch\nadd\t2\nlapse\nboard\nlapse\n".as_slice();
+    let (first, longer) = (table.repeat(3), table.repeat(200));
+    for (name, input) in [("a part", &first), ("more than a part", &longer)] {
+        let wanted = narrowed(&by_reference, input);
+        let held = into_a_narrow_pipe(command, input) == wanted;
+        count.note(&format!("{}: {} bytes of {}, some of which cannot be written", words[0], wanted.len(), name), held);
+    }
 
     std::process::exit(count.tally());
 }

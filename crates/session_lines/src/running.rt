@@ -10,7 +10,7 @@ impl From<Refusal> for io::Error {
     }
 }
 
-// A part of the input, line by line.
+// A part of the input, line by line. Where an answer cannot be written, the lines behind it in the part are answered all the same.
 fn feed_all<C: Console>(
     rt: &impl Print,
     console: &mut C,
@@ -18,13 +18,14 @@ fn feed_all<C: Console>(
     out: &mut [u8],
 ) -> io::Result<()> {
     let mut rest = input;
+    let mut wrote = Ok(());
     while !rest.is_empty() {
         let fed = console::feed_any(*console, rest, out)?;
         *console = fed.console;
-        rt.write_all(&out[..fed.written])?;
+        wrote = wrote.and(rt.write_all(&out[..fed.written]));
         rest = &rest[fed.used..];
     }
-    Ok(())
+    wrote
 }
 
 // A proved loop has to end, and nothing says that the input does: the turns are counted up to a number that no run uses up.
@@ -50,7 +51,7 @@ fn end<C: Console>(rt: &impl Print, console: C, out: &mut [u8]) -> io::Result<()
     rt.write_all(&out[..fed.written])
 }
 
-// Where a read fails there is no more input, and where an answer cannot be written nobody to read on for. The last line may lack its end.
+// Where a read fails there is no more input, and behind a part of which an answer could not be written nobody to read on for. The last line may lack its end.
 pub fn run<C: Console>(rt: &impl Print, from: &mut impl Read, mut console: C, out: &mut [u8]) {
     let _ = feed_read(rt, from, &mut console, out);
     let _ = end(rt, console, out);
