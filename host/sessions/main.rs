@@ -13,8 +13,16 @@ mod random;
 
 use count::Count;
 use random::Random;
-use std::io::Write;
+use std::fs::File;
+use std::io::{Read, Write};
+use std::os::fd::FromRawFd;
 use std::process::{Command, Stdio};
+
+/// What a program reads at once.
+const PART: usize = 4096;
+
+/// What a pipe of one page still takes, when the program starts.
+const NARROW: usize = 100;
 
 fn program(words: &[String], input: &[u8]) -> Vec<u8> {
     let mut child = Command::new(&words[0]).args(&words[1..]).stdin(Stdio::piped()).stdout(Stdio::piped()).spawn().expect("the session program starts");
@@ -24,6 +32,59 @@ fn program(words: &[String], input: &[u8]) -> Vec<u8> {
     let output = child.wait_with_output().expect("it ends");
     let _ = writer.join();
     output.stdout
+}
+
+extern "C" {
+    fn pipe(ends: *mut i32) -> i32;
+    fn fcntl(file: i32, command: i32, ...) -> i32;
+}
+
+/// A pipe of one page that takes so many bytes more and then refuses: a longer answer fails as a whole, and a shorter one behind it may
+/// go in. With it, how many bytes it holds already.
+fn narrow_pipe() -> (File, File, usize) {
+    const SET_FLAGS: i32 = 4;
+    const NONBLOCK: i32 = 0o4000;
+    const SET_SIZE: i32 = 1031;
+    let mut ends = [0; 2];
+    // the two numbers are written, and each end is owned once
+    let (from, mut to, size) = unsafe {
+        assert_eq!(pipe(ends.as_mut_ptr()), 0, "a pipe");
+        let size = fcntl(ends[1], SET_SIZE, 4096);
+        assert!(4096 <= size, "of one page");
+        assert_eq!(fcntl(ends[1], SET_FLAGS, NONBLOCK), 0, "that refuses what it has no room for");
+        (File::from_raw_fd(ends[0]), File::from_raw_fd(ends[1]), size as usize)
+    };
+    let held = size - NARROW;
+    to.write_all(&vec![0; held]).expect("it is filled");
+    (from, to, held)
+}
+
+/// What the program writes to such a pipe. The input is a file, so that it is read in whole parts.
+fn into_a_narrow_pipe(words: &[String], file: &str, input: &[u8]) -> Vec<u8> {
+    std::fs::write(file, input).expect("the input is written");
+    let (mut from, to, held) = narrow_pipe();
+    let read = File::open(file).expect("the input is read");
+    Command::new(&words[0]).args(&words[1..]).stdin(read).stdout(to).status().expect("the session program runs");
+    std::fs::remove_file(file).expect("the input goes");
+    let mut said = Vec::new();
+    from.read_to_end(&mut said).expect("what it wrote is read");
+    said.split_off(held)
+}
+
+/// What is to go into such a pipe: of the first part each answer for which there is room, the last line's too, which the part may cut.
+fn narrowed(by_reference: &dyn Fn(&[u8]) -> String, input: &[u8]) -> Vec<u8> {
+    let part = &input[..PART.min(input.len())];
+    let mut wanted = Vec::new();
+    let mut before = 0;
+    for end in (1..=part.len()).filter(|n| part[n - 1] == b'\n' || *n == part.len()) {
+        let said = by_reference(&part[..end]).into_bytes();
+        let answer = &said[before..];
+        if wanted.len() + answer.len() <= NARROW {
+            wanted.extend(answer);
+        }
+        before = said.len();
+    }
+    wanted
 }
 
 /// The sessions of the file: a comment names one, lines after '< ' go in and lines after '> ' come out.
@@ -128,6 +189,17 @@ fn main() {
         }
     }
     count.note(&format!("200 made-up sessions, {} lines of output", lines), differing == 0);
+
+    // some answers are longer than there is room, and shorter ones stand behind them
+    let lines = b"size\t64\nadd\t1\nadd\t3\nadd\t5\nadd\t7\nepoch\nboard\nlapse\nsize\t1\nboard\n".as_slice();
+    let unended = lines[..lines.len() - 1].to_vec();
+    for (name, input) in [("a part", lines.to_vec()), ("more than a part", lines.repeat(100)), ("a last line without its end", unended)] {
+        let wanted = narrowed(&by_reference, &input);
+        let behind = !by_reference(&input).as_bytes().starts_with(&wanted);
+        let file = format!("target/host/narrow-{}", words[0]);
+        let held = into_a_narrow_pipe(command, &file, &input) == wanted;
+        count.note(&format!("{} of {}: {} bytes go out, some of them behind a write that fails", words[0], name, wanted.len()), behind && held);
+    }
 
     std::process::exit(count.tally());
 }

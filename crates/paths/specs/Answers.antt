@@ -32,3 +32,7 @@ answer_of delays k W = if in_range delays k W then Done else Range
 abbrev pub told_by : {A : Type 0} → Answer → A → Result A OutOfRange
 told_by Done value = Ok value
 told_by Range value = Err record {}
+
+-- 01's number for a refusal
+abbrev pub refusal_number : OutOfRange → ℕ
+refusal_number refusal = number_of Range

@@ -1,9 +1,9 @@
 -- The small check of a proposal.
-use Rattle.std.specs.Prelude.{Bool, not, ◌&&◌, List, ℕ, Result, ◌-◌, length, if◌then◌else◌, ◌==◌}
+use Rattle.std.specs.Prelude.{Bool, not, ◌&&◌, List, ℕ, Result, Ok, Err, false, ◌-◌, length, if◌then◌else◌, ◌==◌}
 use Rattle.ground.specs.Plain.{◌<?◌, ◌≤?◌}
 use Rattle.ground.specs.Counting.Words.{every}
 use Rattle.paths.specs.declared.answers.OutOfRange.{OutOfRange}
-use Rattle.paths.specs.Answers.{Answer, answer_of, in_range, told_by}
+use Rattle.paths.specs.Answers.{Answer, Done, Range, answer_of, in_range, told_by}
 use Rattle.paths.specs.Paths.{delay_at, path_at}
 
 -- how far two delays lie apart
@@ -36,3 +36,8 @@ checked_of delays k W set = record { accepted = in_range delays k W && accepts d
 -- and what `paths::check` returns of it
 abbrev pub told : Checked → Result Bool OutOfRange
 told c = told_by c.answer c.accepted
+
+-- and back: a refused set is not accepted
+abbrev pub checked_back : Result Bool OutOfRange → Checked
+checked_back (Ok accepted) = record { accepted = accepted; answer = Done }
+checked_back (Err refusal) = record { accepted = false; answer = Range }

@@ -1,12 +1,12 @@
 -- The planner: of the candidates in order, the k in a row with the least spread, of several such the first.
 -- So it is always the same set, of the tightest the one with the least delays, and the receiver's window may be smallest.
-use Rattle.std.specs.Prelude.{Bool, List, [], ◌∷◌, ◌++◌, ℕ, zero, suc, Result, ◌+◌, ◌-◌, length, get_or, replicate, take, if◌then◌else◌}
+use Rattle.std.specs.Prelude.{Bool, List, [], ◌∷◌, ◌++◌, ℕ, zero, suc, Result, Ok, Err, ◌+◌, ◌-◌, length, get_or, replicate, take, if◌then◌else◌}
 use Rattle.ground.specs.Drawn.{within}
 use Rattle.ground.specs.Plain.{◌<?◌, ◌≤?◌}
 use Rattle.paths.specs.declared.answers.OutOfRange.{OutOfRange}
 use Rattle.paths.specs.declared.planning.Proposal.{Proposal}
 use Rattle.paths.specs.declared.planning.Stretch.{Stretch}
-use Rattle.paths.specs.Answers.{Answer, Done, answer_of, in_range, told_by}
+use Rattle.paths.specs.Answers.{Answer, Done, Range, answer_of, in_range, told_by}
 use Rattle.paths.specs.Order.{ranks_of, sorted_by}
 
 -- from a rank to the one so far after it
@@ -60,6 +60,11 @@ padded set = set ++ replicate (64 - length set) 255
 
 abbrev pub plan_with : Answer → List ℕ → Plan
 plan_with answer set = record { paths = padded set; count = length set; answer = answer }
+
+-- and back: of a refused search the caller knows all that there is
+abbrev pub plan_back : Result Proposal OutOfRange → Plan
+plan_back (Ok p) = record { paths = p.paths; count = p.count; answer = Done }
+plan_back (Err refusal) = plan_with Range []
 
 unfoldable pub plan_of : (delays : List ℕ) (k W : ℕ) → Plan
 plan_of delays k W = plan_with (answer_of delays k W) (set_of delays k W)

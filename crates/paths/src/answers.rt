@@ -1,6 +1,7 @@
 // What the planner and the check refuse, both alike: 4, 'before any search'.
 ghost use Rattle.std.specs.Prelude.{◌≡◌};
-ghost use Rattle.paths.specs.Answers.{Answer, answer_of, are_short, number_of, sized, told_by};
+ghost use Rattle.paths.specs.Answers.{Answer, answer_of, are_short, number_of, refusal_number, sized, told_by};
+ghost use Rattle.paths.specs.Laws.Answers.{refusal_above};
 
 #[derive(Clone, Copy, Debug, PartialEq, Eq)]
 pub struct OutOfRange;
@@ -11,6 +12,16 @@ impl OutOfRange {
         ensures { result ≡ number_of Answer.Range }
     {
         4
+    }
+}
+
+impl ground::Refusal for OutOfRange {
+    ghost number_of = { refusal_number };
+
+    ghost is_no_zero = { refusal_above };
+
+    fn number(self) -> u8 {
+        OutOfRange::number(self)
     }
 }
 

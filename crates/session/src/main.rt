@@ -3,5 +3,5 @@
 
 fn main(rt: HostRuntime) {
     let mut out = [0u8; session_lines::OUTPUT_ROOM];
-    session_lines::run(&rt, &mut rt.stdin(), session_lines::begin(), &mut out);
+    let _ = session_lines::run(&rt, &mut rt.stdin(), session_lines::begin(), &mut out);
 }

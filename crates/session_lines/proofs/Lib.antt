@@ -1,5 +1,4 @@
 pub mod Answering
-pub mod AsConsole
 pub mod Flags
 pub mod Gathers
 pub mod Keeping

@@ -4,4 +4,5 @@ pub mod Feeding
 pub mod Holding
 pub mod Keeping
 pub mod Refusals
+pub mod Running
 pub mod Telling

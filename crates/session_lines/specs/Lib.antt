@@ -6,6 +6,7 @@ pub mod Line
 pub mod Opened
 pub mod Output
 pub mod Replies
+pub mod Running
 pub mod Runs
 pub mod Session
 pub mod Shown

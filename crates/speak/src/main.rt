@@ -15,5 +15,5 @@ fn tells_each(rt: &impl Env) -> bool {
 fn main(rt: HostRuntime) {
     let mut out = [0u8; spoken::SPEECH_ROOM];
     let runs = !tells_each(&rt);
-    session_lines::run(&rt, &mut rt.stdin(), speak_lines::begin(runs), &mut out);
+    let _ = session_lines::run(&rt, &mut rt.stdin(), speak_lines::begin(runs), &mut out);
 }

@@ -9,12 +9,16 @@ use Rattle.sender.specs.Epochs.{SenderCall}
 use Rattle.sender.specs.Epochs.SenderCall.{OnTable, StartEpoch}
 use Rattle.spoken.specs.Taking.{taken_of}
 use Rattle.speak_lines.specs.declared.listening.Listener.{Listener}
-use Rattle.speak_lines.specs.Listening.{after_line, is_epoch}
+use Rattle.speak_lines.specs.Listening.{after_line, is_epoch, with_kept}
 
 -- a listener behind lines
 abbrev pub behind : (listener : Listener) (lines : List Bytes) → Listener
 behind l [] = l
 behind l (line ∷ lines) = behind (after_line l line) lines
+
+-- two listeners alike but for the line that has begun
+abbrev pub same_but_kept : (one other : Listener) → Type 0
+same_but_kept one other = one ≡ with_kept other one.kept
 
 abbrev pub on_table : (calls : List Call) → List SenderCall
 on_table [] = []

@@ -1,10 +1,10 @@
 -- What it says that nothing is out of range.
-use Rattle.std.specs.Prelude.{◌≡◌, refl, Bool, true, false, cond, ◌&&◌, List, ℕ, Ok, Err, leb, length}
+use Rattle.std.specs.Prelude.{◌≡◌, refl, Bool, true, false, cond, ◌&&◌, List, ℕ, ◌<◌, Ok, Err, leb, length}
 use Rattle.std.proofs.Common.{arith, le-leb, leb-true}
 use Rattle.ground.specs.Counting.Laws.Tests.{every_all, every_at}
 use Rattle.ground.specs.Truth.{and_left, and_right}
 use Rattle.paths.specs.declared.answers.OutOfRange.{OutOfRange}
-use Rattle.paths.specs.Answers.{Answer, Done, Range, answer_of, are_short, in_range, number_of, sized, told_by}
+use Rattle.paths.specs.Answers.{Answer, Done, Range, answer_of, are_short, in_range, number_of, refusal_number, sized, told_by}
 use Rattle.paths.specs.Paths.{Asked, delay_at}
 
 -- nothing is out of range exactly where the number is 0
@@ -56,3 +56,7 @@ told_ok Range value v e = absurd (cc)
 pub told_err : {A : Type 0} (a : Answer) (value : A) (e : OutOfRange) → told_by a value ≡ Err e → number_of a ≡ 4
 told_err Done value e h = absurd (cc)
 told_err Range value e h = refl
+
+-- a refusal is told apart from a call that is done
+pub refusal_above : (refusal : OutOfRange) → 0 < refusal_number refusal
+refusal_above refusal = omega arith

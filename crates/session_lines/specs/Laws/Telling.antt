@@ -201,7 +201,7 @@ module _ (s : Session) (input part : List ℕ) (o : Stands s input) where
         table = o.table;
       })
 
-  once : Stands (fed_session s part) (input ++ take (used_of part) part)
+  pub once : Stands (fed_session s part) (input ++ take (used_of part) part)
   once = go (has_end part) refl
     where
       go : (b : Bool) → has_end part ≡ b → Stands (fed_session s part) (input ++ take (used_of part) part)

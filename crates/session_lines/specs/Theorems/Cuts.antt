@@ -37,7 +37,7 @@ over_room text out h =
 
 -- what a call gives a host whose buffer has room
 module _ (h : Host) (part : List ℕ) (room : ROOM ≤ length h.buffer) where
-  session_is : (fed_once h part).session ≡ fed_session h.session part
+  pub session_is : (fed_once h part).session ≡ fed_session h.session part
   unfolding fed_once feed_of
   session_is = rw (le-ltb (length h.buffer) ROOM room)
 
@@ -49,9 +49,12 @@ module _ (h : Host) (part : List ℕ) (room : ROOM ≤ length h.buffer) where
   unfolding fed_once feed_of feed_bytes
   said_is = rw (le-ltb (length h.buffer) ROOM room, take-append_seam (fed_text h.session part) (drop (length (fed_text h.session part)) h.buffer))
 
-  left_is : left_of h part ≡ drop (used_of part) part
+  pub left_is : left_of h part ≡ drop (used_of part) part
   unfolding left_of feed_of
   left_is = rw (le-ltb (length h.buffer) ROOM room)
+
+  pub buffer_room : ROOM ≤ length (fed_once h part).buffer
+  buffer_room = rw buffer_is (over_room (fed_text h.session part) h.buffer room)
 
 -- a table with no line begun
 abbrev fresh_with : Table → Session

@@ -18,20 +18,11 @@ use Rattle.text.specs.Text.{lines_of}
 pub table_told : (fs : List Feed) → (fed_by beginning fs).table ≡ told_table (ended_in (used_by beginning fs))
 table_told fs = told (fed_by beginning fs) (used_by beginning fs) (all_fed beginning [] fs start)
 
--- At the end of the input it is what all its lines told, the last one with or without its end.
-pub finished_told : (fs : List Feed) (out : List ℕ) → ROOM ≤ length out → (finish_of (fed_by beginning fs) out).session.table ≡ told_table (lines_of (used_by beginning fs))
-unfolding finish_of last_session lines_of
-finished_told fs out room = rw (le-ltb (length out) ROOM room) (go o.line o.free o.holds refl ∙ answers_tell (lines_of input))
+-- And at the end of the input it is what all its lines told, the last one with or without its end.
+pub ended_told : (s : Session) (input : List ℕ) → Stands s input → (last_session s).table ≡ told_table (lines_of input)
+unfolding last_session lines_of
+ended_told s input o = go o.line o.free o.holds refl ∙ answers_tell (lines_of input)
   where
-    s : Session
-    s = fed_by beginning fs
-
-    input : List ℕ
-    input = used_by beginning fs
-
-    o : Stands s input
-    o = all_fed beginning [] fs start
-
     all : lines_of input ≡ o.done ++ lines_of o.line
     all = ap lines_of (sym (append-nil input)) ∙ o.lines [] ∙ ap (λ (x : List ℕ). o.done ++ lines_of x) (append-nil o.line)
 
@@ -45,6 +36,10 @@ finished_told fs out room = rw (le-ltb (length out) ROOM room) (go o.line o.free
         let z : lines_of input ≡ o.done ++ ((b ∷ l) ∷ []) = all ∙ ap (λ (x : List ℕ). o.done ++ lines_of x) q ∙ ap (λ (ls : List (List ℕ)). o.done ++ ls) (last_line b l f) in
         rw (lt-ltb 0 s.kept.count c)
         (one_more s (line_in s.kept) (b ∷ l) o.done (kept_line (b ∷ l) s.kept k) o.table ∙ ap (table_behind beginning.table) (sym z))
+
+pub finished_told : (fs : List Feed) (out : List ℕ) → ROOM ≤ length out → (finish_of (fed_by beginning fs) out).session.table ≡ told_table (lines_of (used_by beginning fs))
+unfolding finish_of
+finished_told fs out room = rw (le-ltb (length out) ROOM room) (ended_told (fed_by beginning fs) (used_by beginning fs) (all_fed beginning [] fs start))
 
 -- So demand 2 holds of the board at every moment of a session.
 pub board_demand2 : (fs : List Feed) → Demand2 (fed_by beginning fs).table

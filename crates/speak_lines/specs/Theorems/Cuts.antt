@@ -37,7 +37,7 @@ over_room text out h =
 
 -- what a call gives a host whose buffer has room
 module _ (h : Host) (part : List ℕ) (room : SPEECH-ROOM ≤ length h.buffer) where
-  listener_is : (fed_once h part).listener ≡ fed_listener h.listener part
+  pub listener_is : (fed_once h part).listener ≡ fed_listener h.listener part
   unfolding fed_once feed_of
   listener_is = rw (le-ltb (length h.buffer) SPEECH-ROOM room)
 
@@ -49,9 +49,12 @@ module _ (h : Host) (part : List ℕ) (room : SPEECH-ROOM ≤ length h.buffer) w
   unfolding fed_once feed_of feed_bytes
   said_is = rw (le-ltb (length h.buffer) SPEECH-ROOM room, take-append_seam (fed_text h.listener part) (drop (length (fed_text h.listener part)) h.buffer))
 
-  left_is : left_of h part ≡ drop (used_of part) part
+  pub left_is : left_of h part ≡ drop (used_of part) part
   unfolding left_of feed_of gathered_of
   left_is = rw (le-ltb (length h.buffer) SPEECH-ROOM room)
+
+  pub buffer_room : SPEECH-ROOM ≤ length (fed_once h part).buffer
+  buffer_room = rw buffer_is (over_room (fed_text h.listener part) h.buffer room)
 
 -- what is kept of a line that has begun is not looked at by the lines behind it
 kept_apart : (l : Listener) (k : Kept) (lines : List (List ℕ)) → printed (with_kept l k) lines ≡ printed l lines

@@ -1,6 +1,8 @@
 -- What is written lies in the buffer, and what is used is some of what is left and no more.
-use Rattle.std.proofs.Common.{rules, ◌<◌, ◌≤◌, length, length-take-le, sym}
+use Rattle.std.proofs.Common.{rules, ◌≡◌, ◌<◌, ◌≤◌, ◌-◌, List, ℕ, drop, length, length-drop, length-take-le, sym, take}
+use Rattle.std.proofs.Math.Seq.{take-length}
 use Rattle.session_lines.specs.Laws.Consoles.{fed_on, fed_within}
+use Rattle.session_lines.specs.Laws.Running.{feed_refused, whole_done, whole_on}
 use Rattle.session_lines.proofs.running.feed_all.Goals as goal
 use Rattle.session_lines.proofs.running.feed_all.Goals.{In_ok-fed}
 
@@ -29,3 +31,25 @@ slice_bounds-rest-start g c = let s = (some g (goal.at.slice_bounds-rest-start g
 
 pub loop-rest-smaller : goal.loop-rest-smaller
 loop-rest-smaller g c = let s = some g (goal.at.loop-rest-smaller g c).In_ok-fed in search rules
+
+behind : (n : ℕ) (l : List ℕ) → take (length l - n) (drop n l) ≡ drop n l
+behind n l = rw (← length-drop n l) (take-length (drop n l))
+
+pub loop-rest-preserved : goal.loop-rest-preserved
+loop-rest-preserved g c =
+    let e = c.in_ok-fed.ensures in
+    let h : 0 < length c.loop-rest.rest.now = search rules in
+    whole_on g.C.Console.ROOM g.C.Console.kept_of g.C.Console.keeping g.C.Console.left_by g.C.Console.said_by _ c.loop-rest.console c.loop-rest.rest.now c.loop-rest.out _ c.in_ok-fed.fed c.loop-rest.invariant e.fed h
+    (behind c.in_ok-fed.fed.used c.loop-rest.rest.now)
+
+pub returns-clause-left : goal.returns-clause-left
+returns-clause-left g c =
+    let h : length c.loop-rest.rest.now ≤ 0 = search rules in
+    whole_done g.C.Console.ROOM g.C.Console.kept_of g.C.Console.keeping g.C.Console.left_by g.C.Console.said_by _ c.loop-rest.console c.loop-rest.rest.now c.loop-rest.invariant h
+
+pub returns-in_err-fed-clause-refused : goal.returns-in_err-fed-clause-refused
+returns-in_err-fed-clause-refused g c =
+    let e = c.in_err-fed.ensures in
+    let n : length c.loop-rest.out < g.C.Console.ROOM = feed_refused g.C.Console.ROOM g.C.Console.kept_of g.C.Console.keeping g.C.Console.left_by g.C.Console.said_by c.loop-rest.console c.loop-rest.rest.now c.loop-rest.out c.in_err-fed.field-0.0 e.fed in
+    let m : length c.args.out.now < g.C.Console.ROOM = rw c.loop-rest.auto.out at n in
+    search rules

@@ -1,5 +1,5 @@
 use Rattle.std.proofs.Common.{◌∙◌}
-use Rattle.session_lines.proofs.AsConsole.{session_fed, session_said}
+use Rattle.session_lines.specs.Theorems.Running.{session_fed, session_said}
 use Rattle.session_lines.proofs.session.feed.Goals as goal
 
 pub returns : goal.returns

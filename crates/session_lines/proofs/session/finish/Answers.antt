@@ -1,5 +1,5 @@
 use Rattle.std.proofs.Common.{◌∙◌}
-use Rattle.session_lines.proofs.AsConsole.{session_ended, session_finished}
+use Rattle.session_lines.specs.Theorems.Running.{session_ended, session_finished}
 use Rattle.session_lines.proofs.session.finish.Goals as goal
 
 pub returns : goal.returns

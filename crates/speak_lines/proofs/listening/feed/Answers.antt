@@ -1,5 +1,5 @@
 use Rattle.std.proofs.Common.{◌∙◌}
-use Rattle.speak_lines.proofs.AsConsole.{listener_fed, listener_said}
+use Rattle.speak_lines.specs.Theorems.Running.{listener_fed, listener_said}
 use Rattle.speak_lines.proofs.listening.feed.Goals as goal
 
 pub returns : goal.returns

@@ -1,5 +1,5 @@
 use Rattle.std.proofs.Common.{◌∙◌}
-use Rattle.speak_lines.proofs.AsConsole.{listener_ended, listener_finished}
+use Rattle.speak_lines.specs.Theorems.Running.{listener_ended, listener_finished}
 use Rattle.speak_lines.proofs.listening.finish.Goals as goal
 
 pub returns : goal.returns
