@@ -9,7 +9,9 @@ own terms. So, with the call's parameters named by place as the function's are, 
   does a part of X alone where a law NAME_done says that the answer of that function is Done;
 - each slice lent to be changed is in LENT, and what stands for it in LEFT is what the `ensures` has for it afterwards; or
   it is GIVEN, and RETURNED is; of several numbers that are lent so, GIVEN and RETURNED are tuples, in one order;
-- any other RETURNED, or each part of a tuple, is a part of the result, and where the answer is a part there is a RETURNED.
+- any other RETURNED, or each part of a tuple, is a part of the result, and where the answer is a part there is a RETURNED. A
+  result told X has no value under a refusal: then the GIVEN is a parameter, which the caller keeps, or the contract says
+  `result_unwrap_or result GIVEN ≡ RETURNED`, of whoever takes the GIVEN where the call is refused.
 """
 import re
 
@@ -136,21 +138,40 @@ def behind(parameters):
     yield from re.findall(r"(\w+)\s*:\s*&", parameters)
 
 
+def read(f, text):
+    """What stands in a clause as a term: x.old and x.now of what is lent is x."""
+    borrowed = re.compile(rf"(?<![\w.])(«?(?:{'|'.join(behind(f.parameters)) or '(?!)'})»?)\.(?:old|now)\b")
+    return term(borrowed.sub(r"\1", text))
+
+
 def equations(f):
     """Each equation of the contract: its left side, and its right side as a term."""
-    borrowed = re.compile(rf"(?<![\w.])(«?(?:{'|'.join(behind(f.parameters)) or '(?!)'})»?)\.(?:old|now)\b")
     for kind, clause in f.clauses:
         if kind == "ensures":
             for part in parted(clause):
                 sides = re.split(r"\s≡\s", part, maxsplit=1)
                 if len(sides) == 2:
-                    yield sides[0].strip(), term(borrowed.sub(r"\1", sides[1]))
+                    yield sides[0].strip(), read(f, sides[1])
+
+
+def is_told(returned):
+    return isinstance(returned, list) and len(returned) == 2 and isinstance(returned[0], str) and bool(TOLD.fullmatch(returned[0]))
 
 
 def result(f):
     returned = dict(equations(f)).get("result")
-    told = isinstance(returned, list) and len(returned) == 2 and isinstance(returned[0], str) and TOLD.fullmatch(returned[0])
-    return returned[1] if told else returned
+    return returned[1] if is_told(returned) else returned
+
+
+def kept(f):
+    """Pairs of what a caller takes where the call is refused, and what it then has of any call."""
+    taken = [(re.fullmatch(r"result_unwrap_or result (.+)", left), right) for left, right in equations(f)]
+    return [(read(f, found[1]), right) for found, right in taken if found]
+
+
+def names(f):
+    """The names of the parameters."""
+    return [p.split(":")[0].strip() for p in f.parameters.strip("()").split(",") if p.strip()]
 
 
 def afterwards(f, name):
@@ -201,9 +222,12 @@ def faults(f, call, numbers, done=()):
     wrong += [f"{name} is not lent to be changed" for name in slices if name not in changed]
     if len(left) != len(slices):
         wrong.append("as many slices are not left as are lent")
-    for part in [r for g, r in zip(given, returned) if g not in changed]:
+    for taken, part in [(g, r) for g, r in zip(given, returned) if g not in changed]:
         rest, of = whole(part, [w for w in part if isinstance(w, str) and w.startswith(".")])
-        if rest != told or not of:
+        if is_told(dict(equations(f)).get("result")) and taken not in names(f):
+            if (taken, part) not in kept(f):
+                wrong.append("what is returned is not what the contract says of a refused result")
+        elif rest != told or not of:
             wrong.append("what is returned is no part of the result of the contract")
     return wrong
 
@@ -224,12 +248,12 @@ def check(top):
         elif definition is None or len(definition[0]) != 1:
             wrong.append(f"{name}\t{file}.{call} is not defined with one clause of one parameter or tuple")
         else:
-            names = [p.split(":")[0].strip() for p in these[0].parameters.strip("()").split(",") if p.strip()]
+            own = names(these[0])
             places = split(definition[0][0], ",")
-            if len(places) != len(names):
-                wrong.append(f"{name}\tthe row has {len(places)} parameters, the function {len(names)}")
+            if len(places) != len(own):
+                wrong.append(f"{name}\tthe row has {len(places)} parameters, the function {len(own)}")
                 continue
-            renamed = put(opened(made, files[file], definition[1]), dict(zip(places, names)))
+            renamed = put(opened(made, files[file], definition[1]), dict(zip(places, own)))
             wrong += [f"{name}\t{fault}" for fault in faults(these[0], renamed, numbers, done)]
     wrong += [f"{name}\thas two rows" for name in sorted({n for n, _, _ in rows if [m for m, _, _ in rows].count(n) > 1})]
     if not rows:

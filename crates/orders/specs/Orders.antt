@@ -1,7 +1,8 @@
 -- A whole work order at once (02, 2026-07): 'Take a list of commands, each a small record of kind, group and slot, and answer each in a lent list of numbers.'
+use Rattle.std.specs.Result.{result_unwrap_or}
 use Rattle.std.specs.Prelude.{List, ℕ, Result, length, set, take, if◌then◌else◌, ◌==◌}
 use Rattle.ground.specs.Plain.{◌<?◌}
-use Rattle.cards.specs.Answers.{Answer, Answer as A, CardOutcome, answer_number, given}
+use Rattle.cards.specs.Answers.{Answer, Answer as A, CardOutcome, answer_back, answer_number, given}
 use Rattle.cards.specs.declared.refusals.Refusal.{Refusal}
 use Rattle.cards.specs.declared.card.Card.{Card}
 use Rattle.cards.specs.Calls.{Call, outcome_of}
@@ -17,6 +18,10 @@ pub record Ordered : Type 0 where
 
 abbrev pub ordered_told : Ordered → Result Card Refusal
 ordered_told r = given r.answer r.card
+
+-- the card given and what is told give the whole
+abbrev pub ordered_back : Ordered → Card → Ordered
+ordered_back r card = record { card = result_unwrap_or (ordered_told r) card; answer = answer_back (ordered_told r) }
 
 -- a command as one of the card's own calls
 abbrev pub call_by : K.Kind → ℕ → Call

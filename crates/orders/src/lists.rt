@@ -1,5 +1,6 @@
 // An order is a list of commands.
 ghost use Rattle.std.specs.Prelude.{◌≡◌, length};
+ghost use Rattle.std.specs.Result.{result_unwrap_or};
 ghost use Rattle.orders.specs.Orders.{answers_of, first_answers, first_ordered, ordered_of, ordered_told};
 
 use crate::commands;
@@ -8,7 +9,8 @@ use cards::{Card, Refusal};
 
 // Each command on the card as those before it left it; 9 where there are more or fewer answers than commands, and nothing is done.
 pub fn order(card: Card, commands: &[Command], answers: &mut [u8]) -> Result<Card, Refusal>
-    ensures { (result ≡ ordered_told (ordered_of card commands.now (length answers.old))) × (answers.new ≡ answers_of card commands.now answers.old) }
+    ensures told { (result ≡ ordered_told (ordered_of card commands.now (length answers.old))) × (answers.new ≡ answers_of card commands.now answers.old) }
+    ensures left { result_unwrap_or result card ≡ (ordered_of card commands.now (length answers.old)).card }
 {
     if commands.len() != answers.len() {
         return Err(Refusal::Length);
@@ -27,7 +29,8 @@ pub fn order_of(
     n: usize,
     answers: &mut [u8],
 ) -> Result<Card, Refusal>
-    ensures { (result ≡ ordered_told (first_ordered card commands n (length answers.old))) × (answers.new ≡ first_answers card commands n answers.old) }
+    ensures told { (result ≡ ordered_told (first_ordered card commands n (length answers.old))) × (answers.new ≡ first_answers card commands n answers.old) }
+    ensures left { result_unwrap_or result card ≡ (first_ordered card commands n (length answers.old)).card }
 {
     let first = commands.get(..n).ok_or(Refusal::Length)?;
     order(card, first, answers)

@@ -1,5 +1,6 @@
 // The check: it 'accepts a proposal only if it names k different candidates within that spread, and accepts every such set'.
-ghost use Rattle.std.specs.Prelude.{◌≡◌, ◌<◌, length};
+ghost use Rattle.std.specs.Prelude.{◌≡◌, ◌<◌, length, false};
+ghost use Rattle.std.specs.Result.{result_unwrap_or};
 ghost use Rattle.paths.specs.Checking.{accepts, agree, agrees_with, checked_of, entry_fits, told};
 
 use crate::answers::OutOfRange;
@@ -41,7 +42,8 @@ fn is_accepted(delays: &[u32], k: usize, room: u32, set: &[u8]) -> bool
 }
 
 pub fn check(delays: &[u32], k: u32, window: u32, set: &[u8]) -> Result<bool, OutOfRange>
-    ensures { result ≡ told (checked_of delays.now k window set.now) }
+    ensures told { result ≡ told (checked_of delays.now k window set.now) }
+    ensures left { result_unwrap_or result false ≡ (checked_of delays.now k window set.now).accepted }
 {
     answers::asked(delays, k, window)?;
     Ok(is_accepted(delays, k as usize, window - 16, set))

@@ -1,7 +1,9 @@
 // The planner. Of the candidates in order, k in a row lie closest; of all such stretches it proposes the tightest.
 ghost use Rattle.std.specs.Prelude.{◌≡◌, ◌+◌, ◌≤◌, ◌<◌, length};
+ghost use Rattle.std.specs.Result.{result_unwrap_or};
 ghost use Rattle.ground.specs.Drawn.{within};
-ghost use Rattle.paths.specs.Planning.{listed_plan, proposal_in, plan_of, proposed_plan, stretch_from, tighter, tightest, told};
+ghost use Rattle.paths.specs.Answers.{Range};
+ghost use Rattle.paths.specs.Planning.{listed_plan, nothing, proposal_in, plan_of, proposed_plan, stretch_from, tighter, tightest, told};
 
 use crate::answers::OutOfRange;
 use crate::{answers, order};
@@ -96,8 +98,10 @@ fn proposed(delays: &[u32], k: usize, room: u32) -> Proposal
     }
 }
 
+// Refused, it names no path: 64 times 255, and 0.
 pub fn plan(delays: &[u32], k: u32, window: u32) -> Result<Proposal, OutOfRange>
-    ensures { result ≡ told (plan_of delays.now k window) }
+    ensures told { result ≡ told (plan_of delays.now k window) }
+    ensures left { result_unwrap_or result (proposal_in (nothing Range)) ≡ proposal_in (plan_of delays.now k window) }
 {
     answers::asked(delays, k, window)?;
     Ok(proposed(delays, k as usize, window - 16))

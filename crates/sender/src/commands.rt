@@ -1,5 +1,6 @@
 // Start, add, remove and lapse (01, 'The sender's table'; for commands the refusals are 1, 3, 2).
 ghost use Rattle.std.specs.Prelude.{◌≡◌, ◌<◌, map, IfOk};
+ghost use Rattle.std.specs.Result.{result_unwrap_or};
 ghost use Rattle.sender.specs.Answers.{told};
 ghost use Rattle.sender.specs.Calls.{outcome_of};
 ghost use Rattle.sender.specs.Calls.Call.{AddSlot, RemoveSlot, Lapse};
@@ -31,7 +32,7 @@ fn fresh(kind: u8, count: u8) -> Table
     }
 }
 
-// What no slot is asked of.
+// The empty group, which a refused start leaves.
 pub fn empty(kind: u8) -> Table
     ensures { result ≡ (start_of kind 0).table }
 {
@@ -39,7 +40,8 @@ pub fn empty(kind: u8) -> Table
 }
 
 pub fn start(kind: u8, count: u32) -> Result<Table, Refusal>
-    ensures { result ≡ told (start_of kind count) }
+    ensures told { result ≡ told (start_of kind count) }
+    ensures left { result_unwrap_or result (start_of kind 0).table ≡ (start_of kind count).table }
 {
     if count == 0 || count > 64 {
         return Err(Refusal::OutOfRange);
@@ -76,7 +78,8 @@ fn added_to(table: Table, at: usize) -> Table
 }
 
 pub fn add(table: Table, slot: u32) -> Result<Table, Refusal>
-    ensures { result ≡ told (outcome_of table (AddSlot slot)) }
+    ensures told { result ≡ told (outcome_of table (AddSlot slot)) }
+    ensures left { result_unwrap_or result table ≡ (outcome_of table (AddSlot slot)).table }
 {
     let at = slot_of(table, slot)?;
     if table::is_member(table.slots[at].state) {
@@ -123,7 +126,8 @@ fn removed_from(table: Table, at: usize) -> Table
 }
 
 pub fn remove(table: Table, slot: u32) -> Result<Table, Refusal>
-    ensures { result ≡ told (outcome_of table (RemoveSlot slot)) }
+    ensures told { result ≡ told (outcome_of table (RemoveSlot slot)) }
+    ensures left { result_unwrap_or result table ≡ (outcome_of table (RemoveSlot slot)).table }
 {
     let at = slot_of(table, slot)?;
     if !table::is_member(table.slots[at].state) {
@@ -133,7 +137,8 @@ pub fn remove(table: Table, slot: u32) -> Result<Table, Refusal>
 }
 
 pub fn lapse(table: Table) -> Result<Table, Refusal>
-    ensures { result ≡ told (outcome_of table Lapse) }
+    ensures told { result ≡ told (outcome_of table Lapse) }
+    ensures left { result_unwrap_or result table ≡ (outcome_of table Lapse).table }
 {
     if !table.wait {
         return Err(Refusal::NotAllowed);

@@ -1,5 +1,6 @@
 // The start of an epoch (01, 'Taking effect'): 'The packets of one epoch rule the payload of the next epoch'; 'The sender writes all packets of an epoch from one state of the table, that at the epoch's start.'
 ghost use Rattle.std.specs.Prelude.{◌≡◌, ◌<◌, length};
+ghost use Rattle.std.specs.Result.{result_unwrap_or};
 ghost use Rattle.sender.specs.Answers.{only_told, sender_told};
 ghost use Rattle.sender.specs.Calls.Call.{AddSlot, RemoveSlot, Report, Lapse};
 ghost use Rattle.sender.specs.Epochs.{begin_of, fresh_sender, packet_answer, packet_bytes, packet_fields, payload_answer, payload_bytes, ranks_of, sender_outcome_of, started_epoch};
@@ -90,7 +91,7 @@ fn packet_fields(sender: Sender, at: usize) -> Fields
 }
 
 impl Sender {
-    // With no slot, as nothing was started: epoch is the number that the first epoch would have.
+    // With no slot, which a refused start leaves: epoch is the number that the first epoch would have.
     pub fn empty(kind: u8, epoch: u8) -> Sender
         ensures { result ≡ (begin_of kind 0 epoch).sender }
     {
@@ -99,21 +100,24 @@ impl Sender {
 
     // epoch: the first epoch's number.
     pub fn start(kind: u8, count: u32, epoch: u8) -> Result<Sender, Refusal>
-        ensures { result ≡ sender_told (begin_of kind count epoch) }
+        ensures told { result ≡ sender_told (begin_of kind count epoch) }
+        ensures left { result_unwrap_or result (begin_of kind 0 epoch).sender ≡ (begin_of kind count epoch).sender }
     {
         let table = commands::start(kind, count)?;
         Ok(fresh_sender(table, epoch))
     }
 
     pub fn add(self, slot: u32) -> Result<Sender, Refusal>
-        ensures { result ≡ sender_told (sender_outcome_of self (OnTable (AddSlot slot))) }
+        ensures told { result ≡ sender_told (sender_outcome_of self (OnTable (AddSlot slot))) }
+        ensures left { result_unwrap_or result self ≡ (sender_outcome_of self (OnTable (AddSlot slot))).sender }
     {
         let table = commands::add(self.table, slot)?;
         Ok(Sender { table, ..self })
     }
 
     pub fn remove(self, slot: u32) -> Result<Sender, Refusal>
-        ensures { result ≡ sender_told (sender_outcome_of self (OnTable (RemoveSlot slot))) }
+        ensures told { result ≡ sender_told (sender_outcome_of self (OnTable (RemoveSlot slot))) }
+        ensures left { result_unwrap_or result self ≡ (sender_outcome_of self (OnTable (RemoveSlot slot))).sender }
     {
         let table = commands::remove(self.table, slot)?;
         Ok(Sender { table, ..self })
@@ -130,14 +134,16 @@ impl Sender {
     }
 
     pub fn lapse(self) -> Result<Sender, Refusal>
-        ensures { result ≡ sender_told (sender_outcome_of self (OnTable Lapse)) }
+        ensures told { result ≡ sender_told (sender_outcome_of self (OnTable Lapse)) }
+        ensures left { result_unwrap_or result self ≡ (sender_outcome_of self (OnTable Lapse)).sender }
     {
         let table = commands::lapse(self.table)?;
         Ok(Sender { table, ..self })
     }
 
     pub fn start_epoch(self, gid: u8, mst: u8, rs_ack: u8) -> Result<Sender, Refusal>
-        ensures { result ≡ sender_told (sender_outcome_of self (StartEpoch gid mst rs_ack)) }
+        ensures told { result ≡ sender_told (sender_outcome_of self (StartEpoch gid mst rs_ack)) }
+        ensures left { result_unwrap_or result self ≡ (sender_outcome_of self (StartEpoch gid mst rs_ack)).sender }
     {
         if gid >= 2 || rs_ack >= 2 {
             return Err(Refusal::Field);

@@ -1,5 +1,6 @@
 // Changes applied to a board: 'changes that don't fit the board they are applied to is 2, and the board stays.' All are judged against the board as it stands before the first is applied.
 ghost use Rattle.std.specs.Prelude.{◌≡◌, ℕ, ◌≤◌, ◌<◌, length};
+ghost use Rattle.std.specs.Result.{result_unwrap_or};
 ghost use Rattle.spoken.specs.Answers.{told_board};
 ghost use Rattle.spoken.specs.Applying.{applied_of, change_in, changes_fit, fits, fits_by, laid_to, rises_at, wait_after, wait_fits};
 
@@ -77,7 +78,8 @@ fn lay(mut rows: [Row; 64], changes: &[Change]) -> [Row; 64]
 }
 
 pub fn apply(board: Board, changes: Changes) -> Result<Board, Refusal>
-    ensures { result ≡ told_board (applied_of board changes) }
+    ensures told { result ≡ told_board (applied_of board changes) }
+    ensures left { result_unwrap_or result board ≡ (applied_of board changes).board }
 {
     if !does_fit(&board, &changes) {
         return Err(Refusal::Unfit);

@@ -1,7 +1,8 @@
 // The changes from one board to another: 'slot, old state and number, new state and number, in slot order, then the wait if it differs.'
 ghost use Rattle.std.specs.Prelude.{◌≡◌, ◌≤◌};
+ghost use Rattle.std.specs.Result.{result_unwrap_or};
 ghost use Rattle.spoken.specs.Answers.{told_changes};
-ghost use Rattle.spoken.specs.Changes.{changes_in, compared_of, wait_change};
+ghost use Rattle.spoken.specs.Changes.{changes_in, compared_of, no_changes, wait_change};
 
 use crate::lists::{Change, Changes, Refusal, WaitChange};
 use sender::{Board, Row};
@@ -39,9 +40,10 @@ fn changes_in(old: &[Row; 64], new: &[Row; 64], n: usize, wait: WaitChange) -> C
     changes
 }
 
-// 4 where the counts differ or are above 64; no changes then.
+// 4 where the counts differ or are above 64; no changes then, as between a board and itself.
 pub fn changes_between(old: Board, new: Board) -> Result<Changes, Refusal>
-    ensures { result ≡ told_changes (compared_of old new) }
+    ensures told { result ≡ told_changes (compared_of old new) }
+    ensures left { result_unwrap_or result no_changes ≡ (compared_of old new).changes }
 {
     if old.count != new.count || old.count > 64 {
         return Err(Refusal::Counts);

@@ -1,5 +1,6 @@
 // The changes as lines, for ears and fingertips.
-ghost use Rattle.std.specs.Prelude.{◌≡◌, ◌++◌, ℕ, ◌+◌, ◌≤◌, ◌<◌, length};
+ghost use Rattle.std.specs.Prelude.{◌≡◌, ◌++◌, true, ℕ, ◌+◌, ◌≤◌, ◌<◌, length};
+ghost use Rattle.std.specs.Result.{result_unwrap_or};
 ghost use Rattle.text.specs.Output.{Put};
 ghost use Rattle.spoken.specs.Answers.{told_by, told_length};
 ghost use Rattle.spoken.specs.Applying.{change_in};
@@ -13,14 +14,15 @@ use sender::Row;
 // Room for the lines of any changes.
 pub const SPEECH_ROOM: usize = 2188;
 
-// Refused with 9 is a buffer without room, and then with 2 what cannot be said.
-pub(crate) fn ready(out: &[u8], can: bool) -> Result<(), Refusal>
-    ensures { result ≡ told_by (spoken_answer can out.now) tt }
+// A buffer without room is refused with 9, before what is to be said is looked at.
+pub(crate) fn check_room(out: &[u8]) -> Result<(), Refusal>
+    ensures { result ≡ told_by (spoken_answer true out.now) tt }
 {
     if out.len() < SPEECH_ROOM {
-        return Err(Refusal::Length);
+        Err(Refusal::Length)
+    } else {
+        Ok(())
     }
-    if can { Ok(()) } else { Err(Refusal::Unfit) }
 }
 
 pub(crate) fn is_shown(word: Word) -> bool
@@ -108,9 +110,13 @@ pub(crate) fn put_wait(wait: WaitChange, out: &mut [u8], at: usize) -> usize
 
 // The lines at the front of the buffer: how many bytes they take.
 pub fn speak(changes: Changes, out: &mut [u8]) -> Result<usize, Refusal>
-    ensures { (result ≡ told_length (speech_of changes out.old)) × (out.new ≡ speech_bytes changes out.old) }
+    ensures told { (result ≡ told_length (speech_of changes out.old)) × (out.new ≡ speech_bytes changes out.old) }
+    ensures left { result_unwrap_or result 0 ≡ (speech_of changes out.old).written }
 {
-    ready(out, can_speak(&changes))?;
+    check_room(out)?;
+    if !can_speak(&changes) {
+        return Err(Refusal::Unfit);
+    }
     let next = put_changes(changes.as_slice(), out);
     Ok(put_wait(changes.wait, out, next))
 }

@@ -1,5 +1,6 @@
 // Runs as lines, of changes and of a board as it stands.
 ghost use Rattle.std.specs.Prelude.{◌≡◌, ◌++◌, Bool, true, false, ◌+◌, ◌≤◌, length};
+ghost use Rattle.std.specs.Result.{result_unwrap_or};
 ghost use Rattle.text.specs.Output.{Put};
 ghost use Rattle.spoken.specs.Answers.{told_length};
 ghost use Rattle.spoken.specs.Runs.{runs_of};
@@ -147,9 +148,13 @@ fn put_runs<T: Told>(changes: &[Change], out: &mut [u8]) -> usize
 
 // The lines of the changes in runs, at the front of the buffer: how many bytes they take.
 pub fn speak_runs(changes: Changes, out: &mut [u8]) -> Result<usize, Refusal>
-    ensures { (result ≡ told_length (runs_speech_of changes out.old)) × (out.new ≡ runs_speech_bytes changes out.old) }
+    ensures told { (result ≡ told_length (runs_speech_of changes out.old)) × (out.new ≡ runs_speech_bytes changes out.old) }
+    ensures left { result_unwrap_or result 0 ≡ (runs_speech_of changes out.old).written }
 {
-    speaking::ready(out, speaking::can_speak(&changes))?;
+    speaking::check_room(out)?;
+    if !speaking::can_speak(&changes) {
+        return Err(Refusal::Unfit);
+    }
     let next = put_runs::<Changed>(changes.as_slice(), out);
     Ok(speaking::put_wait(changes.wait, out, next))
 }
@@ -192,9 +197,13 @@ fn put_still(wait: bool, out: &mut [u8], at: usize) -> usize
 
 // A board as it stands, its slots in runs: how many bytes its lines take. 2 where it has more than 64 slots or a word with no name.
 pub fn speak_whole(board: Board, out: &mut [u8]) -> Result<usize, Refusal>
-    ensures { (result ≡ told_length (whole_speech_of board out.old)) × (out.new ≡ whole_speech_bytes board out.old) }
+    ensures told { (result ≡ told_length (whole_speech_of board out.old)) × (out.new ≡ whole_speech_bytes board out.old) }
+    ensures left { result_unwrap_or result 0 ≡ (whole_speech_of board out.old).written }
 {
-    speaking::ready(out, slots_speak(&board.rows, board.count))?;
+    speaking::check_room(out)?;
+    if !slots_speak(&board.rows, board.count) {
+        return Err(Refusal::Unfit);
+    }
     let list = standing_in(&board.rows);
     let next = put_runs::<Standing>(&list[..usize::from(board.count)], out);
     Ok(put_still(board.wait, out, next))

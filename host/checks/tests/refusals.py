@@ -21,6 +21,12 @@ pub fn add(table: Table, slot: u32) -> Step
 {
     x
 }
+pub fn start(names: &[u8], count: u32) -> Result<Table, Refusal>
+    ensures told { result ≡ table_told (start_of names.now count) }
+    ensures left { result_unwrap_or result (start_of names.now 0).table ≡ (start_of names.now count).table }
+{
+    x
+}
 """
 FACE = """pub fn in_bytes(state: &mut [u8], the_slot: u32) -> u8
     ensures { (result ≡ answer_c true (AddSlot the_slot) state.old) × (state.new ≡ state_c true (AddSlot the_slot) state.old) }
@@ -38,6 +44,7 @@ entries =
     row "one::write" packet.write packet.write_copes
     ∷ row "one::add" packet.add packet.add_copes
     ∷ row "one::frame" packet.frame packet.frame_copes
+    ∷ row "one::start" packet.start packet.start_copes
     ∷ row "in_bytes" packet.add_c packet.add_c_copes
     ∷ row "tells" packet.tells_c packet.tells_c_copes
     ∷ []
@@ -53,6 +60,9 @@ add (table, slot) = stateful [] (number_of (outcome_of table (AddSlot slot)).ans
 
 abbrev pub frame : List ℕ × ℕ → Call
 frame (rows, port) = stateful [] (frame_of rows port).answer [] [] rows (frame_of rows port).rows rows
+
+abbrev pub start : List ℕ × ℕ → Call
+start (names, n) = stateful [] (number_of (start_of names n).answer) [] [] (start_of names 0).table (start_of names n).table (empty_of names)
 
 idle : State → Bool
 idle Idle = true
@@ -75,6 +85,10 @@ TOLD = "pub number_of : Answered → ℕ\nnumber_of = number_told refused_number
 
 # a call that gives a part of its outcome alone
 PART = SOURCE.replace("result ≡ outcome_of table (AddSlot slot)", "result ≡ (outcome_of table (AddSlot slot)).table")
+
+
+# what a refused call leaves
+LEFT = "    ensures left { result_unwrap_or result (start_of names.now 0).table ≡ (start_of names.now count).table }\n"
 
 
 def files(source=SOURCE, face=FACE, table=TABLE, calls=CALLS, told=""):
@@ -100,6 +114,11 @@ CASES = [
     ("a part alone of a call that a law says is done", files(source=PART, told="pub add_done : (t : Table) → (outcome_of t).answer ≡ Done\n"), ""),
     ("a part alone, and no such law", files(source=PART), "one::add\tthe answer is not the result"),
     ("told of a record under another name", files(source=SOURCE.replace("result ≡ outcome_of table (AddSlot slot)", "result ≡ table_told (outcome_of table (AddSlot slot))")), ""),
+    ("the value of a told result dropped", files(source=SOURCE.replace(LEFT, "")), "one::start\twhat is returned is not what the contract says of a refused result"),
+    ("another value of a told result", files(source=SOURCE.replace("count).table }", "count).other }")), "one::start\twhat is returned is not what the contract says of a refused result"),
+    ("another value taken for a refused result", other("(start_of names 0).table (start", "(start_of names 1).table (start"), "one::start\twhat is returned is not what the contract says of a refused result"),
+    ("the value of a told result for itself", other("[] [] (start_of names 0).table (start", "[] [] (start_of names n).table (start"), "one::start\twhat is returned is not what the contract says of a refused result"),
+    ("another part of what the caller's own is made", other("(outcome_of table (AddSlot slot)).table table", "(outcome_of slot (AddSlot slot)).table table"), "one::add\twhat is returned is no part"),
     ("a number that nothing promises", files(source=SOURCE[SOURCE.index("pub fn write") :]), "one::write\tthe answer is not the result"),
     ("another answer", other("(number_of (write_answer f (length h4)))", "(number_of (read_answer f (length h4)))"), "one::write\tthe answer is not the result"),
     ("an answer of another argument", other("(length h4)))", "(length f)))"), "one::write\tthe answer is not the result"),

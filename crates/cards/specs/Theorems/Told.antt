@@ -1,6 +1,6 @@
 -- The code tells of a card's call by a Result, and loses nothing of its outcome: a refusal has the number of its answer, and a refused call leaves the card that it was given. A refused start leaves a card of two empty groups, and a refused reading shows what an empty group does.
 use Rattle.std.specs.Result.{result_unwrap_or}
-use Rattle.std.specs.Prelude.{◌≡◌, refl, Bool, true, false, cond, ◌||◌, ◌==◌, ◌≢◌, ℕ, replicate}
+use Rattle.std.specs.Prelude.{◌≡◌, Result, refl, Bool, true, false, cond, ◌||◌, ◌==◌, ◌≢◌, ℕ, replicate}
 use Rattle.std.proofs.Common.{ap, ◌∙◌, ltb, sym}
 use Rattle.ground.specs.Refusals.{number_told}
 use Rattle.sender.specs.Answers as S
@@ -10,6 +10,7 @@ use Rattle.sender.specs.Commands as T
 use Rattle.sender.specs.Theorems.Told.{sender_stands}
 use Rattle.sender.specs.declared.epochs.Sender.{Sender}
 use Rattle.cards.specs.declared.card.Card.{Card}
+use Rattle.cards.specs.declared.refusals.Refusal.{Refusal}
 use Rattle.cards.specs.Answers.{Answer, CardOutcome, answer_back, answer_number, from_sender, given, group_answer, outcome_back, refusal_number, told}
 use Rattle.cards.specs.Answers.Answer.{Done, NoSlot, NotAllowed, WaitOpen, OutOfRange, Field, Length, Owned, Used}
 use Rattle.cards.specs.Calls.{Call, outcome_of}
@@ -81,7 +82,11 @@ refused_stands c g k =
 pub card_kept : (c : Card) (g : ℕ) (k : Call) → result_unwrap_or (told (outcome_of c g k)) c ≡ (outcome_of c g k).card
 card_kept c g k = told_kept (outcome_of c g k).answer c (outcome_of c g k).card (refused_stands c g k)
 
--- so that the card given and what is told give the outcome
+-- so that whoever takes the card given where the call is refused has what it leaves
+pub card_left : (c : Card) (g : ℕ) (k : Call) {r : Result Card Refusal} → r ≡ told (outcome_of c g k) → result_unwrap_or r c ≡ (outcome_of c g k).card
+card_left c g k e = ap (λ (r : Result Card Refusal). result_unwrap_or r c) e ∙ card_kept c g k
+
+-- and the card given and what is told give the outcome
 pub nothing_lost : (c : Card) (g : ℕ) (k : Call) → outcome_back c (told (outcome_of c g k)) ≡ outcome_of c g k
 nothing_lost c g k =
     let r : CardOutcome = outcome_of c g k in

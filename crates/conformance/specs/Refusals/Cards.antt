@@ -21,7 +21,7 @@ use Rattle.sender.specs.Answers as S
 use Rattle.sender.specs.Board.{board_of}
 use Rattle.sender.specs.Commands.{fresh_of}
 use Rattle.sender.specs.Epochs as E
-use Rattle.sender.specs.Epochs.{SenderCall, begin_of, fresh_sender, sender_outcome_of}
+use Rattle.sender.specs.Epochs.{SenderCall, begin_of, fresh_sender, ranks_of, sender_outcome_of}
 use Rattle.sender.specs.Table.{is_member, slot_count}
 use Rattle.sender.specs.Table.{answer_number as sender_number}
 
@@ -53,7 +53,7 @@ abbrev pub start : ℕ × ℕ × ℕ × ℕ → Call
 start (kind, count, epoch_0, epoch_1) =
     stateful (If 4 (count == 0 || 64 <? count) ∷ [])
     (answer_number (start_of kind count epoch_0 epoch_1).answer) [] []
-    (empty_card kind epoch_0 epoch_1) (start_of kind count epoch_0 epoch_1).card (empty_card kind epoch_0 epoch_1)
+    (start_of kind 0 epoch_0 epoch_1).card (start_of kind count epoch_0 epoch_1).card (empty_card kind epoch_0 epoch_1)
 
 pub start_copes : (x : ℕ × ℕ × ℕ × ℕ) → Copes (start x)
 unfolding start_of
@@ -207,7 +207,7 @@ outgoing_copes (self, group) = copes _ (λ g. rw g, λ g. rw g (refl, refl, refl
 abbrev pub ranks : Card × ℕ → Call
 ranks (self, group) =
     stateful (Unless 1 (group <? 2) ∷ [])
-    (answer_number (ranks_shown self group).answer) [] [] (E.ranks_of empty_sender) (ranks_shown self group).ranks (E.ranks_of empty_sender)
+    (answer_number (ranks_shown self group).answer) [] [] (ranks_of empty_sender) (ranks_shown self group).ranks (ranks_of empty_sender)
 
 pub ranks_copes : (x : Card × ℕ) → Copes (ranks x)
 unfolding ranks_shown shown_sender

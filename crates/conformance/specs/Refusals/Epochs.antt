@@ -25,7 +25,7 @@ use Rattle.sender.specs.Table.{answer_number, slot_count}
 abbrev pub start : ℕ × ℕ × ℕ → Call
 start (kind, count, epoch) =
     stateful (If 4 (count == 0 || 64 <? count) ∷ [])
-    (answer_number (begin_of kind count epoch).answer) [] [] (fresh_sender (fresh_of kind 0) epoch) (begin_of kind count epoch).sender (fresh_sender (fresh_of kind 0) epoch)
+    (answer_number (begin_of kind count epoch).answer) [] [] (begin_of kind 0 epoch).sender (begin_of kind count epoch).sender (fresh_sender (fresh_of kind 0) epoch)
 
 pub start_copes : (x : ℕ × ℕ × ℕ) → Copes (start x)
 unfolding begin_of

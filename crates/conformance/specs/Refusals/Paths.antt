@@ -5,7 +5,8 @@ use Rattle.c_cards.specs.Plans.{check_answer_c, check_byte_c, lent_answer, lent_
 use Rattle.ground.specs.Counting.Words.{every}
 use Rattle.paths.specs.Answers.{Done, Range, answer_of, are_short, number_of}
 use Rattle.paths.specs.Checking.{checked_of}
-use Rattle.paths.specs.Planning.{plan_of, set_of}
+use Rattle.paths.specs.declared.planning.Proposal.{Proposal}
+use Rattle.paths.specs.Planning.{nothing, plan_of, proposal_in, set_of}
 use Rattle.conformance.specs.Refusals.Entries.{Call, Copes, Unless, copes, stateful, stateless}
 
 -- 'k of 0 or above the number of candidates, more than 64 candidates, a delay above 4,095, or W outside 16 to 2,048 is 4'
@@ -25,8 +26,11 @@ number_is delays k W = go (ranged delays k W)
 abbrev no_paths : List ℕ
 no_paths = replicate 64 255
 
+abbrev no_plan : Proposal
+no_plan = record { paths = no_paths; count = 0 }
+
 abbrev pub plan : List ℕ × ℕ × ℕ → Call
-plan (delays, k, W) = stateful (Unless 4 (ranged delays k W) ∷ []) (number_of (plan_of delays k W).answer) [] [] no_paths (plan_of delays k W).paths no_paths
+plan (delays, k, W) = stateful (Unless 4 (ranged delays k W) ∷ []) (number_of (plan_of delays k W).answer) [] [] (proposal_in (nothing Range)) (proposal_in (plan_of delays k W)) no_plan
 
 pub plan_copes : (x : List ℕ × ℕ × ℕ) → Copes (plan x)
 unfolding plan_of set_of answer_of are_short

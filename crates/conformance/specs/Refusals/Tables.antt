@@ -11,11 +11,11 @@ use Rattle.sender.specs.Commands.{add_of, added_to, fresh_of, in_order, lapse_of
 use Rattle.sender.specs.Reports.{report_of}
 use Rattle.sender.specs.Table.{answer_number, is_member, slot_count, slot_at}
 
--- 4: 'group count .. out of range', 'an empty group'; there is no state before a start, so the empty group stands for it
+-- 4: 'group count .. out of range', 'an empty group'; there is no state before a start, so what `empty` gives stands for it
 abbrev pub start : ℕ × ℕ → Call
 start (kind, count) =
     stateful (If 4 (count == 0 || 64 <? count) ∷ [])
-    (answer_number (start_of kind count).answer) [] [] (fresh_of kind 0) (start_of kind count).table (fresh_of kind 0)
+    (answer_number (start_of kind count).answer) [] [] (start_of kind 0).table (start_of kind count).table (fresh_of kind 0)
 
 pub start_copes : (x : ℕ × ℕ) → Copes (start x)
 unfolding start_of

@@ -1,16 +1,10 @@
 -- The code tells of an order by a Result, and loses nothing: an order that is refused leaves the card that it was given.
 use Rattle.std.specs.Prelude.{◌≡◌, refl, List, ℕ, take, length, ◌==◌}
-use Rattle.std.specs.Result.{result_unwrap_or}
 use Rattle.std.proofs.Common.{ltb}
 use Rattle.ground.specs.Truth.{cond_by}
 use Rattle.cards.specs.declared.card.Card.{Card}
-use Rattle.cards.specs.Answers.{answer_back}
 use Rattle.orders.specs.declared.commands.Command.{Command}
-use Rattle.orders.specs.Orders.{Ordered, first_ordered, ordered_of, ordered_told}
-
--- the card given and what is told give the whole
-abbrev pub ordered_back : Ordered → Card → Ordered
-ordered_back r card = record { card = result_unwrap_or (ordered_told r) card; answer = answer_back (ordered_told r) }
+use Rattle.orders.specs.Orders.{Ordered, first_ordered, ordered_back, ordered_of}
 
 pub nothing_lost : (card : Card) (cs : List Command) (k : ℕ) → ordered_back (ordered_of card cs k) card ≡ ordered_of card cs k
 nothing_lost card cs k = cond_by (λ (r : Ordered). ordered_back r card ≡ r) (length cs == k) _ _ (λ t. refl) (λ f. refl)

@@ -1,13 +1,14 @@
 -- What `paths::check` and `paths::plan` return, in the request's words: 4 for all that is refused, and under 0 exactly the good sets.
 use Rattle.std.specs.Prelude.{◌≡◌, Bool, true, false, List, [], ◌∷◌, ℕ, ◌-◌, ◌≤◌, length}
+use Rattle.std.specs.Result.{result_unwrap_or}
 use Rattle.std.proofs.Math.Path.{refl}
 use Rattle.std.proofs.Common.{sym, ap, ◌∙◌, arith}
 use Rattle.ground.specs.Truth.{and_left, and_right}
 use Rattle.paths.specs.Answers.{Range, answer_of, in_range, number_of}
-use Rattle.paths.specs.Checking.{accepts, checked_of}
+use Rattle.paths.specs.Checking.{accepts, checked_of, told as checked_told}
 use Rattle.paths.specs.Laws.Answers.{asked_in_lem, in_asked, in_done, out_range}
 use Rattle.paths.specs.Paths.{Asked, Good, spread_of}
-use Rattle.paths.specs.Planning.{nothing, plan_of, planned, set_of}
+use Rattle.paths.specs.Planning.{nothing, plan_of, planned, proposal_in, set_of, told}
 use Rattle.paths.specs.Theorems.Checking.{accepts_good, good_accepts}
 use Rattle.paths.specs.Theorems.Planning.{none_says, plan_paths, says_none, sound, tightest_set}
 
@@ -51,6 +52,15 @@ module _ (delays : List ℕ) (k W : ℕ) where
         go true e = absurd (never (in_asked delays k W e))
         go false e = rw e
 
+    -- so that whoever takes false where it is refused has what it says
+    pub check_left : result_unwrap_or (checked_told (checked_of delays k W set)) false ≡ (checked_of delays k W set).accepted
+    unfolding checked_of answer_of
+    check_left = go (in_range delays k W) refl
+      where
+        go : (b : Bool) → in_range delays k W ≡ b → result_unwrap_or (checked_told (checked_of delays k W set)) false ≡ (checked_of delays k W set).accepted
+        go true e = rw e refl
+        go false e = rw e refl
+
     pub check_numbers : number_of (checked_of delays k W set).answer ≡ number_of (answer_of delays k W)
     unfolding checked_of
     check_numbers = refl
@@ -63,6 +73,15 @@ module _ (delays : List ℕ) (k W : ℕ) where
       go : (b : Bool) → in_range delays k W ≡ b → plan_of delays k W ≡ nothing Range
       go true e = absurd (never (in_asked delays k W e))
       go false e = rw e
+
+  -- so that whoever takes no path where it is refused has what it proposes
+  pub plan_left : result_unwrap_or (told (plan_of delays k W)) (proposal_in (nothing Range)) ≡ proposal_in (plan_of delays k W)
+  unfolding plan_of set_of answer_of
+  plan_left = go (in_range delays k W) refl
+    where
+      go : (b : Bool) → in_range delays k W ≡ b → result_unwrap_or (told (plan_of delays k W)) (proposal_in (nothing Range)) ≡ proposal_in (plan_of delays k W)
+      go true e = rw e refl
+      go false e = rw e refl
 
   out_none : in_range delays k W ≡ false → set_of delays k W ≡ []
   unfolding set_of

@@ -1,9 +1,10 @@
 -- The code tells of a call by a Result, and loses nothing of its outcome: a refusal has the number of its answer, and a refused call leaves what it was given, so that whoever keeps that knows the whole outcome. A refused start alone leaves something else, the empty group.
 use Rattle.std.specs.Result.{result_unwrap_or}
-use Rattle.std.specs.Prelude.{Ok, ◌≡◌, refl, Bool, true, false, cond, not, ◌||◌, ◌==◌, ◌&&◌, ◌≢◌, ℕ}
-use Rattle.std.proofs.Common.{ap, ltb, sym}
+use Rattle.std.specs.Prelude.{Result, Ok, ◌≡◌, refl, Bool, true, false, cond, not, ◌||◌, ◌==◌, ◌&&◌, ◌≢◌, ℕ}
+use Rattle.std.proofs.Common.{◌∙◌, ap, ltb, sym}
 use Rattle.ground.specs.Refusals.{number_told}
 use Rattle.sender.specs.declared.epochs.Sender.{Sender}
+use Rattle.sender.specs.declared.refusals.Refusal.{Refusal}
 use Rattle.sender.specs.declared.table.Table.{Table}
 use Rattle.sender.specs.Answers.{Answer, Outcome, SenderOutcome, answer_back, given, outcome_back, refusal_number, sender_back, sender_told, told}
 use Rattle.sender.specs.Answers.Answer.{Done, NoSlot, NotAllowed, WaitOpen, OutOfRange, Field, Length}
@@ -76,13 +77,22 @@ refused_stands t Lapse n = go t.wait n
 pub table_kept : (t : Table) (c : Call) → result_unwrap_or (told (outcome_of t c)) t ≡ (outcome_of t c).table
 table_kept t c = told_kept (outcome_of t c).answer t (outcome_of t c).table (refused_stands t c)
 
--- so that the table given and what is told give the outcome
+-- so that whoever takes the table given where the call is refused has what it leaves
+pub table_left : (t : Table) (c : Call) {r : Result Table Refusal} → r ≡ told (outcome_of t c) → result_unwrap_or r t ≡ (outcome_of t c).table
+table_left t c e = ap (λ (r : Result Table Refusal). result_unwrap_or r t) e ∙ table_kept t c
+
+-- and the table given and what is told give the outcome
 pub nothing_lost : (t : Table) (c : Call) → outcome_back t (told (outcome_of t c)) ≡ outcome_of t c
 nothing_lost t c =
     let r : Outcome = outcome_of t c in
     rw (told_kept r.answer t r.table (refused_stands t c), told_answer r.answer r.table) refl
 
--- and what the sender gives of one is its whole outcome
+-- and the table that the code gives of one is its whole outcome
+pub table_reported : (t : Table) (e mst ack : ℕ) → told (outcome_of t (Report e mst ack)) ≡ Ok (outcome_of t (Report e mst ack)).table
+unfolding report_of
+table_reported t e mst ack = refl
+
+-- as is the sender that it gives
 pub report_told : (s : Sender) (e mst ack : ℕ) → sender_told (sender_outcome_of s (OnTable (Report e mst ack))) ≡ Ok (sender_outcome_of s (OnTable (Report e mst ack))).sender
 unfolding report_of
 report_told s e mst ack = refl
@@ -102,12 +112,15 @@ sender_stands s (StartEpoch gid mst ack) n = go (ltb gid 2 && ltb ack 2) n
 pub sender_kept : (s : Sender) (c : SenderCall) → result_unwrap_or (sender_told (sender_outcome_of s c)) s ≡ (sender_outcome_of s c).sender
 sender_kept s c = told_kept (sender_outcome_of s c).answer s (sender_outcome_of s c).sender (sender_stands s c)
 
+pub sender_left : (s : Sender) (c : SenderCall) {r : Result Sender Refusal} → r ≡ sender_told (sender_outcome_of s c) → result_unwrap_or r s ≡ (sender_outcome_of s c).sender
+sender_left s c e = ap (λ (r : Result Sender Refusal). result_unwrap_or r s) e ∙ sender_kept s c
+
 pub sender_lost : (s : Sender) (c : SenderCall) → sender_back s (sender_told (sender_outcome_of s c)) ≡ sender_outcome_of s c
 sender_lost s c =
     let r : SenderOutcome = sender_outcome_of s c in
     rw (told_kept r.answer s r.sender (sender_stands s c), told_answer r.answer r.sender) refl
 
--- a refused start leaves the empty group
+-- a refused start leaves the empty group, which `empty` gives
 pub start_lost : (kind count : ℕ) → outcome_back (start_of kind 0).table (told (start_of kind count)) ≡ start_of kind count
 unfolding start_of
 start_lost kind count = go (count == 0 || ltb 64 count)

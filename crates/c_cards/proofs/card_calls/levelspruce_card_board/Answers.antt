@@ -19,9 +19,9 @@ own_card-card-requires c =
 pub returns-in-Ok : goal.returns-in-Ok
 returns-in-Ok c =
     let o = opened c.args.state.now c.args.group _ c.refusal-first.ensures c.if-first-ne0.false in
-    shown_done c.args.state.now c.args.group o 130 _ _ _ c.if-board-ne-BOARD_BYTES.false (c.put_board.ensures ∙ board_own c.args.state.now c.args.group o _ c.own_card-card.ensures (sym c.in-Ok.is ∙ c.board.ensures))
+    shown_done c.args.state.now c.args.group o 130 _ _ _ c.if-board-ne-BOARD_BYTES.false (c.put_board.ensures ∙ board_own c.args.state.now c.args.group o _ c.own_card-card.ensures (sym c.in-Ok.is ∙ c.board.ensures.told))
 
 pub returns-in-Err : goal.returns-in-Err
 returns-in-Err c =
     let o = opened c.args.state.now c.args.group _ c.refusal-first.ensures c.if-first-ne0.false in
-    absurd (board_not c.args.state.now c.args.group o _ c.own_card-card.ensures (sym c.in-Err.is ∙ c.board.ensures))
+    absurd (board_not c.args.state.now c.args.group o _ c.own_card-card.ensures (sym c.in-Err.is ∙ c.board.ensures.told))

@@ -20,4 +20,4 @@ keep-requires c =
 
 pub returns : goal.returns
 returns c =
-    call_kept c.args.state.now c.args.group (opened c.args.state.now c.args.group _ c.refusal-first.ensures c.if-first-ne0.false) _ c.own_card-card.ensures true Lapse _ _ _ refl c.lapse.ensures c.keep.ensures
+    call_kept c.args.state.now c.args.group (opened c.args.state.now c.args.group _ c.refusal-first.ensures c.if-first-ne0.false) _ c.own_card-card.ensures true Lapse _ _ _ refl c.lapse.ensures.told c.keep.ensures

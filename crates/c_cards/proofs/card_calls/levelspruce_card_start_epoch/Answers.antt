@@ -37,4 +37,4 @@ keep-requires c =
 
 pub returns : goal.returns
 returns c =
-    call_kept c.args.state.now c.args.group (opened c.args.state.now c.args.group _ c.refusal-first.ensures c.if-first-ne0.false) _ c.own_card-card.ensures (are_bytes c.args.gid c.args.mst c.args.rs_ack) (StartEpoch c.args.gid c.args.mst c.args.rs_ack) _ _ _ (sym c.are_bytes.ensures ∙ c.if-not-are_bytes.false) c.start_epoch.ensures c.keep.ensures
+    call_kept c.args.state.now c.args.group (opened c.args.state.now c.args.group _ c.refusal-first.ensures c.if-first-ne0.false) _ c.own_card-card.ensures (are_bytes c.args.gid c.args.mst c.args.rs_ack) (StartEpoch c.args.gid c.args.mst c.args.rs_ack) _ _ _ (sym c.are_bytes.ensures ∙ c.if-not-are_bytes.false) c.start_epoch.ensures.told c.keep.ensures

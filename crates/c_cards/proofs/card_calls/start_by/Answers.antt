@@ -42,10 +42,10 @@ overflow_cast-first_epoch_1 c =
 pub returns-in-Ok : goal.returns-in-Ok
 returns-in-Ok c =
     let ranged = sym c.is_no_start-2.ensures ∙ c.if-is_no_start-2.false in
-    let card = start_is c.args.kind c.args.count c.args.first_epoch_0 c.args.first_epoch_1 c.args.state.now ranged (sym c.in-Ok.is ∙ c.start.ensures) in
+    let card = start_is c.args.kind c.args.count c.args.first_epoch_0 c.args.first_epoch_1 c.args.state.now ranged (sym c.in-Ok.is ∙ c.start.ensures.told) in
     start_done c.args.kind c.args.count c.args.first_epoch_0 c.args.first_epoch_1 _ _ c.if-state-ne-CARD_BYTES.false ranged (sym c.are_epochs.ensures ∙ c.if-not-are_epochs.false)
     (c.put_whole-in-Ok.ensures ∙ ap (λ (d : Card). put_card d c.args.state.now) card)
 
 pub returns-in-Err : goal.returns-in-Err
 returns-in-Err c =
-    absurd (start_not c.args.kind c.args.count c.args.first_epoch_0 c.args.first_epoch_1 c.args.state.now (sym c.is_no_start-2.ensures ∙ c.if-is_no_start-2.false) (sym c.in-Err.is ∙ c.start.ensures))
+    absurd (start_not c.args.kind c.args.count c.args.first_epoch_0 c.args.first_epoch_1 c.args.state.now (sym c.is_no_start-2.ensures ∙ c.if-is_no_start-2.false) (sym c.in-Err.is ∙ c.start.ensures.told))

@@ -18,12 +18,12 @@ returns-then-changes-ge3 c =
 
 pub returns-in-Err : goal.returns-in-Err
 returns-in-Err c =
-    let f = rw (c.board_from-old.ensures, c.changes_from-told.ensures) at c.in-Err.ensures in
+    let f = rw (c.board_from-old.ensures, c.changes_from-told.ensures) at c.in-Err.ensures.told in
     let q = refused_number _ _ c.in-Err.refusal _ f c.number.ensures in
     applied_refusal _ _ c.if-board-ne-BOARD_BYTES.false c.if-changes-ne-CHANGES_BYTES.false c.if-changes-ge3.false _ q.0 q.1
 
 pub returns-in-Ok : goal.returns-in-Ok
 returns-in-Ok c =
-    let f = rw (c.board_from-old.ensures, c.changes_from-told.ensures) at c.in-Ok.ensures in
+    let f = rw (c.board_from-old.ensures, c.changes_from-told.ensures) at c.in-Ok.ensures.told in
     applied_told _ _ c.if-board-ne-BOARD_BYTES.false c.if-changes-ne-CHANGES_BYTES.false c.if-changes-ge3.false 0 (done_number _ _ _ f) _ refl
     (c.put_board.ensures ∙ ap board_bytes_of (sym (told_done _ _ _ f).1))

@@ -18,12 +18,12 @@ returns-then-changes-ne-CHANGES_BYTES c =
 
 pub returns-in-Err : goal.returns-in-Err
 returns-in-Err c =
-    let f = rw (c.board_from-old.ensures, c.board_from-new.ensures) at c.in-Err.ensures in
+    let f = rw (c.board_from-old.ensures, c.board_from-new.ensures) at c.in-Err.ensures.told in
     let q = refused_number _ _ c.in-Err.refusal _ f c.number.ensures in
     compared_refusal _ _ _ c.if-before-ne-BOARD_BYTES.false c.if-after-ne-BOARD_BYTES.false c.if-changes-ne-CHANGES_BYTES.false _ q.0 q.1
 
 pub returns-in-Ok : goal.returns-in-Ok
 returns-in-Ok c =
-    let f = rw (c.board_from-old.ensures, c.board_from-new.ensures) at c.in-Ok.ensures in
+    let f = rw (c.board_from-old.ensures, c.board_from-new.ensures) at c.in-Ok.ensures.told in
     compared_told _ _ _ c.if-before-ne-BOARD_BYTES.false c.if-after-ne-BOARD_BYTES.false c.if-changes-ne-CHANGES_BYTES.false 0 (done_number _ _ _ f) _ refl
     (c.put_changes.ensures ∙ ap changes_bytes_of (sym (told_done _ _ _ f).1))

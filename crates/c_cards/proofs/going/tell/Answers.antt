@@ -14,12 +14,12 @@ returns-then-changes-ne-CHANGES_BYTES c = tell_second _ _ _ c.if-told-ne-BOARD_B
 
 pub returns-in-Err : goal.returns-in-Err
 returns-in-Err c =
-    let f = rw c.board_from-old.ensures at c.in-Err.ensures in
+    let f = rw c.board_from-old.ensures at c.in-Err.ensures.told in
     let q = refused_number _ _ c.in-Err.refusal _ f c.number.ensures in
     tell_refusal _ _ _ c.if-told-ne-BOARD_BYTES.false c.if-changes-ne-CHANGES_BYTES.false _ refl _ q.0 q.1
 
 pub returns-in-Ok : goal.returns-in-Ok
 returns-in-Ok c =
-    let f = rw c.board_from-old.ensures at c.in-Ok.ensures in
+    let f = rw c.board_from-old.ensures at c.in-Ok.ensures.told in
     tell_done _ _ _ c.if-told-ne-BOARD_BYTES.false c.if-changes-ne-CHANGES_BYTES.false _ refl 0 (done_number _ _ _ f) _ _ refl c.put_board.ensures
     (c.put_changes.ensures ∙ ap changes_bytes_of (sym (told_done _ _ _ f).1))

@@ -10,16 +10,16 @@ use Rattle.c_cards.proofs.plans.levelspruce_paths_plan.Goals as goal
 pub returns-in-Err : goal.returns-in-Err
 unfolding plan_of
 returns-in-Err c =
-    let four : number_of (answer_of c.args.delays.now c.args.k c.args.window) ≡ 4 = told_err _ _ c.in-Err.refusal (sym c.plan.ensures ∙ c.in-Err.is) in
+    let four : number_of (answer_of c.args.delays.now c.args.k c.args.window) ≡ 4 = told_err _ _ c.in-Err.refusal (sym c.plan.ensures.told ∙ c.in-Err.is) in
     lent_refused c.number.result _ 65 _ _ (c.number.ensures ∙ sym four) (omega arith)
 
 pub returns-then-plan-ne65 : goal.returns-then-plan-ne65
 unfolding plan_of
 returns-then-plan-ne65 c =
-    lent_short _ 65 _ _ (told_ok (answer_of c.args.delays.now c.args.k c.args.window) _ _ (sym c.plan.ensures ∙ c.in-Ok.is)).0 c.if-plan-ne65.true
+    lent_short _ 65 _ _ (told_ok (answer_of c.args.delays.now c.args.k c.args.window) _ _ (sym c.plan.ensures.told ∙ c.in-Ok.is)).0 c.if-plan-ne65.true
 
 pub returns : goal.returns
 unfolding plan_of
 returns c =
-    let t = told_ok (answer_of c.args.delays.now c.args.k c.args.window) (proposal_in (plan_of c.args.delays.now c.args.k c.args.window)) c.in-Ok.proposal (sym c.plan.ensures ∙ c.in-Ok.is) in
+    let t = told_ok (answer_of c.args.delays.now c.args.k c.args.window) (proposal_in (plan_of c.args.delays.now c.args.k c.args.window)) c.in-Ok.proposal (sym c.plan.ensures.told ∙ c.in-Ok.is) in
     lent_done _ 65 _ _ t.0 c.if-plan-ne65.false _ (c.put_plan.ensures ∙ ap (λ (p : Proposal). p.count ∷ p.paths) t.1)

@@ -13,11 +13,11 @@ returns-then-text-lt-SPEECH_ROOM c = whole_second _ _ _ c.if-board-ne-BOARD_BYTE
 
 pub returns-in-Err : goal.returns-in-Err
 returns-in-Err c =
-    let f = rw c.board_from-shown.ensures at c.in-Err.ensures in
+    let f = rw c.board_from-shown.ensures at c.in-Err.ensures.told in
     let q = refused_number _ _ c.in-Err.refusal _ f.0 c.number.ensures in
     whole_refusal _ _ _ c.if-board-ne-BOARD_BYTES.false c.if-text-lt-SPEECH_ROOM.false _ _ _ refl q.0 f.1 q.1
 
 pub returns-in-Ok : goal.returns-in-Ok
 returns-in-Ok c =
-    let f = rw c.board_from-shown.ensures at c.in-Ok.ensures in
+    let f = rw c.board_from-shown.ensures at c.in-Ok.ensures.told in
     rw (← (told_done _ _ _ f.0).1) (whole_told _ _ _ c.if-board-ne-BOARD_BYTES.false c.if-text-lt-SPEECH_ROOM.false _ _ _ refl (done_number _ _ _ f.0) f.1 refl)

@@ -9,4 +9,4 @@ pub returns-then-state-ne-SENDER_BYTES : goal.returns-then-state-ne-SENDER_BYTES
 returns-then-state-ne-SENDER_BYTES c = call_length _ true (OnTable Lapse) c.if-state-ne-SENDER_BYTES.true
 
 pub returns : goal.returns
-returns c = call_kept _ true (OnTable Lapse) _ _ _ _ c.if-state-ne-SENDER_BYTES.false refl c.sender_of-sender.ensures c.lapse.ensures c.keep.ensures
+returns c = call_kept _ true (OnTable Lapse) _ _ _ _ c.if-state-ne-SENDER_BYTES.false refl c.sender_of-sender.ensures c.lapse.ensures.told c.keep.ensures

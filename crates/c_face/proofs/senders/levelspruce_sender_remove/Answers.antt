@@ -11,4 +11,4 @@ returns-then-state-ne-SENDER_BYTES c =
 
 pub returns : goal.returns
 returns c =
-    call_kept _ true (OnTable (RemoveSlot c.args.slot)) _ _ _ _ c.if-state-ne-SENDER_BYTES.false refl c.sender_of-sender.ensures c.remove.ensures c.keep.ensures
+    call_kept _ true (OnTable (RemoveSlot c.args.slot)) _ _ _ _ c.if-state-ne-SENDER_BYTES.false refl c.sender_of-sender.ensures c.remove.ensures.told c.keep.ensures

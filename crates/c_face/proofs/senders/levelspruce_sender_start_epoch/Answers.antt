@@ -29,4 +29,4 @@ overflow_cast-rs_ack c =
 
 pub returns : goal.returns
 returns c =
-    call_kept _ (are_bytes c.args.gid c.args.mst c.args.rs_ack) (StartEpoch c.args.gid c.args.mst c.args.rs_ack) _ _ _ _ c.if-state-ne-SENDER_BYTES.false (sym c.are_bytes.ensures ∙ c.if-not-are_bytes.false) c.sender_of-sender.ensures c.start_epoch.ensures c.keep.ensures
+    call_kept _ (are_bytes c.args.gid c.args.mst c.args.rs_ack) (StartEpoch c.args.gid c.args.mst c.args.rs_ack) _ _ _ _ c.if-state-ne-SENDER_BYTES.false (sym c.are_bytes.ensures ∙ c.if-not-are_bytes.false) c.sender_of-sender.ensures c.start_epoch.ensures.told c.keep.ensures

@@ -33,4 +33,4 @@ overflow_cast-first_epoch c =
 
 pub returns : goal.returns
 returns c =
-    start_done c.args.kind c.args.count c.args.«first_epoch» _ _ _ c.if-state-ne-SENDER_BYTES.false (sym c.is_no_start-2.ensures ∙ c.if-is_no_start-2.false) (sym c.is_epoch.ensures ∙ c.if-not-is_epoch.false) c.start.ensures c.keep.ensures
+    start_done c.args.kind c.args.count c.args.«first_epoch» _ _ _ c.if-state-ne-SENDER_BYTES.false (sym c.is_no_start-2.ensures ∙ c.if-is_no_start-2.false) (sym c.is_epoch.ensures ∙ c.if-not-is_epoch.false) c.start.ensures.told c.keep.ensures

@@ -1,9 +1,14 @@
 -- In range k is 1 to the number of delays, these are 64 at most, and W is 16 at least: all that the proposal requires.
-use Rattle.std.proofs.Common.{◌≡◌, true, arith, sym}
+use Rattle.std.specs.Prelude.{Result}
+use Rattle.std.specs.Result.{result_unwrap_or}
+use Rattle.std.proofs.Common.{◌≡◌, ◌∙◌, ap, true, arith, sym}
 use Rattle.std.proofs.lemmas.Result.{err_from_is_err_and}
 use Rattle.paths.proofs.Answering.{asked_in, asked_out, plan_in, told_in, told_out}
-use Rattle.paths.specs.Answers.{in_range}
-use Rattle.paths.specs.Planning.{plan_of}
+use Rattle.paths.specs.declared.answers.OutOfRange.{OutOfRange}
+use Rattle.paths.specs.declared.planning.Proposal.{Proposal}
+use Rattle.paths.specs.Answers.{Range, in_range}
+use Rattle.paths.specs.Planning.{nothing, plan_of, proposal_in}
+use Rattle.paths.specs.Theorems.Returned.{plan_left}
 use Rattle.paths.specs.Laws.Answers.{in_asked}
 use Rattle.paths.proofs.planning.plan.Goals as goal
 use Rattle.paths.proofs.planning.plan.Goals.{In_ok-asked}
@@ -17,14 +22,20 @@ overflow_sub-window c = let z = in_asked c.args.delays.now c.args.k c.args.windo
 pub proposed-requires : goal.proposed-requires
 proposed-requires c = let z = in_asked c.args.delays.now c.args.k c.args.window (ranged (goal.at.proposed-requires c).In_ok-asked) in (z.few, z.one, z.enough)
 
-pub returns : goal.returns
+pub returns-clause-told : goal.returns-clause-told
 unfolding plan_of
-returns c =
-    let i : in_range c.args.delays.now c.args.k c.args.window ≡ true = ranged (goal.at.returns c).In_ok-asked in
+returns-clause-told c =
+    let i : in_range c.args.delays.now c.args.k c.args.window ≡ true = ranged (goal.at.returns-clause-told c).In_ok-asked in
     rw (c.proposed.ensures, plan_in c.args.delays.now c.args.k c.args.window i) (sym (told_in c.args.delays.now c.args.k c.args.window _ i))
 
-pub returns-in_err-asked : goal.returns-in_err-asked
+pub returns-in_err-asked-clause-told : goal.returns-in_err-asked-clause-told
 unfolding plan_of
-returns-in_err-asked c =
+returns-in_err-asked-clause-told c =
     let p = err_from_is_err_and c.from_residual.result c.from_residual.ensures.1 in
     rw p.1 (sym (told_out c.args.delays.now c.args.k c.args.window _ (asked_out c.args.delays.now c.args.k c.args.window c.asked.result c.in_err-asked.field-0.0 c.asked.ensures c.in_err-asked.was)))
+
+pub returns-clause-left : goal.returns-clause-left
+returns-clause-left c = ap (λ (r : Result Proposal OutOfRange). result_unwrap_or r (proposal_in (nothing Range))) (returns-clause-told c) ∙ plan_left c.args.delays.now c.args.k c.args.window
+
+pub returns-in_err-asked-clause-left : goal.returns-in_err-asked-clause-left
+returns-in_err-asked-clause-left c = ap (λ (r : Result Proposal OutOfRange). result_unwrap_or r (proposal_in (nothing Range))) (returns-in_err-asked-clause-told c) ∙ plan_left c.args.delays.now c.args.k c.args.window

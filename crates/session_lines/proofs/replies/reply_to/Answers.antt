@@ -9,15 +9,15 @@ use Rattle.session_lines.proofs.replies.reply_to.Goals as goal
 
 pub returns-in-Size : goal.returns-in-Size
 unfolding reply_of
-returns-in-Size c = rw c.in-Size.is (size_as c.args.table _ c.start.ensures c.replied.ensures)
+returns-in-Size c = rw c.in-Size.is (size_as c.args.table _ c.start.ensures.told c.replied.ensures)
 
 pub returns-in-Add : goal.returns-in-Add
 unfolding reply_of
-returns-in-Add c = rw c.in-Add.is (replied_as c.args.table (AddSlot c.in-Add.slot) c.add.ensures c.replied-in-Add.ensures)
+returns-in-Add c = rw c.in-Add.is (replied_as c.args.table (AddSlot c.in-Add.slot) c.add.ensures.told c.replied-in-Add.ensures)
 
 pub returns-in-Remove : goal.returns-in-Remove
 unfolding reply_of
-returns-in-Remove c = rw c.in-Remove.is (replied_as c.args.table (RemoveSlot c.in-Remove.slot) c.remove.ensures c.replied-in-Remove.ensures)
+returns-in-Remove c = rw c.in-Remove.is (replied_as c.args.table (RemoveSlot c.in-Remove.slot) c.remove.ensures.told c.replied-in-Remove.ensures)
 
 pub returns-in-Report : goal.returns-in-Report
 unfolding reply_of
@@ -25,7 +25,7 @@ returns-in-Report c = grind (arith, common_steps, report_done)
 
 pub returns-in-Lapse : goal.returns-in-Lapse
 unfolding reply_of
-returns-in-Lapse c = rw c.in-Lapse.is (replied_as c.args.table Lapse c.lapse.ensures c.replied-in-Lapse.ensures)
+returns-in-Lapse c = rw c.in-Lapse.is (replied_as c.args.table Lapse c.lapse.ensures.told c.replied-in-Lapse.ensures)
 
 pub returns-in-Board : goal.returns-in-Board
 unfolding reply_of

@@ -7,8 +7,8 @@ use Rattle.speak_lines.proofs.lines.put_board.Goals as goal
 
 pub returns-then-runs : goal.returns-then-runs
 returns-then-runs c =
-    let n = told_written _ _ _ c.speak_whole.ensures.0 (whole_speech_known c.args.out.now c.board_of.result) c.unwrap_or.ensures in
-    rw n (board_runs c.args.runs c.args.out.now _ _ c.requires c.if-runs.true c.args.table c.board_of.result c.board_of.ensures (refl, c.speak_whole.ensures.1))
+    let n = told_written _ _ _ c.speak_whole.ensures.told.0 (whole_speech_known c.args.out.now c.board_of.result) c.unwrap_or.ensures in
+    rw n (board_runs c.args.runs c.args.out.now _ _ c.requires c.if-runs.true c.args.table c.board_of.result c.board_of.ensures (refl, c.speak_whole.ensures.told.1))
 
 pub returns : goal.returns
 returns c =

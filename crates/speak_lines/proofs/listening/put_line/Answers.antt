@@ -8,12 +8,12 @@ use Rattle.speak_lines.proofs.listening.put_line.Goals as goal
 pub returns-in-Ok : goal.returns-in-Ok
 returns-in-Ok c =
     text_epoch c.args.listener c.args.kept c.args.out.now _ _ c.is_epoch.result c.is_epoch.ensures c.if-is_epoch.true c.board_of.result c.board_of.ensures _ refl
-    (rw (← (told_done _ _ _ c.in-Ok.ensures).1) at c.put_changes.ensures)
+    (rw (← (told_done _ _ _ c.in-Ok.ensures.told).1) at c.put_changes.ensures)
 
 pub returns-in-Err : goal.returns-in-Err
 returns-in-Err c =
     text_epoch c.args.listener c.args.kept c.args.out.now _ _ c.is_epoch.result c.is_epoch.ensures c.if-is_epoch.true c.board_of.result c.board_of.ensures _ refl
-    (rw (uncompared _ _ _ c.in-Err.ensures, none_told c.args.listener.runs) (refl, refl))
+    (rw (uncompared _ _ _ c.in-Err.ensures.told, none_told c.args.listener.runs) (refl, refl))
 
 pub returns : goal.returns
 returns c =

@@ -2,16 +2,27 @@ use Rattle.std.proofs.Common.{arith}
 use Rattle.std.proofs.lemmas.Grind.{common_steps}
 use Rattle.cards.specs.Commands.{command_of}
 use Rattle.cards.specs.Parts.{group_outcome}
+use Rattle.cards.specs.Calls.Call.{RemoveSlot}
+use Rattle.cards.specs.Theorems.Told.{card_left}
 use Rattle.cards.proofs.card.Card.remove.Goals as goal
 
-pub returns-in_err-check_own : goal.returns-in_err-check_own
+pub returns-in_err-check_own-clause-told : goal.returns-in_err-check_own-clause-told
 unfolding command_of group_outcome
-returns-in_err-check_own c = grind (arith, common_steps)
+returns-in_err-check_own-clause-told c = grind (arith, common_steps)
 
-pub returns-in_err-sender : goal.returns-in_err-sender
+pub returns-in_err-sender-clause-told : goal.returns-in_err-sender-clause-told
 unfolding command_of group_outcome
-returns-in_err-sender c = grind (arith, common_steps)
+returns-in_err-sender-clause-told c = grind (arith, common_steps)
 
-pub returns : goal.returns
+pub returns-clause-told : goal.returns-clause-told
 unfolding command_of group_outcome
-returns c = grind (arith, common_steps)
+returns-clause-told c = grind (arith, common_steps)
+
+pub returns-in_err-check_own-clause-left : goal.returns-in_err-check_own-clause-left
+returns-in_err-check_own-clause-left c = card_left c.args.self c.args.group (RemoveSlot c.args.slot) (returns-in_err-check_own-clause-told c)
+
+pub returns-in_err-sender-clause-left : goal.returns-in_err-sender-clause-left
+returns-in_err-sender-clause-left c = card_left c.args.self c.args.group (RemoveSlot c.args.slot) (returns-in_err-sender-clause-told c)
+
+pub returns-clause-left : goal.returns-clause-left
+returns-clause-left c = card_left c.args.self c.args.group (RemoveSlot c.args.slot) (returns-clause-told c)
