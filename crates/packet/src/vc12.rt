@@ -82,7 +82,7 @@ fn number_in(row: [u8; 16]) -> u32
     ensures { result ≡ number (row_bits row) }
 {
     let mut number = 0;
-    for entry in &row {
+    for entry in row {
         number = number * 4 + (entry % 4) as u32;
     }
     number

@@ -1,5 +1,5 @@
 -- A part of a slice: what is read of it, and what a write to it leaves of the whole.
-use Rattle.std.specs.Prelude.{◌≡◌, refl, List, ◌++◌, ℕ, ◌+◌, ◌-◌, ◌≤◌, ◌<◌, length, get_or, drop, slice_range}
+use Rattle.std.specs.Prelude.{◌≡◌, refl, List, ℕ, ◌+◌, ◌-◌, ◌≤◌, ◌<◌, length, get_or, drop, slice_range}
 use Rattle.std.proofs.Common.{sym, ap, ◌∙◌, arith, rules, ⊎_elim, ext_get_or, get_or-take, get_or-drop, length-drop, length-take}
 use Rattle.std.proofs.lemmas.List.{places}
 use borrow.Rule.Slice.PartMut.{put_mid}
@@ -52,59 +52,3 @@ part_copied at from place n to ys inside fits e =
     part_put place n (place + n) to refl fits ys (ap length e ∙ part_length at n (at + n) from refl inside)
     ∙ fill_at_ext place n (λ j. get_or ys j 0) (λ j. get_or from (at + j) 0) to
     (λ j b. ap (λ (l : List ℕ). get_or l j 0) e ∙ part_at at n (at + n) from refl inside j b)
-
-filled_front : (n : ℕ) (f : ℕ → ℕ) (xs : List ℕ) (j : ℕ) → j < n → n ≤ length xs → get_or (fill_at 0 n f xs) j 0 ≡ f j
-filled_front n f xs j h fits = let z : 0 + j ≡ j = omega arith in rw z at (get_or_fill_at 0 n f xs j 0 h (omega arith))
-
--- bytes laid over a front
-module _ (n : ℕ) (xs ys : List ℕ) (long : length ys ≡ n) (fits : n ≤ length xs) where
-  laid_length : length (ys ++ drop n xs) ≡ length xs
-  laid_length = search (rules, places)
-
-  laid_within : (k : ℕ) → k < n → get_or (ys ++ drop n xs) k 0 ≡ get_or ys k 0
-  laid_within k h = search (rules, places)
-
-  laid_after : (k : ℕ) → n ≤ k → get_or (ys ++ drop n xs) k 0 ≡ get_or xs k 0
-  laid_after k h = search (rules, places)
-
-  pub front_put : ys ++ drop n xs ≡ fill_at 0 n (λ j. get_or ys j 0) xs
-  front_put =
-      ext_get_or 0 (ys ++ drop n xs) (fill_at 0 n (λ j. get_or ys j 0) xs) (laid_length ∙ sym (length_fill_at 0 n (λ j. get_or ys j 0) xs))
-      (λ k b. ⊎_elim (λ (h : n ≤ k). laid_after k h ∙ sym (get_or_after 0 n (λ j. get_or ys j 0) xs k 0 (omega arith)))
-      (λ (h : k < n). laid_within k h ∙ sym (filled_front n (λ j. get_or ys j 0) xs k h fits)) (le_or_lt n k))
-
--- the front of what stands from a place on, filled
-module _ (place n : ℕ) (f : ℕ → ℕ) (to : List ℕ) (fits : place + n ≤ length to) where
-  abbrev rest : List ℕ
-  rest = slice_range to place (length to)
-
-  pub behind_filled : put_mid place (length to - place) to (fill_at 0 n f rest) ≡ fill_at place n f to
-  behind_filled =
-      part_put place (length to - place) (length to) to (omega arith) (omega arith) (fill_at 0 n f rest) (length_fill_at 0 n f rest ∙ long)
-      ∙ ext_get_or 0 (fill_at place (length to - place) (λ j. get_or (fill_at 0 n f rest) j 0) to) (fill_at place n f to)
-      (length_fill_at place (length to - place) (λ j. get_or (fill_at 0 n f rest) j 0) to ∙ sym (length_fill_at place n f to)) (λ k b. same k b)
-    where
-      long : length rest ≡ length to - place
-      long = part_length place (length to - place) (length to) to (omega arith) (omega arith)
-
-      ys : ℕ → ℕ
-      ys j = get_or (fill_at 0 n f rest) j 0
-
-      inside : (j : ℕ) → place + j < length to → get_or (fill_at 0 n f rest) j 0 ≡ get_or (fill_at place n f to) (place + j) 0
-      inside j b =
-          ⊎_elim
-          (λ (h : n ≤ j). get_or_after 0 n f rest j 0 (omega arith)
-          ∙ part_at place (length to - place) (length to) to (omega arith) (omega arith) j (omega arith)
-          ∙ sym (get_or_after place n f to (place + j) 0 (omega arith)))
-          (λ (h : j < n). filled_front n f rest j h (let w = long in omega arith) ∙ sym (get_or_fill_at place n f to j 0 h b))
-          (le_or_lt n j)
-
-      same : (k : ℕ) → k < length (fill_at place (length to - place) ys to) → get_or (fill_at place (length to - place) ys to) k 0 ≡ get_or (fill_at place n f to) k 0
-      same k b =
-          let w = length_fill_at place (length to - place) ys to in
-          ⊎_elim
-          (λ (h : place ≤ k).
-          let i : place + (k - place) ≡ k = omega arith in
-          rw i at (get_or_fill_at place (length to - place) ys to (k - place) 0 (omega arith) (omega arith) ∙ inside (k - place) (omega arith)))
-          (λ (h : k < place). get_or_before place (length to - place) ys to k 0 h ∙ sym (get_or_before place n f to k 0 h))
-          (le_or_lt place k)

@@ -12,18 +12,10 @@ pub(crate) fn by_bytes(from: &[u8], at: usize, n: usize, place: usize, to: &mut 
     }
 }
 
-fn front(from: &[u8], at: usize, n: usize, to: &mut [u8])
-    requires { (at + n ≤ length from.now) × (n ≤ length to.old) }
-    ensures { to.new ≡ fill_at 0 n (λ j. get_or from.now (at + j) 0) to.old }
-{
-    to[..n].copy_from_slice(&from[at..at + n]);
-}
-
-// The n bytes that lie from one place on, to another: all the work of a member alone, whose bytes are the group frame's in their order. The place is passed by
-// before the end is asked for, since of to[place..place + n] the compiler makes two tests more, of which a fetch of one port has sixteen.
+// The n bytes that lie from one place on, to another: all the work of a member alone, whose bytes are the group frame's in their order.
 pub(crate) fn run(from: &[u8], at: usize, n: usize, place: usize, to: &mut [u8])
     requires { (at + n ≤ length from.now) × (place + n ≤ length to.old) }
     ensures { to.new ≡ fill_at place n (λ j. get_or from.now (at + j) 0) to.old }
 {
-    front(from, at, n, &mut to[place..]);
+    to[place..place + n].copy_from_slice(&from[at..at + n]);
 }

@@ -1,6 +1,6 @@
-use Rattle.std.proofs.Common.{get_or, ◌+◌}
-use Rattle.payload.proofs.Parts.{behind_filled}
+use Rattle.payload.proofs.Parts.{part_copied}
 use Rattle.payload.proofs.copy.run.Goals as goal
 
 pub returns : goal.returns
-returns c = rw c.front.ensures (behind_filled c.args.place c.args.n (λ j. get_or c.args.from.now (c.args.at + j) 0) c.args.to.now c.requires.1)
+returns c =
+    part_copied c.args.at c.args.from.now c.args.place c.args.n c.args.to.now _ c.requires.0 c.requires.1 c.copy_from_slice.ensures.after
