@@ -5,16 +5,21 @@
   none is named there, of the one in the heading. 'FILE of a, b and c' is the file of each of these crates.
 - Names with a path right behind them, '`a`, `b` and `c` of FILE' or '`a`: FILE', are declared in that file, as
   'name : ..', 'record Name (..) : ..' or the like. Where the path is a folder, in some file of it.
-- Of any other name in backticks, `crate::name` stands in that crate's src/, and a name alone stands somewhere in
-  crates/*/specs or crates/*/src. Comments do not count.
+- Of any other name in backticks, `crate::name` stands in that crate's src/, as a function where it begins small:
+  `crate::Type::name` as one of an impl or trait of that very type. In the first cell of a table's row a name alone behind
+  `crate::Type::name` is such a function too. Any other name alone stands somewhere in crates/*/specs or crates/*/src.
+  Comments do not count.
 - A link is the path of the file to which it leads, from the top.
 """
 import re
+
+from checks.contracts import closing, without_comments
 
 PARTS = r"[\s(){}\[\],;.:⌜⌝⟦⟧«»λ<>&]+"
 MARKS = r"\s*(?:(?:pub|unfoldable|abbrev|data|record) )*"
 PATH = r"(?:(?:crates|specs|must-fail)(?:/[\w-]*\w)+(?:\.(?:antt|rt))?|[A-Z]\w*(?:/\w+)+\.antt)"
 LINK = re.compile(r"\[[^\]\[]*\]\((?:\.\./)*([^()\s]*)\)")
+OWNER = re.compile(r"^[ \t]*(?:pub(?:\([^)]*\))? +)?(?:unsafe +)?(?:impl|trait)\b([^{;]*)\{", re.M)
 NAMES = r"`[\w:-]+`(?:(?:, | and |, and )`[\w:-]+`)*"
 
 
@@ -36,6 +41,26 @@ def words(folders):
     return {word for folder in folders for file in sources(folder) for line in code(file) for word in re.split(PARTS, line)}
 
 
+def typed(header):
+    """The type of an impl, or the trait itself, by what stands between the word and the brace."""
+    plain = header.replace("->", "")
+    while re.search(r"<[^<>]*>", plain):
+        plain = re.sub(r"<[^<>]*>", "", plain)
+    return re.match(r"(?:.* for )?(?:\w+::)*(\w+)", plain.strip())[1]
+
+
+def functions_in(src):
+    """The functions of a crate, as pairs of a type and a name: each with no type, and with that of its impl or trait."""
+    for file in sorted(src.rglob("*.rt")):
+        text = without_comments(file.read_text())
+        for name in re.findall(r"\bfn\s+(\w+)", text):
+            yield None, name
+        for owner in OWNER.finditer(text):
+            block = text[owner.end() - 1 : closing(text, owner.end() - 1)]
+            for name in re.findall(r"\bfn\s+(\w+)", block):
+                yield typed(owner[1]), name
+
+
 def blocks(page):
     """Each item, paragraph or row of a table in one line, with the heading above it."""
     heading, lines = "", []
@@ -55,6 +80,12 @@ class Page:
         self.crates = {p.name for p in top.glob("crates/*")}
         self.everywhere = words(p for part in ("specs", "src") for p in top.glob(f"crates/*/{part}"))
         self.count = 0
+        self.known = {}
+
+    def functions(self, crate):
+        if crate not in self.known:
+            self.known[crate] = set(functions_in(self.top / "crates" / crate / "src"))
+        return self.known[crate]
 
     def places(self, heading, text, found):
         """The crates below which a path stands."""
@@ -90,16 +121,26 @@ class Page:
                     beside.add(name)
                     if not declares(place, name):
                         yield f"{name} is not declared in {found[0]}"
-        for name in re.findall(r"`([\w:-]+)`", text):
+        first = text[: text.find(" |", 1)] if text.startswith("| ") else ""
+        behind = None
+        for found in re.finditer(r"`([\w:-]+)`", text):
             self.count += 1
+            name = found[1]
             if name in beside:
                 continue
-            crate, _, last = name.rpartition("::")
-            crate = crate.split("::")[0]
+            path, _, last = name.rpartition("::")
+            crate, _, inner = path.partition("::")
+            owner = inner.rpartition("::")[2]
             if crate and last not in words([self.top / "crates" / crate / "src"]):
                 yield f"{name} is not in the code of crates/{crate}"
+            elif crate and last[0].islower() and (owner if owner[:1].isupper() else None, last) not in self.functions(crate):
+                yield f"{name} is no function of crates/{crate}"
+            elif not crate and found.end() <= len(first) and behind and (behind[1], name) not in self.functions(behind[0]):
+                yield f"{name} is no function of {behind[1]} in crates/{behind[0]}"
             elif not crate and name not in self.everywhere:
                 yield f"{name} is in no crate"
+            if crate:
+                behind = (crate, owner) if owner[:1].isupper() else None
 
 
 def named(top, name):

@@ -3,6 +3,7 @@ FILES = {
     "crates/one/specs/Theorems/Laws.antt": "pub first : ℕ\nfirst = 1\n  pub inner (n : ℕ) :\n    n ≡ n\npub record Said (n : ℕ) : Type 0 where\n-- gone : ℕ\n",
     "crates/one/specs/Table.antt": "unfoldable pub table_of : ℕ → ℕ\ntable_of n = first\n",
     "crates/one/src/lib.rt": "pub fn call(x: u8) -> u8\n    ensures { result ≡ table_of x }\n{\n    x // not kept\n}\n",
+    "crates/one/src/kinds.rt": "pub struct Kind;\nimpl Kind {\n    pub fn number(self) -> u8 {\n        1\n    }\n    fn twice(self) -> u8 {\n        2\n    }\n}\nimpl<T> two::Other for Pair<T> {\n    fn word(self) {}\n}\n",
     "crates/one/must-fail/wrong.edit": "",
     "crates/two/specs/Theorems/Laws.antt": "pub second : ℕ\n",
     "crates/two/src/lib.rt": "pub fn other() {}\n",
@@ -37,6 +38,14 @@ TEXTS = [
     ("a crate named in another item", "## two\n\n- crates/one/specs/Table.antt\n- `first` of Theorems/Laws.antt", "first is not declared in"),
     ("a definition that is in no crate", "the answer is `row_of`", "row_of is in no crate"),
     ("a call that its crate lacks", "- `two::call`: it", "two::call is not in the code of crates/two"),
+    ("a function of a type", "- `one::Kind::number`: it", ""),
+    ("a function that a trait gives a type", "- `one::Pair::word`: it", ""),
+    ("a function of another type", "- `one::Pair::number`: it", "one::Pair::number is no function of crates/one"),
+    ("a function of a type that is gone", "- `one::Answer::number`: it", "one::Answer::number is no function of crates/one"),
+    ("a function of no type as one of a type", "- `one::Kind::call`: it", "one::Kind::call is no function of crates/one"),
+    ("a name of the code that is no function", "- `one::x`: it", "one::x is no function of crates/one"),
+    ("names behind a type's function in a row", "| `one::Kind::number`, `twice` | `table_of` |", ""),
+    ("another type's function behind one in a row", "| `one::Kind::number`, `word` | `table_of` |", "word is no function of Kind in crates/one"),
     ("a page that names nothing", "words", "names nothing"),
 ]
 
