@@ -44,13 +44,13 @@ def words(folders):
 def typed(header):
     """The type of an impl, or the trait itself, by what stands between the word and the brace."""
     plain = header.replace("->", "")
-    while "<" in plain and re.search(r"<[^<>]*>", plain):
+    while re.search(r"<[^<>]*>", plain):
         plain = re.sub(r"<[^<>]*>", "", plain)
     return re.match(r"(?:.* for )?(?:\w+::)*(\w+)", plain.strip())[1]
 
 
 def functions_in(src):
-    """The functions of a crate: pairs of the type, in whose impl or trait it stands, and the name; with no type for each."""
+    """The functions of a crate, as pairs of a type and a name: each with no type, and with that of its impl or trait."""
     for file in sorted(src.rglob("*.rt")):
         text = without_comments(file.read_text())
         for name in re.findall(r"\bfn\s+(\w+)", text):
