@@ -19,10 +19,21 @@ pub fn put(text: &[u8], out: &mut [u8], at: usize) -> usize
 }
 
 // A byte in decimal and the mark behind it.
+#[tactic(auto, unfolding(crate::specs::Output::decimal_text))]
 pub fn put_number(n: u8, mark: u8, out: &mut [u8], at: usize) -> usize
     ensures { (result ≡ put_next (ended (decimal_text n) mark) at out.old) × (out.new ≡ put_bytes (ended (decimal_text n) mark) at out.old) }
 {
-    put_decimal(u64::from(n), mark, out, at)
+    if n < 10 {
+        return put(&[48 + n, mark], out, at);
+    }
+    if n < 100 {
+        return put(&[48 + n / 10, 48 + n % 10, mark], out, at);
+    }
+    put(
+        &[48 + n / 100, 48 + n / 10 % 10, 48 + n % 10, mark],
+        out,
+        at,
+    )
 }
 
 // The digits of a number, put before the last byte; and where they begin.
