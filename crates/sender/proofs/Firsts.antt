@@ -1,7 +1,8 @@
 -- Some, how many and which of the first n of a list: what a chain of iterators over `&xs[..n]` gives is what the definitions have.
-use Rattle.std.specs.Prelude.{◌≡◌, refl, Bool, true, false, cond, not, ◌&&◌, List, Option, Some, None, ℕ, zero, suc, ◌+◌, ◌≤◌, ◌<◌, ltb, length, get_or, take, count_by, position}
+use Rattle.std.specs.Prelude.{◌≡◌, refl, Bool, true, false, cond, not, ◌&&◌, ◌||◌, List, Option, Some, None, ℕ, zero, suc, ◌+◌, ◌≤◌, ◌<◌, ltb, length, get_or, take, count_by, position}
 use Rattle.std.specs.List.{list_any, position_or_len, zip}
-use Rattle.std.proofs.Common.{◌++◌, map, drop, set, subst, sym, ap, ◌∙◌, add-one, arith, length-take, ltb-true}
+use Rattle.std.proofs.Common.{◌++◌, map, drop, set, subst, sym, ap, ◌∙◌, add-one, arith, length-take, le-ltb, lt-ltb, ltb-true}
+use Rattle.std.proofs.Math.Seq.{take-length}
 use Rattle.std.proofs.lemmas.Bool.{ltb-false}
 use Rattle.std.proofs.lemmas.List.{get_or-take, get_or_default, length-take-le, take_all}
 use Rattle.std.proofs.lemmas.List.Edits.{map_over_more}
@@ -11,7 +12,7 @@ use Rattle.ground.specs.Counting.Each.{Done, done_none, done_more, done_next, do
 use Rattle.ground.specs.Counting.Laws.Chains.{any_first, count_first}
 use Rattle.ground.specs.Counting.Laws.Numbers.{count_ext}
 use Rattle.ground.specs.Counting.Laws.Tests.{some_ext}
-use Rattle.ground.specs.Counting.Words.{count, some}
+use Rattle.ground.specs.Counting.Words.{count, greatest, some}
 use Rattle.sender.specs.declared.board.Row.{Row}
 use Rattle.sender.specs.declared.table.Slot.{Slot}
 use Rattle.sender.specs.declared.table.State.TheVariants.{Idle}
@@ -46,6 +47,33 @@ module _ (slots : List Slot) {n : ℕ} (h : n ≤ length slots) where
   pub fallen_first : (q : ℕ) {r : List Slot} → r ≡ map (λ s. fallen q s) (take n slots) → r ++ drop n slots ≡ fallen_in slots n q
   unfolding fallen_in
   fallen_first q e = ap (λ (l : List Slot). l ++ drop n slots) e ∙ done_all (written (λ s. fallen q s) slots _ n h) refl
+
+-- some number at which f holds has a higher m exactly if the greatest is higher
+above_greatest : (n : ℕ) (f : ℕ → Bool) (m : ℕ → ℕ) (q : ℕ) → some n (λ j. f j && ltb q (m j)) ≡ ltb q (greatest n f m)
+above_greatest zero f m q = sym (le-ltb q 0 (omega arith))
+above_greatest (suc n) f m q = ap (λ b. b || (f n && ltb q (m n))) (above_greatest n f m q) ∙ step (f n) (greatest n f m) (m n)
+  where
+    alone : (a : Bool) → (a || false) ≡ a
+    alone true = refl
+    alone false = refl
+
+    next : (g x : ℕ) (c : Bool) → ltb g x ≡ c → (a : Bool) → ltb q g ≡ a → (d : Bool) → ltb q x ≡ d → (a || d) ≡ ltb q (cond c x g)
+    next g x true e true h d k = let u = ltb-true g x e in let v = ltb-true q g h in sym (lt-ltb q x (omega arith))
+    next g x true e false h d k = sym k
+    next g x false e true h d k = sym h
+    next g x false e false h true k = let u = ltb-false g x e in let v = ltb-true q x k in sym (lt-ltb q g (omega arith))
+    next g x false e false h false k = sym h
+
+    step : (b : Bool) (g x : ℕ) → (ltb q g || (b && ltb q x)) ≡ ltb q (cond (b && ltb g x) x g)
+    step true g x = next g x (ltb g x) refl (ltb q g) refl (ltb q x) refl
+    step false g x = alone (ltb q g)
+
+-- and so for the active ones among slots
+pub above_top : (slots : List Slot) (q top : ℕ) → top ≡ greatest (length slots) (λ j. is_active (slot_at slots j).state) (λ j. (slot_at slots j).number)
+    → list_any (λ s. is_active s.state && ltb q s.number) slots ≡ ltb q top
+above_top slots q top e =
+    rw take-length at (any_first (λ s. is_active s.state && ltb q s.number) slots (record { state = Idle; number = 0 }) (length slots) (omega arith))
+    ∙ above_greatest (length slots) (λ j. is_active (slot_at slots j).state) (λ j. (slot_at slots j).number) q ∙ ap (ltb q) (sym e)
 
 module _ (rows : List Row) {n : ℕ} (h : n ≤ length rows) where
   pub carriers_first : {r : ℕ} → r ≡ count_by (λ r. carries r) (take n rows) → r ≡ carriers_in rows n
