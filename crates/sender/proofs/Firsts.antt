@@ -19,7 +19,7 @@ use Rattle.sender.specs.declared.table.State.TheVariants.{Idle}
 use Rattle.sender.specs.Board.{highest}
 use Rattle.sender.specs.Commands.{fallen, fallen_in}
 use Rattle.sender.specs.Laws.Finding.{holder_here, holder_nowhere}
-use Rattle.sender.specs.Ranks.{carries, carriers_in, rank_of, rank_under}
+use Rattle.sender.specs.Ranks.{carries, carriers_in, rank_of, rank_under, row_at}
 use Rattle.sender.specs.Reports.{comes_before, number_after, opens_wait}
 use Rattle.sender.specs.Table.{holder_of, holds, is_active, is_add, is_member, members_of, slot_at}
 
@@ -74,6 +74,18 @@ pub above_top : (slots : List Slot) (q top : ℕ) → top ≡ greatest (length s
 above_top slots q top e =
     rw take-length at (any_first (λ s. is_active s.state && ltb q s.number) slots (record { state = Idle; number = 0 }) (length slots) (omega arith))
     ∙ above_greatest (length slots) (λ j. is_active (slot_at slots j).state) (λ j. (slot_at slots j).number) q ∙ ap (ltb q) (sym e)
+
+module _ (rows : List Row) where
+  whole_count : (test : Row → Bool) → count (length rows) (λ j. test (row_at rows j)) ≡ count_by test rows
+  whole_count test = sym (rw take-length at (count_first test rows (record { word = record { 0 = 0 }; number = 0 }) (length rows) (omega arith)))
+
+  pub carriers_whole : {r : ℕ} → r ≡ carriers_in rows (length rows) → r ≡ count_by (λ r. carries r) rows
+  unfolding carriers_in
+  carriers_whole e = e ∙ whole_count (λ r. carries r)
+
+  pub rank_whole : (q : ℕ) {r : ℕ} → r ≡ rank_of rows (length rows) q → r ≡ count_by (λ r. rank_under r q) rows
+  unfolding rank_of
+  rank_whole q e = e ∙ whole_count (λ r. rank_under r q)
 
 module _ (rows : List Row) {n : ℕ} (h : n ≤ length rows) where
   pub carriers_first : {r : ℕ} → r ≡ count_by (λ r. carries r) (take n rows) → r ≡ carriers_in rows n
