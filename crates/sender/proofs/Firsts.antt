@@ -1,7 +1,7 @@
 -- Some, how many and which of the first n of a list: what a chain of iterators over `&xs[..n]` gives is what the definitions have.
 use Rattle.std.specs.Prelude.{◌≡◌, refl, Bool, true, false, cond, not, ◌&&◌, ◌||◌, List, Option, Some, None, ℕ, zero, suc, ◌+◌, ◌≤◌, ◌<◌, ltb, length, get_or, take, count_by, position}
 use Rattle.std.specs.List.{list_any, position_or_len, zip}
-use Rattle.std.proofs.Common.{◌++◌, map, drop, set, subst, sym, ap, ◌∙◌, add-one, arith, length-take, le-ltb, lt-ltb, ltb-true}
+use Rattle.std.proofs.Common.{◌++◌, map, drop, set, subst, sym, ap, ◌∙◌, add-one, arith, length-take, le-ltb, lt-ltb, ltb-true, min}
 use Rattle.std.proofs.Math.Seq.{take-length}
 use Rattle.std.proofs.lemmas.Bool.{ltb-false}
 use Rattle.std.proofs.lemmas.List.{get_or-take, get_or_default, length-take-le, take_all}
@@ -131,6 +131,22 @@ module _ {X : Type 0} (f : X → X → Bool) (xs ys : List X) (d : X) (n : ℕ) 
   some_pairs =
       sym (ap (λ (l : List (X × X)). list_any test l) whole) ∙ any_first test pairs (d, d) n (omega (arith, pairs_length))
       ∙ some_ext n _ _ tested
+
+-- two whole lists side by side
+module _ {X : Type 0} (f : X → X → Bool) (xs ys : List X) (d : X) where
+  both_at : (k : ℕ) → k < length (zip xs ys) → get_or (zip xs ys) k (d, d) ≡ (get_or xs k d, get_or ys k d)
+  both_at k h = get_or-zip xs ys k (d, d) (omega (arith, length-zip xs ys)) (omega (arith, length-zip xs ys))
+
+  whole_pairs : count_by (λ p. f p.0 p.1) (zip xs ys) ≡ count (min (length xs) (length ys)) (λ i. f (get_or xs i d) (get_or ys i d))
+  whole_pairs =
+      rw take-length at (count_first (λ (p : X × X). f p.0 p.1) (zip xs ys) (d, d) (length (zip xs ys)) (omega arith))
+      ∙ count_ext (length (zip xs ys)) _ _ (λ k h. ap (λ (p : X × X). f p.0 p.1) (both_at k h))
+      ∙ ap (λ (m : ℕ). count m (λ i. f (get_or xs i d) (get_or ys i d))) (length-zip xs ys)
+
+pub number_whole : (was is : List Slot) (q turn : ℕ) {r : ℕ} → r ≡ number_after was is (min (length was) (length is)) q turn
+    → r ≡ count_by (λ p. comes_before p.0 p.1 q turn) (zip was is)
+unfolding number_after
+number_whole was is q turn e = e ∙ sym (whole_pairs (λ (s r : Slot). comes_before s r q turn) was is (record { state = Idle; number = 0 }))
 
 module _ (was is : List Slot) {n : ℕ} (a : n ≤ length was) (b : n ≤ length is) where
   pub opens_first : {r : Bool} → r ≡ list_any (λ p. is_add p.0.state && is_active p.1.state) (zip (take n was) (take n is)) → r ≡ opens_wait was is n
