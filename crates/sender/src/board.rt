@@ -1,9 +1,9 @@
 // The board: the word and number of each slot and the wait, from one table, whole.
-ghost use Rattle.std.specs.Prelude.{◌≡◌, ◌≤◌, ◌<◌, ◌&&◌};
+ghost use Rattle.std.specs.Prelude.{◌≡◌, ◌≤◌, ◌<◌, ◌&&◌, ℕ, not, if◌then◌else◌};
 ghost use Rattle.std.specs.List.{list_any};
 ghost use Rattle.ground.specs.Plain.{◌<?◌};
 ghost use Rattle.sender.specs.Table.{is_active};
-ghost use Rattle.sender.specs.Board.{board_of, no_row, row_of, rows_of, word_of};
+ghost use Rattle.sender.specs.Board.{board_of, highest, no_row, row_of, rows_of, word_of};
 
 use crate::table;
 use crate::table::{Slot, State, Table};
@@ -22,11 +22,25 @@ pub struct Board {
     pub wait: bool,
 }
 
-// Some active slot has a higher number.
-fn has_higher(slots: &[Slot], number: u8) -> bool
-    ensures { result ≡ list_any (λ s. is_active s.state && number <? s.number) slots.now }
+fn higher_of(top: u8, slot: Slot) -> u8
+    ensures { result ≡ (if is_active slot.state && top <? slot.number then slot.number else top) }
 {
-    slots.iter().any(|slot| table::is_active(slot.state) && number < slot.number)
+    if table::is_active(slot.state) & (top < slot.number) {
+        slot.number
+    } else {
+        top
+    }
+}
+
+// The highest number of an active slot, 0 where none is active: one walk, where a walk for each row would take 64.
+fn top_of(slots: &[Slot]) -> u8
+    ensures { (number : ℕ) → list_any (λ s. is_active s.state && number <? s.number) slots.now ≡ (number <? result) }
+{
+    let mut top = 0;
+    for slot in slots {
+        top = higher_of(top, *slot);
+    }
+    top
 }
 
 fn word_of(state: State, last: bool) -> Word
@@ -40,12 +54,12 @@ fn word_of(state: State, last: bool) -> Word
     }
 }
 
-fn row_of(slots: [Slot; 64], n: usize, i: usize) -> Row
-    requires { (n ≤ 64) × (i < 64) }
+fn row_of(slots: [Slot; 64], n: usize, top: u8, i: usize) -> Row
+    requires { (n ≤ 64) × (i < 64) × ((number : ℕ) → not (number <? top) ≡ highest slots n number) }
     ensures { result ≡ row_of slots n i }
 {
     let slot = slots[i];
-    let last = !has_higher(&slots[..n], slot.number);
+    let last = !(slot.number < top);
     Row {
         word: word_of(slot.state, last),
         number: slot.number,
@@ -65,9 +79,10 @@ fn rows_of(slots: [Slot; 64], n: usize, kind: u8) -> [Row; 64]
     requires { n ≤ 64 }
     ensures { result ≡ rows_of slots n kind }
 {
+    let top = top_of(&slots[..n]);
     let mut rows = [no_row(kind); 64];
     for i in 0..n {
-        rows[i] = row_of(slots, n, i);
+        rows[i] = row_of(slots, n, top, i);
     }
     rows
 }
