@@ -1,5 +1,5 @@
 // Two circuits on one card for C. The whole state is a lent buffer: the owner row, then a sender's state for each group. A call reads and writes the owner row and its group's own part.
-ghost use Rattle.std.specs.Prelude.{◌≡◌, true, ◌<◌, length, if◌then◌else◌, ◌==◌};
+ghost use Rattle.std.specs.Prelude.{◌≡◌, true, ◌<◌, length};
 ghost use Rattle.ground.specs.Refusals.{number_told};
 ghost use Rattle.cards.specs.Answers.{refusal_number};
 ghost use Rattle.cards.specs.Calls.Call.{Claim, Release, AddSlot, RemoveSlot, Report, Lapse, StartEpoch};
@@ -60,7 +60,7 @@ pub(crate) fn part_in(state: &[u8], group: u32) -> Sender
 }
 
 // The card as one group may know it: its own sender stands in the other's place too, so that the other's part is not read.
-// Inlined, as the other three: a card handed on lies on the stack twice, and a call would take 8,538 bytes of it.
+// Inlined, as `keep`: a card handed on lies on the stack twice.
 #[inline(always)]
 pub(crate) fn own_card(state: &[u8], group: u32) -> Card
     requires { length state.now ≡ card_bytes }
@@ -75,10 +75,9 @@ pub(crate) fn own_card(state: &[u8], group: u32) -> Card
     }
 }
 
-#[inline(always)]
-fn put_part(sender: Sender, group: u32, state: &mut [u8])
+fn put_part(sender: &Sender, group: u32, state: &mut [u8])
     requires { length state.old ≡ card_bytes }
-    ensures { state.new ≡ fill_at (part_at group) state_bytes (byte_at sender) state.old }
+    ensures { state.new ≡ fill_at (part_at group) state_bytes (byte_at sender.now) state.old }
 {
     if group == 0 {
         keeping::put_sender(sender, &mut state[FIRST_PART..SECOND_PART]);
@@ -87,21 +86,19 @@ fn put_part(sender: Sender, group: u32, state: &mut [u8])
     keeping::put_sender(sender, &mut state[SECOND_PART..CARD_BYTES]);
 }
 
-// Behind a reference, so that no call lays a second card on the stack.
-fn sender_in(card: &Card, group: u32) -> Sender
-    ensures { result ≡ (if group == 0 then card.now.first else card.now.second) }
-{
-    if group == 0 { card.first } else { card.second }
-}
-
-#[inline(always)]
-pub(crate) fn put_own(card: Card, group: u32, state: &mut [u8])
+// Behind a reference, and a call of its own, as is `keeping::put_sender`: no second card lies on the stack, and no call has the writing of a card's
+// fields by itself. A sender picked out by value would be laid down there byte by byte.
+#[inline(never)]
+pub(crate) fn put_own(card: &Card, group: u32, state: &mut [u8])
     requires { length state.old ≡ card_bytes }
-    ensures { state.new ≡ put_own group card state.old }
+    ensures { state.new ≡ put_own group card.now state.old }
 {
-    let sender = sender_in(&card, group);
     keeping::put_bytes(&card.owners, 0, state);
-    put_part(sender, group, state);
+    if group == 0 {
+        put_part(&card.first, group, state);
+        return;
+    }
+    put_part(&card.second, group, state);
 }
 
 // What a call leaves: the owner row and the group's part, and under a refusal the bytes as they were.
@@ -112,16 +109,16 @@ pub(crate) fn keep(answer: Result<Card, cards::Refusal>, group: u32, state: &mut
 {
     match answer {
         Ok(card) => {
-            put_own(card, group, state);
+            put_own(&card, group, state);
             0
         }
         Err(refusal) => refusal.number(),
     }
 }
 
-fn put_whole(card: Card, state: &mut [u8])
+fn put_whole(card: &Card, state: &mut [u8])
     requires { length state.old ≡ card_bytes }
-    ensures { state.new ≡ put_card card state.old }
+    ensures { state.new ≡ put_card card.now state.old }
 {
     put_own(card, 0, state);
     put_own(card, 1, state);
@@ -147,7 +144,7 @@ fn start_by(kind: u32, count: u32, first_epoch_0: u32, first_epoch_1: u32, state
         };
     }
     if senders::is_no_start(kind, count) {
-        put_whole(Card::empty(kinds::H4, 0, 0), state);
+        put_whole(&Card::empty(kinds::H4, 0, 0), state);
         return 4;
     }
     if !are_epochs(kind as u8, first_epoch_0, first_epoch_1) {
@@ -155,7 +152,7 @@ fn start_by(kind: u32, count: u32, first_epoch_0: u32, first_epoch_1: u32, state
     }
     match Card::start(kind as u8, count, first_epoch_0 as u8, first_epoch_1 as u8) {
         Ok(card) => {
-            put_whole(card, state);
+            put_whole(&card, state);
             0
         }
         Err(refusal) => refusal.number(),

@@ -27,9 +27,11 @@ pub(crate) fn put_bytes(from: &[u8], at: usize, out: &mut [u8])
     sharing::put_bytes(from, at, out);
 }
 
-pub(crate) fn put_sender(sender: Sender, state: &mut [u8])
+// Never inlined: its code would stand in the calls for each group.
+#[inline(never)]
+pub(crate) fn put_sender(sender: &Sender, state: &mut [u8])
     requires { length state.old ≡ state_bytes }
-    ensures { state.new ≡ bytes_of sender }
+    ensures { state.new ≡ bytes_of sender.now }
 {
-    sharing::put_sender(sender, state);
+    sharing::put_sender(*sender, state);
 }
