@@ -98,10 +98,15 @@ fn put_ports(kind: u8, hold_off: &[u32], restore: &[u32], ports: u8, state: &mut
     }
 }
 
+// Each is looked at, also behind one that is too long: so several are compared at once.
 pub fn times_within(counts: &[u32]) -> bool
     ensures { result ≡ times_within counts.now }
 {
-    counts.iter().all(|&count| count <= TIMER_MOST)
+    let mut all = true;
+    for count in counts {
+        all &= *count <= TIMER_MOST;
+    }
+    all
 }
 
 fn is_list(counts: usize, ports: u8) -> bool

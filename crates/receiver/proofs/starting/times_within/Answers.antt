@@ -1,12 +1,16 @@
--- Each count of the list is small enough just where each of its places is.
-use Rattle.std.proofs.Common.{rules, get_or, ◌≤◌, ◌↔◌, EachIndex, IsTrue, le-leb, leb-true}
-use Rattle.ground.specs.Truth.{same_test}
-use Rattle.ground.specs.Counting.Laws.Tests.{every_at, every_all}
+use Rattle.std.proofs.Common.{◌≡◌, refl, add-one, arith}
+use Rattle.std.specs.Prelude.{length}
 use Rattle.receiver.specs.Starting.{times_within}
 use Rattle.receiver.proofs.starting.times_within.Goals as goal
+
+pub loop-count-init : goal.loop-count-init
+loop-count-init c = refl
+
+pub loop-count-preserved : goal.loop-count-preserved
+loop-count-preserved c = rw (c.loop-count.invariant, add-one)
 
 pub returns : goal.returns
 unfolding times_within
 returns c =
-    let each : IsTrue c.all.result ↔ EachIndex c.args.counts.now (λ k. get_or c.args.counts.now k 0 ≤ 5000) = search rules in
-    same_test _ _ (λ e. every_all _ _ (λ k b. le-leb _ _ (each.0 e k b))) (λ e. each.1 (λ k b. leb-true _ _ (every_at _ _ e k b)))
+    let e : c.loop-count.count-index ≡ length c.args.counts.now = omega arith in
+    rw e at c.loop-count.invariant
