@@ -306,6 +306,6 @@ int main(void)
         within &= used > 0 && used <= groups[i].limit;
     }
     check("every call was done, and epochs of 64 members were reported", answers == 0 && reported > 14);
-    check("no call takes more than 7,680 bytes of stack, mending no more than 8,192, a replay no more than 10,240", within);
+    check("no call takes more than 7,680 bytes of stack, mending no more than 8,192, a replay that reads lines no more than 10,240", within);
     return tally();
 }
